@@ -1,0 +1,5 @@
+pub mod Round
+pub mod Lists
+pub mod Search
+pub mod Chain
+pub mod Signed

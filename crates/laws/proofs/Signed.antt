@@ -1,0 +1,109 @@
+-- Laws of signed differences and of the largest of them, in the order: the order of ℤ, the larger of two, the largest of many, differences,
+-- and what the machine's 64 bits keep of them. Assumes nothing.
+use mathlib.Core.Path.{_≡_, refl, sym, ap, _∙_, subst}
+use mathlib.Core.Bool.{Bool, true, false, cond}
+use mathlib.Core.Logic.{_⊎_, inl, inr, ⊎-elim}
+use Prim.Native.Nat.{ℕ, zero, suc, _+_, _-_, _*_, _^_, _≤_, _<_}
+use native.Mathlib.Nat.{le-refl, eq-or-lt-of-le, zero-mul}
+use native.Mathlib.Numerals.{add-one}
+use native.Mathlib.Omega.{arith}
+use borrow.Author.Tests.{ltb-true, ltb-false}
+use lib.Dec.{T, ltb, leb, le→leb, leb→le, ltb→lt, lt→ltb}
+use lib.IntN.{ℤ, pos, negsuc, natAbs, _-ℤ_}
+use lib.Signed.{mag, ltZ, leZ, nonNeg, _≤ℤ_, ≤ℤ-refl, pos-natAbs}
+use mir.Syntax.{w64}
+use mir.Val.{toZ, ofZ, SFits}
+use mir.Facts.{toZ-ofZ, toZ-pos}
+use Rattle.laws.specs.Signed.{maxZ, largestTo}
+
+-- ---- the order, as a test
+pub le-trans-Z : (a b c : ℤ) → T (leZ a b) → T (leZ b c) → T (leZ a c)
+le-trans-Z (pos a) (pos b) (pos c) h k = le→leb a c (omega (arith, leb→le a b h, leb→le b c k))
+le-trans-Z (pos a) (pos b) (negsuc c) h k = k
+le-trans-Z (pos a) (negsuc b) c h k = absurd h
+le-trans-Z (negsuc a) (pos b) (pos c) h k = tt
+le-trans-Z (negsuc a) (pos b) (negsuc c) h k = absurd k
+le-trans-Z (negsuc a) (negsuc b) (pos c) h k = tt
+le-trans-Z (negsuc a) (negsuc b) (negsuc c) h k = le→leb c a (omega (arith, leb→le b a h, leb→le c b k))
+
+lt-le : (a b : ℤ) → ltZ a b ≡ true → T (leZ a b)
+lt-le (pos a) (pos b) h = le→leb a b (omega (arith, ltb-true a b h))
+lt-le (pos a) (negsuc b) h = absurd (subst T (sym h) tt)
+lt-le (negsuc a) (pos b) h = tt
+lt-le (negsuc a) (negsuc b) h = le→leb b a (omega (arith, ltb-true b a h))
+
+not-lt : (a b : ℤ) → ltZ a b ≡ false → T (leZ b a)
+not-lt (pos a) (pos b) h = le→leb b a (ltb-false a b h)
+not-lt (pos a) (negsuc b) h = tt
+not-lt (negsuc a) (pos b) h = absurd (subst T h tt)
+not-lt (negsuc a) (negsuc b) h = le→leb a b (ltb-false b a h)
+
+-- ---- the larger of two is at least each, and is one of them
+larger : (a b : ℤ) → T (leZ a (maxZ a b)) × T (leZ b (maxZ a b)) × ((maxZ a b ≡ a) ⊎ (maxZ a b ≡ b))
+larger a b = go (ltZ a b) refl
+  where
+    go : (t : Bool) → ltZ a b ≡ t → T (leZ a (cond t b a)) × T (leZ b (cond t b a)) × ((cond t b a ≡ a) ⊎ (cond t b a ≡ b))
+    go true e = (lt-le a b e, ≤ℤ-refl b .le, inr refl)
+    go false e = (≤ℤ-refl a .le, not-lt a b e, inl refl)
+
+-- ---- the largest of f 0 .. f n is at least each, is one of them, and grows by one more
+pub largest-ge : (f : ℕ → ℤ) (n q : ℕ) → q ≤ n → T (leZ (f q) (largestTo f n))
+unfolding largestTo
+largest-ge f zero q h = let e : q ≡ 0 = omega arith in rw e (≤ℤ-refl (f 0) .le)
+largest-ge f (suc n) q h =
+    ⊎-elim (λ (e : q ≡ suc n). rw e (larger (largestTo f n) (f (suc n)) .1))
+    (λ l. le-trans-Z (f q) (largestTo f n) (maxZ (largestTo f n) (f (suc n))) (largest-ge f n q (omega arith)) (larger (largestTo f n) (f (suc n)) .0))
+    (eq-or-lt-of-le h)
+
+pub largest-is : (f : ℕ → ℤ) (n : ℕ) → (q : ℕ) × (q ≤ n) × (largestTo f n ≡ f q)
+unfolding largestTo
+largest-is f zero = (0, le-refl 0, refl)
+largest-is f (suc n) =
+    let (q, h, e) = largest-is f n in
+    ⊎-elim (λ d. (q, omega arith, d ∙ e)) (λ d. (suc n, le-refl (suc n), d)) (larger (largestTo f n) (f (suc n)) .2)
+
+pub largest-start : (f : ℕ → ℤ) → largestTo f 0 ≡ f 0
+unfolding largestTo
+largest-start f = refl
+
+pub largest-more : (f : ℕ → ℤ) (q : ℕ) → maxZ (largestTo f q) (f (q + 1)) ≡ largestTo f (q + 1)
+unfolding largestTo
+largest-more f q = rw add-one refl
+
+-- ---- what is at least a positive number is a positive number
+pub above-pos : (a : ℕ) (z : ℤ) → 1 ≤ a → T (leZ (pos a) z) → T (nonNeg z) × (1 ≤ natAbs z)
+above-pos a (pos b) h k = (tt, omega (arith, leb→le a b k))
+above-pos a (negsuc b) h k = absurd k
+
+-- ---- differences: a difference of two numbers below h is of a size below h
+mag-sub : (h a b : ℕ) (t : Bool) → a < h → b < h → mag (cond t (negsuc (b - suc a)) (pos (a - b))) < h
+mag-sub h a b true p q = omega arith
+mag-sub h a b false p q = omega arith
+
+diff-mag : (h a b : ℕ) → a < h → b < h → mag (pos a -ℤ pos b) < h
+diff-mag h a zero p q = omega arith
+diff-mag h a (suc b) p q = mag-sub h a (suc b) (ltb a (suc b)) p q
+
+-- ---- two casts to 64 signed bits, and their difference
+module _ (a b : ℕ) (p : a < 2 ^ 63) (q : b < 2 ^ 63) where
+  exact : SFits w64 (pos a -ℤ pos b)
+  exact = record { sfits = diff-mag (2 ^ 63) a b p q }
+
+  pub diff-is : toZ w64 (ofZ w64 (toZ w64 a -ℤ toZ w64 b)) ≡ pos a -ℤ pos b
+  diff-is = rw (toZ-pos w64 p, toZ-pos w64 q) (toZ-ofZ exact)
+
+  pub diff-fits : SFits w64 (toZ w64 a -ℤ toZ w64 b)
+  diff-fits = rw (toZ-pos w64 p, toZ-pos w64 q) exact
+
+-- the larger of two, as a branch of the code finds it
+module _ (a b : ℤ) (fa : SFits w64 a) (fb : SFits w64 b) where
+  seen : (t : Bool) → ltZ (toZ w64 (ofZ w64 a)) (toZ w64 (ofZ w64 b)) ≡ t → cond t b a ≡ maxZ a b
+  seen t e =
+      let same : ltZ (toZ w64 (ofZ w64 a)) (toZ w64 (ofZ w64 b)) ≡ ltZ a b = rw (toZ-ofZ fa, toZ-ofZ fb) refl in
+      ap (λ t. cond t b a) (sym e ∙ same)
+
+  pub larger-yes : ltZ (toZ w64 (ofZ w64 a)) (toZ w64 (ofZ w64 b)) ≡ true → toZ w64 (ofZ w64 b) ≡ maxZ a b
+  larger-yes e = toZ-ofZ fb ∙ seen true e
+
+  pub larger-no : ltZ (toZ w64 (ofZ w64 a)) (toZ w64 (ofZ w64 b)) ≡ false → toZ w64 (ofZ w64 a) ≡ maxZ a b
+  larger-no e = toZ-ofZ fa ∙ seen false e

@@ -1,0 +1,28 @@
+-- Rounding up, and sums, largest values and choices over a list.
+use mathlib.Core.Bool.{Bool, cond}
+use mathlib.Core.List.{List, [], _∷_, _++_}
+use Prim.Native.Nat.{ℕ, zero, suc, _+_, _-_, _/_, max}
+
+-- ceil(x / n)
+abbrev pub ceil : ℕ → ℕ → ℕ
+ceil x n = (x + (n - 1)) / n
+
+-- the sum of f over a list
+unfoldable pub sumOf : {A : Type 0} → (A → ℕ) → List A → ℕ
+sumOf f [] = 0
+sumOf f (x ∷ xs) = f x + sumOf f xs
+
+-- the largest f over a list, or 0 if the list is empty
+unfoldable pub largestOf : {A : Type 0} → (A → ℕ) → List A → ℕ
+largestOf f [] = 0
+largestOf f (x ∷ xs) = max (f x) (largestOf f xs)
+
+-- those of a list that pass a test, in order
+unfoldable pub those : {A : Type 0} → (A → Bool) → List A → List A
+those t [] = []
+those t (x ∷ xs) = cond (t x) (x ∷ those t xs) (those t xs)
+
+-- f 0, f 1, .., f (n - 1)
+unfoldable pub rows : {A : Type 0} → ℕ → (ℕ → A) → List A
+rows zero f = []
+rows (suc n) f = rows n f ++ (f n ∷ [])

@@ -1,0 +1,28 @@
+-- The limits of document 01, each under one name; `src/lib.rt` has the same numbers for the code.
+use Prim.Native.Nat.{ℕ}
+
+-- n is 1 to 64 streams, m is 0 to 8 noise sources
+abbrev pub streams : ℕ
+streams = 64
+
+abbrev pub sources : ℕ
+sources = 8
+
+-- a tournament has 1 to 128 contenders
+abbrev pub contenders : ℕ
+contenders = 128
+
+-- F, E, TFCS, SWX, H, G, ETG, LAG are 0 to 65,535; a payload is 1 to 65,535
+abbrev pub constant : ℕ
+constant = 65535
+
+abbrev pub payload : ℕ
+payload = 65535
+
+-- NB is 1 to 32
+abbrev pub bits : ℕ
+bits = 32
+
+-- "none" exactly if no busy period is at most 4,294,967,295; a period, a jitter, a deadline and a gap are at most that, too
+abbrev pub ticks : ℕ
+ticks = 4294967295

@@ -1,0 +1,37 @@
+// The crew's words, and the limits of document 01, each once.
+//
+// A priority decides a tournament, a row is a place in the plan (from 0), a label is what is painted on
+// the node. Each is a struct of one number, so the build refuses one where another is wanted.
+// There is no function here, nothing is assumed, and this crate knows of no other.
+
+// A smaller priority is the more urgent one: bit 0 is dominant.
+pub struct Priority(pub u32);
+
+// A place in a plan or a tournament, counted from 0.
+pub struct Row(pub usize);
+
+// group * 65,536 + number, painted on the node as group.number.
+pub struct Label(pub u32);
+
+// Why the answer is no: the number of document 01's table, and the place that its last column names.
+pub struct Refusal {
+    pub number: u32,
+    pub place: usize,
+}
+
+// The most streams, noise sources and contenders.
+pub const STREAMS: usize = 64;
+
+pub const SOURCES: usize = 8;
+
+pub const CONTENDERS: usize = 128;
+
+// The largest timing constant, payload and number of priority bits.
+pub const CONSTANT: u32 = 65535;
+
+pub const PAYLOAD: u32 = 65535;
+
+pub const BITS: u32 = 32;
+
+// The largest busy period, in ticks, that is looked for.
+pub const TICKS: u64 = 4294967295;
