@@ -1,0 +1,44 @@
+-- The bound is the largest term, and above zero. Assumes nothing.
+use mathlib.Core.Path.{_≡_, refl, sym, ap, _∙_, subst}
+use Prim.Native.Nat.{ℕ, _+_, _-_, _*_, _≤_, _<_}
+use native.Mathlib.Nat.{zero-mul, add-zero}
+use native.Mathlib.Omega.{arith}
+use lib.Dec.{T}
+use lib.IntN.{ℤ, pos, natAbs, _-ℤ_}
+use lib.Signed.{leZ, nonNeg, pos-natAbs}
+use Rattle.laws.specs.Lists.{ceil}
+use Rattle.laws.specs.Signed.{largestTo}
+use Rattle.laws.proofs.Round.{ceil-pos}
+use Rattle.laws.proofs.Signed.{largest-ge, largest-is, above-pos}
+use Rattle.bound.specs.Terms.{Terms}
+use Rattle.bound.specs.Bound.{busy, Q, w, term, bound}
+use Rattle.bound.specs.Claims.{Sound, BoundIsLargest}
+use Rattle.bound.proofs.Sides.{busy-is-least}
+
+-- a busy period has an instance
+pub some-instance : (r : Terms) → Sound r → (L : ℕ) → 1 ≤ L → 1 ≤ Q r L
+some-instance r s L h = ceil-pos (L + r .own .J) (r .own .T) (s .period) (omega arith)
+
+-- the term of q = 0 is J + w(0) + C''
+first-term : (r : Terms) → term r 0 ≡ pos (r .own .J + w r 0 + r .last)
+first-term r = ap (λ z. pos (r .own .J + w r 0 + r .last) -ℤ pos z) (zero-mul (r .own .T)) ∙ ap pos (add-zero (r .own .J + w r 0 + r .last))
+
+-- so the largest is above zero
+pub largest-pos : (r : Terms) → Sound r → (n : ℕ) → T (nonNeg (largestTo (term r) n)) × (1 ≤ natAbs (largestTo (term r) n))
+largest-pos r s n =
+    above-pos (r .own .J + w r 0 + r .last) (largestTo (term r) n) (omega (arith, s .ends))
+    (subst (λ z. T (leZ z (largestTo (term r) n))) (first-term r) (largest-ge (term r) n 0 (omega arith)))
+
+pub bound-is : (r : Terms) → Sound r → (L : ℕ) → pos (bound r L) ≡ largestTo (term r) (Q r L - 1)
+unfolding bound
+bound-is r s L = pos-natAbs _ (largest-pos r s (Q r L - 1) .0)
+
+pub bound-is-largest : BoundIsLargest
+unfolding bound
+bound-is-largest r s L b =
+    let n = some-instance r s L (busy-is-least r L .0 b .1 .above) in
+    let (q, h, e) = largest-is (term r) (Q r L - 1) in (
+      λ q h. subst (λ z. T (leZ (term r q) z)) (sym (bound-is r s L)) (largest-ge (term r) (Q r L - 1) q (omega arith)),
+      (q, omega arith, bound-is r s L ∙ e),
+      largest-pos r s (Q r L - 1) .1,
+    )

@@ -1,0 +1,3 @@
+pub mod Sides
+pub mod Instances
+pub mod Largest

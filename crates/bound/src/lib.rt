@@ -1,0 +1,17 @@
+// The bound of one stream, over the terms of its row: definitions in specs/, what is true of them in proofs/.
+//
+// The terms know no file, no label, no timing constant and no edition; a plan becomes terms in the crate
+// above. There is no function here and nothing is assumed. This crate knows of names and laws alone.
+
+// How a row fares: its bound is at most its deadline, or above it, or there is none.
+pub enum Verdict {
+    Met,
+    Missed,
+    None,
+}
+
+// A row's answer. The bound is 0 where there is none.
+pub struct Answer {
+    pub verdict: Verdict,
+    pub bound: u64,
+}
