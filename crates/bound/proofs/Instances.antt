@@ -37,7 +37,7 @@ w-exists r s L q b h =
     rw d (g, c)
 
 -- one instance more adds C''
-sideW-suc : (r : Terms) (q x : ℕ) → sideW r (q + 1) x ≡ sideW r q x + r .own .C″
+pub sideW-suc : (r : Terms) (q x : ℕ) → sideW r (q + 1) x ≡ sideW r q x + r .own .C″
 unfolding sideW
 sideW-suc r q x = omega (arith, ap (λ k. k * r .own .C″) (add-one q), suc-mul q (r .own .C″))
 

@@ -1,3 +1,4 @@
 pub mod Sides
 pub mod Instances
 pub mod Largest
+pub mod Answers

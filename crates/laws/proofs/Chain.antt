@@ -3,7 +3,7 @@
 use mathlib.Core.Path.{_≡_, refl, sym, ap, _∙_}
 use mathlib.Core.Logic.{_⊎_, inl, inr, ⊎-elim}
 use Prim.Native.Nat.{ℕ, zero, suc, _+_, _-_, _≤_, _<_}
-use native.Mathlib.Nat.{le-refl, le-trans, lt-of-not-le, eq-or-lt-of-le}
+use native.Mathlib.Nat.{le-refl, le-trans, le-antisymm, lt-of-not-le, eq-or-lt-of-le}
 use native.Mathlib.Omega.{arith}
 use native.Mathlib.Decide.{decLe}
 use Rattle.laws.specs.declared.Found.{Found}
@@ -74,6 +74,16 @@ pub least-below : (f : ℕ → ℕ) → Mono f → (s x z : ℕ) → s ≤ f s �
 least-below f m s x z r l a d =
     let (y, p, q, g) = settles f m (z - s) s z (le-refl _) r a d in le-trans (l .least y p g) q
 
+-- .. and so is the whole chain
+pub climb-below : (f : ℕ → ℕ) → Mono f → (s x z : ℕ) → s ≤ f s → Climb f s x → s ≤ z → f z ≤ z → x ≤ z
+climb-below f m s x z r c a d =
+    let (y, p, q, g) = settles f m (z - s) s z (le-refl _) r a d in le-unless (λ h. c .clear y p (omega arith) g)
+
 -- the search may start anywhere between s and the least fixed point from s on
 pub least-later : (f : ℕ → ℕ) (s t x : ℕ) → Least f s x → s ≤ t → t ≤ x → Least f t x
 least-later f s t x l a b = record { above = b; fixed = l .fixed; least = λ y c e. l .least y (le-trans a c) e }
+
+-- two functions that agree from s on have one least fixed point there
+pub least-agrees : (f g : ℕ → ℕ) (s x y : ℕ) → ((z : ℕ) → s ≤ z → f z ≡ g z) → Least f s x → Least g s y → x ≡ y
+least-agrees f g s x y e a b =
+    le-antisymm (a .least y (b .above) (e y (b .above) ∙ b .fixed)) (b .least x (a .above) (sym (e x (a .above)) ∙ a .fixed))

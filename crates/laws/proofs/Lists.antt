@@ -1,13 +1,15 @@
 -- Laws of sums, largest values and choices over a list, by the question that a proof asks. Assumes nothing.
-use mathlib.Core.Path.{_≡_, refl, sym, ap, ap₂, _∙_}
-use mathlib.Core.Bool.{Bool, true, false, cond}
+use mathlib.Core.Path.{_≡_, refl, sym, ap, ap₂, _∙_, subst}
+use mathlib.Core.Bool.{Bool, true, false, cond, _&&_}
+use mathlib.Core.Logic.{⊎-elim}
 use mathlib.Core.List.{List, [], _∷_, _++_}
 use Prim.Native.Nat.{ℕ, zero, suc, _+_, _-_, _*_, max, _≤_, _<_}
-use native.Mathlib.Nat.{le-refl, add-le-add, zero-mul, add-mul}
+use native.Mathlib.Nat.{le-refl, add-le-add, zero-mul, add-mul, suc-mul, add-zero, add-suc, suc-inj, eq-or-lt-of-le}
 use native.Mathlib.Numerals.{add-one}
 use native.Mathlib.Omega.{arith}
+use lib.Dec.{T}
 use lib.ListN.{length, getD, take, length-append}
-use Rattle.laws.specs.Lists.{sumOf, largestOf, those, rows}
+use Rattle.laws.specs.Lists.{sumOf, largestOf, those, rows, sumTo, every}
 
 -- ---- is it more where each is more?
 pub sum-mono : {A : Type 0} {f g : A → ℕ} → ((a : A) → f a ≤ g a) → (xs : List A) → sumOf f xs ≤ sumOf g xs
@@ -94,3 +96,84 @@ largest-those g t (x ∷ l) = go (t x) (largest-those g t l)
     go : (b : Bool) → largestOf (λ a. cond (t a) (g a) 0) l ≡ largestOf g (those t l) → max (cond b (g x) 0) (largestOf (λ a. cond (t a) (g a) 0) l) ≡ largestOf g (cond b (x ∷ those t l) (those t l))
     go true e = omega arith
     go false e = omega arith
+
+-- ---- sums over 0 .. n - 1
+pub sumTo-none : (f : ℕ → ℕ) → sumTo f 0 ≡ 0
+unfolding sumTo
+sumTo-none f = refl
+
+pub sumTo-more : (f : ℕ → ℕ) (n : ℕ) → sumTo f (n + 1) ≡ sumTo f n + f n
+unfolding sumTo
+sumTo-more f n = rw add-one refl
+
+pub sumTo-le : (f : ℕ → ℕ) (k n : ℕ) → k ≤ n → sumTo f k ≤ sumTo f n
+unfolding sumTo
+sumTo-le f k zero h = let e : k ≡ 0 = omega arith in rw e (le-refl 0)
+sumTo-le f k (suc n) h =
+    ⊎-elim (λ (e : k ≡ suc n). rw e (le-refl _)) (λ l. omega (arith, sumTo-le f k n (omega arith))) (eq-or-lt-of-le h)
+
+pub sumTo-same : (f g : ℕ → ℕ) (n : ℕ) → ((k : ℕ) → k < n → f k ≡ g k) → sumTo f n ≡ sumTo g n
+unfolding sumTo
+sumTo-same f g zero h = refl
+sumTo-same f g (suc n) h = ap₂ _+_ (sumTo-same f g n (λ k p. h k (omega arith))) (h n (omega arith))
+
+pub sumTo-add : (f g h : ℕ → ℕ) (n : ℕ) → ((k : ℕ) → k < n → f k ≡ g k + h k) → sumTo f n ≡ sumTo g n + sumTo h n
+unfolding sumTo
+sumTo-add f g h zero e = refl
+sumTo-add f g h (suc n) e = omega (arith, sumTo-add f g h n (λ k p. e k (omega arith)), e n (omega arith))
+
+pub sumTo-mono : (f g : ℕ → ℕ) (n : ℕ) → ((k : ℕ) → f k ≤ g k) → sumTo f n ≤ sumTo g n
+unfolding sumTo
+sumTo-mono f g zero h = le-refl 0
+sumTo-mono f g (suc n) h = add-le-add (sumTo-mono f g n h) (h n)
+
+-- each is at most b
+pub sumTo-at-most : (f : ℕ → ℕ) (b n : ℕ) → ((k : ℕ) → k < n → f k ≤ b) → sumTo f n ≤ n * b
+unfolding sumTo
+sumTo-at-most f b zero h = omega arith
+sumTo-at-most f b (suc n) h = omega (arith, sumTo-at-most f b n (λ k p. h k (omega arith)), h n (omega arith), suc-mul n b)
+
+-- first n, then m more
+pub sumTo-append : (f : ℕ → ℕ) (n m : ℕ) → sumTo f (n + m) ≡ sumTo f n + sumTo (λ k. f (n + k)) m
+unfolding sumTo
+sumTo-append f n zero = ap (sumTo f) (add-zero n) ∙ sym (add-zero _)
+sumTo-append f n (suc m) = ap (sumTo f) (add-suc n m) ∙ omega (arith, sumTo-append f n m)
+
+pub sum-rows : {A : Type 0} (g : A → ℕ) (n : ℕ) (f : ℕ → A) → sumOf g (rows n f) ≡ sumTo (λ k. g (f k)) n
+unfolding sumOf rows sumTo
+sum-rows g zero f = refl
+sum-rows g (suc n) f = sum-snoc g (rows n f) (f n) ∙ ap (λ z. z + g (f n)) (sum-rows g n f)
+
+-- ---- a test of every row, one row a turn
+pub every-none : (t : ℕ → Bool) → every 0 t ≡ true
+unfolding every
+every-none t = refl
+
+pub every-more : (t : ℕ → Bool) (n : ℕ) → every n t ≡ true → t n ≡ true → every (n + 1) t ≡ true
+unfolding every
+every-more t n e d = rw (add-one, e, d) refl
+
+-- every row passes exactly if each does
+pub every-each : (t : ℕ → Bool) (n : ℕ) → every n t ≡ true → (k : ℕ) → k < n → t k ≡ true
+unfolding every
+every-each t zero e k h = absurd (omega arith)
+every-each t (suc n) e k h =
+    let (a, b) = both (every n t) (t n) e in
+    ⊎-elim (λ (d : suc k ≡ suc n). rw (suc-inj d) b) (λ l. every-each t n a k (omega arith)) (eq-or-lt-of-le h)
+  where
+    both : (a b : Bool) → (a && b) ≡ true → (a ≡ true) × (b ≡ true)
+    both true b e = (refl, e)
+    both false b e = absurd (subst T (sym e) tt)
+
+pub every-all : (t : ℕ → Bool) (n : ℕ) → ((k : ℕ) → k < n → t k ≡ true) → every n t ≡ true
+unfolding every
+every-all t zero h = refl
+every-all t (suc n) h = rw (every-all t n (λ k p. h k (omega arith)), h n (omega arith)) refl
+
+-- one that fails is enough
+pub every-fails : (t : ℕ → Bool) (n k : ℕ) → k < n → t k ≡ false → every n t ≡ false
+every-fails t n k h e = go (every n t) refl
+  where
+    go : (b : Bool) → every n t ≡ b → b ≡ false
+    go true d = sym (every-each t n d k h) ∙ e
+    go false d = refl

@@ -34,6 +34,10 @@ ceil-le a n h = le-of-lt-suc (div-lt-iff-lt-mul h .1 (omega (arith, suc-mul a n,
 pub ceil-covers : (a n : ℕ) → 1 ≤ n → a ≤ ceil a n * n
 ceil-covers a n h = omega (arith, lt-div-mul-add {a = a + (n - 1)} h)
 
+-- .. and less than n above it
+pub ceil-over : (a n : ℕ) → ceil a n * n ≤ a + (n - 1)
+ceil-over a n = div-mul-le-self (a + (n - 1)) n
+
 -- q counts below ceil(a / n) exactly if q × n is below a
 pub ceil-room : (q a n : ℕ) → 1 ≤ n → q < ceil a n → q * n < a
 ceil-room q a n p h = omega (arith, suc-mul q n, le-div-iff-mul-le p .0 h)

@@ -1,5 +1,5 @@
 -- Rounding up, and sums, largest values and choices over a list.
-use mathlib.Core.Bool.{Bool, cond}
+use mathlib.Core.Bool.{Bool, true, cond, _&&_}
 use mathlib.Core.List.{List, [], _∷_, _++_}
 use Prim.Native.Nat.{ℕ, zero, suc, _+_, _-_, _/_, max}
 
@@ -26,3 +26,13 @@ those t (x ∷ xs) = cond (t x) (x ∷ those t xs) (those t xs)
 unfoldable pub rows : {A : Type 0} → ℕ → (ℕ → A) → List A
 rows zero f = []
 rows (suc n) f = rows n f ++ (f n ∷ [])
+
+-- f 0 + f 1 + .. + f (n - 1)
+unfoldable pub sumTo : (ℕ → ℕ) → ℕ → ℕ
+sumTo f zero = 0
+sumTo f (suc n) = sumTo f n + f n
+
+-- every one of 0, 1, .., n - 1 passes the test
+unfoldable pub every : ℕ → (ℕ → Bool) → Bool
+every zero t = true
+every (suc n) t = every n t && t n

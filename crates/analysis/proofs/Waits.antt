@@ -1,0 +1,80 @@
+-- The searches for w(q) climb once: each may start where the one before ended, and C'' further on. Assumes nothing.
+use mathlib.Core.Path.{_≡_, refl, sym, ap, _∙_}
+use mathlib.Core.List.{List}
+use Prim.Native.Nat.{ℕ, _+_, _-_, _*_, _≤_, _<_}
+use native.Mathlib.Nat.{le-trans, suc-mul}
+use native.Mathlib.Numerals.{add-one}
+use native.Mathlib.Omega.{arith}
+use lib.IntN.{pos, _-ℤ_}
+use Rattle.names.specs.Limits.{ticks}
+use Rattle.laws.specs.Search.{Least}
+use Rattle.laws.specs.declared.Found.the-variants.{At}
+use Rattle.laws.proofs.Chain.{least-later, least-agrees}
+use Rattle.bound.specs.Terms.{Terms}
+use Rattle.bound.specs.Bound.{demand, E, sideW, busy, Q, w, term}
+use Rattle.bound.specs.Claims.{Sound}
+use Rattle.bound.proofs.Sides.{sideW-mono, busy-is-least}
+use Rattle.bound.proofs.Instances.{room, settles, w-exists, w-rises, sideW-suc}
+use Rattle.analysis.specs.Stairs.{height, start, side, restW, Kept, Bounded, Settled}
+
+-- w(q)'s right side is B + q × C'' and the rest
+sideW-parts : (r : Terms) (q x : ℕ) → sideW r q x ≡ r .B + q * r .own .C″ + restW r x
+unfolding sideW
+sideW-parts r q x = omega arith
+
+module _ (r : Terms) (s : Sound r) (L : ℕ) (b : busy r ≡ At L) where
+  -- the search for w(0) starts at 0
+  pub first-from : (0 ≤ w r 0) × (0 ≤ sideW r 0 0)
+  first-from = (omega arith, omega arith)
+
+  -- the search for w(q + 1) starts at w(q) + C''
+  pub next-from : (q : ℕ) → q + 1 < Q r L → (w r q + r .own .C″ ≤ w r (q + 1)) × (w r q + r .own .C″ ≤ sideW r (q + 1) (w r q + r .own .C″))
+  next-from q h =
+      let c = r .own .C″ in
+      let k = w-exists r s L q b (omega arith) .0 in
+      (w-rises r s L q b h, omega (arith, k .fixed, sideW-suc r q (w r q + c), sideW-mono r q (w r q) (w r q + c) (omega arith)))
+
+  -- w(q) is B + q × C'' at least, and within the limit
+  pub above-base : (q : ℕ) → q < Q r L → r .B + q * r .own .C″ ≤ w r q
+  above-base q h = omega (arith, w-exists r s L q b h .0 .fixed, sideW-parts r q (w r q))
+
+  pub w-small : (q : ℕ) → q < Q r L → w r q + r .own .C″ ≤ ticks
+  w-small q h =
+      let l = busy-is-least r L .0 b in
+      omega (arith, w-exists r s L q b h .1, l .0, room r s L (l .1 .fixed) (l .1 .above) q h)
+
+  module _ (costs periods edges : List ℕ) (n q base sum x from : ℕ) (h : q < Q r L) (e : base ≡ r .B + q * r .own .C″)
+      (k : Kept costs periods edges n (restW r) x sum) (a : x ≤ from) (f : (from ≤ w r q) × (from ≤ sideW r q from)) where
+    agrees : (z : ℕ) → from ≤ z → side costs periods edges n base sum z ≡ sideW r q z
+    agrees z g = omega (arith, k .later z (le-trans a g), sideW-parts r q z)
+
+    pub bounded : Bounded (side costs periods edges n base sum) from
+    bounded =
+        let l = busy-is-least r L .0 b in
+        let up : from ≤ L - r .own .C″ = le-trans (f .0) (w-exists r s L q b h .1) in
+        record {
+          rises = rw (agrees from (omega arith)) (f .1);
+          top = L - r .own .C″;
+          above = up;
+          small = omega (arith, l .0);
+          stops = rw (agrees (L - r .own .C″) up) (settles r s L (l .1 .fixed) (l .1 .above) q h);
+        }
+
+    pub is-w : (next : List ℕ) (y : ℕ) → Settled costs periods edges next n base sum from y → y ≡ w r q
+    is-w next y t =
+        least-agrees _ (sideW r q) from y (w r q) agrees (t .least) (least-later (sideW r q) 0 from (w r q) (w-exists r s L q b h .0) (omega arith) (f .0))
+
+    pub goes-on : (next : List ℕ) (y : ℕ) → Settled costs periods edges next n base sum from y → Kept costs periods next n (restW r) y (y - base)
+    goes-on next y t =
+        record {
+          known = t .kept .known;
+          later = λ z g. t .kept .later z g ∙ k .later z (omega (arith, t .least .above));
+        }
+
+-- a term of the code is a term of the rule
+pub term-is : (r : Terms) (q wait : ℕ) → wait ≡ w r q → pos (r .own .J + r .last + wait) -ℤ pos (q * r .own .T) ≡ term r q
+term-is r q wait e = let a : r .own .J + r .last + wait ≡ r .own .J + w r q + r .last = omega arith in ap (λ z. pos z -ℤ pos (q * r .own .T)) a
+
+-- the base of one instance more
+pub base-more : (b q c base : ℕ) → base ≡ b + q * c → base + c ≡ b + (q + 1) * c
+base-more b q c base e = omega (arith, ap (λ k. k * c) (add-one q), suc-mul q c)

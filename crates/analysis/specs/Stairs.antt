@@ -1,0 +1,113 @@
+-- For the private functions' contracts alone: a right side as stairs. A stair costs its cost just after its edge, and again every period.
+use mathlib.Core.Path.{_≡_}
+use mathlib.Core.List.{List}
+use Prim.Native.Nat.{ℕ, _+_, _-_, _*_, _^_, _≤_, _<_}
+use lib.ListN.{length, getD}
+use Rattle.names.specs.Limits.{streams, sources, ticks}
+use Rattle.laws.specs.Lists.{ceil, sumTo}
+use Rattle.laws.specs.Search.{Least}
+use Rattle.bound.specs.Terms.{Terms}
+use Rattle.bound.specs.Bound.{demand, E}
+use Rattle.analysis.specs.declared.Gathered.{Gathered}
+use Rattle.analysis.specs.Gathered.{cost}
+
+abbrev pub stair : List ℕ → List ℕ → List ℕ → ℕ → ℕ → ℕ
+stair costs periods edges x k = ceil (x - getD edges k 0) (getD periods k 0) * getD costs k 0
+
+-- how high the first n stairs are at x
+unfoldable pub height : List ℕ → List ℕ → List ℕ → ℕ → ℕ → ℕ
+height costs periods edges n x = sumTo (stair costs periods edges x) n
+
+-- the number of stairs there is room for, time's start, and the latest time that is looked at
+abbrev pub most : ℕ
+most = 72
+
+abbrev pub start : ℕ
+start = 2 ^ 33
+
+abbrev pub latest : ℕ
+latest = start + ticks
+
+pub record Stairs (costs periods : List ℕ) (n : ℕ) : Type 0 where
+  pub few : n ≤ most
+  pub cost : (k : ℕ) → k < n → getD costs k 0 ≤ cost
+  pub some : (k : ℕ) → k < n → 1 ≤ getD periods k 0
+  pub period : (k : ℕ) → k < n → getD periods k 0 ≤ ticks
+
+pub record Edges (edges : List ℕ) (n : ℕ) : Type 0 where
+  pub long : length edges ≡ most
+  pub below : (k : ℕ) → k < n → getD edges k 0 < 2 ^ 34
+
+-- the edges went on to x: the stairs' height from there on is what it was at x, and what the new edges give
+pub record Moved (costs periods edges next : List ℕ) (n x : ℕ) : Type 0 where
+  pub known : Edges next n
+  pub later : (y : ℕ) → x ≤ y → height costs periods edges n y ≡ height costs periods edges n x + height costs periods next n y
+
+-- what the right sides of L and of w(q) have besides B and i's own part
+abbrev pub restL : Terms → ℕ → ℕ
+restL r x = demand (r .urgent) x + E r x
+
+abbrev pub restW : Terms → ℕ → ℕ
+restW r x = demand (r .urgent) (x + r .late + 1) + E r (x + r .own .C″)
+
+-- the stairs, and edges that are where they start, make up a right side's rest
+pub record Laid (costs periods edges : List ℕ) (n : ℕ) (rest : ℕ → ℕ) : Type 0 where
+  pub stairs : Stairs costs periods n
+  pub known : Edges edges n
+  pub is : (x : ℕ) → height costs periods edges n (x + start) ≡ rest x
+
+-- what a chain keeps: a sum that, with the edges, gives the rest from x on
+pub record Kept (costs periods edges : List ℕ) (n : ℕ) (rest : ℕ → ℕ) (x sum : ℕ) : Type 0 where
+  pub known : Edges edges n
+  pub later : (y : ℕ) → x ≤ y → sum + height costs periods edges n (y + start) ≡ rest y
+
+-- a right side whose rest is a sum and what the stairs rise by
+abbrev pub side : List ℕ → List ℕ → List ℕ → ℕ → ℕ → ℕ → ℕ → ℕ
+side costs periods edges n base sum x = base + (sum + height costs periods edges n (x + start))
+
+-- it rises at `from`, and does not rise any more somewhere within the limit
+pub record Bounded (f : ℕ → ℕ) (from : ℕ) : Type 0 where
+  pub rises : from ≤ f from
+  pub top : ℕ
+  pub above : from ≤ top
+  pub small : top ≤ ticks
+  pub stops : f top ≤ top
+
+-- its least fixed point from there on, and edges that have come there
+pub record Settled (costs periods edges next : List ℕ) (n base sum from r : ℕ) : Type 0 where
+  pub least : Least (side costs periods edges n base sum) from r
+  pub small : r ≤ ticks
+  pub kept : Kept costs periods next n (λ x. sum + height costs periods edges n (x + start)) r (r - base)
+
+-- the first n values stand from a place on, and all else is as it was
+pub record Pasted (values : List ℕ) (n from : ℕ) (onto r : List ℕ) : Type 0 where
+  pub long : length r ≡ most
+  pub put : (k : ℕ) → k < n → getD r (from + k) 0 ≡ getD values k 0
+  pub front : (k : ℕ) → k < from → getD r k 0 ≡ getD onto k 0
+  pub back : (k : ℕ) → from + n ≤ k → getD r k 0 ≡ getD onto k 0
+
+-- the edges of n streams and, after them, of the noise sources, so long before time's start
+pub record Started (jitters : List ℕ) (n late window : ℕ) (r : List ℕ) : Type 0 where
+  pub long : length r ≡ most
+  pub stream : (k : ℕ) → k < n → getD r k 0 ≡ start - (getD jitters k 0 + late)
+  pub source : (k : ℕ) → n ≤ k → k < most → getD r k 0 ≡ start - window
+
+-- gathered terms within the limits
+pub record Share (C T J : ℕ) : Type 0 where
+  pub cost : C ≤ cost
+  pub some : 1 ≤ T
+  pub period : T ≤ ticks
+  pub jitter : J ≤ ticks
+
+pub record Fit (g : Gathered) : Type 0 where
+  pub blocking : g .blocking ≤ cost
+  pub hit : g .hit ≤ cost
+  pub late : g .late + 1 ≤ g .cost
+  pub ends : 1 ≤ g .last
+  pub last : g .last ≤ g .cost
+  pub own : Share (g .cost) (g .period) (g .jitter)
+  pub few : g .urgent ≤ streams
+  pub urgent : (k : ℕ) → k < g .urgent → Share (getD (g .costs) k 0) (getD (g .periods) k 0) (getD (g .jitters) k 0)
+  pub quiet : g .sources ≤ sources
+  pub some-gap : (k : ℕ) → k < g .sources → 1 ≤ getD (g .gaps) k 0
+  pub gap : (k : ℕ) → k < g .sources → getD (g .gaps) k 0 ≤ ticks
