@@ -6,11 +6,11 @@ use native.Mathlib.Nat.{le-trans, mul-le-mul, mul-le-mul-right}
 use native.Mathlib.Omega.{arith}
 use lib.Dec.{T, leb}
 use lib.ListN.{getD}
-use borrow.Author.Tests.{leb-true}
+use borrow.Author.Tests.{leb-true, le-leb}
 use Rattle.names.specs.Limits.{streams, sources, ticks}
 use Rattle.laws.specs.Lists.{ceil, sumOf, sumTo, rows}
 use Rattle.laws.proofs.Round.{ceil-le}
-use Rattle.laws.proofs.Lists.{sum-rows, sumTo-at-most, every-each}
+use Rattle.laws.proofs.Lists.{sum-rows, sumTo-at-most, every-each, every-all}
 use Rattle.bound.specs.Terms as Terms
 use Rattle.bound.specs.Bound.{E, demand, sideL}
 use Rattle.bound.specs.Claims.{Sound}
@@ -86,3 +86,23 @@ fit-known g e =
       some-gap = λ k h. gap-known _ (every-each _ (g .sources) gaps k h) .0;
       gap = λ k h. gap-known _ (every-each _ (g .sources) gaps k h) .1;
     }
+
+-- ---- and shown
+share-shown : (C T J : ℕ) → Share C T J → shareFits (record { C″ = C; T = T; J = J }) ≡ true
+share-shown C T J s = simp (le-leb _ _ (s .cost), le-leb _ _ (s .some), le-leb _ _ (s .period), le-leb _ _ (s .jitter))
+
+pub fit-shown : (g : Gathered) → Fit g → fits g ≡ true
+unfolding fits
+fit-shown g f =
+    simp (
+      le-leb _ _ (f .blocking),
+      le-leb _ _ (f .hit),
+      le-leb _ _ (f .late),
+      le-leb _ _ (f .ends),
+      le-leb _ _ (f .last),
+      share-shown _ _ _ (f .own),
+      le-leb _ _ (f .few),
+      every-all _ (g .urgent) (λ k h. share-shown _ _ _ (f .urgent k h)),
+      le-leb _ _ (f .quiet),
+      every-all (λ k. gapFits (getD (g .gaps) k 0)) (g .sources) (λ k h. simp (le-leb _ _ (f .some-gap k h), le-leb _ _ (f .gap k h))),
+    )

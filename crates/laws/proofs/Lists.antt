@@ -2,13 +2,14 @@
 use mathlib.Core.Path.{_≡_, refl, sym, ap, ap₂, _∙_, subst}
 use mathlib.Core.Bool.{Bool, true, false, cond, _&&_}
 use mathlib.Core.Logic.{⊎-elim}
-use mathlib.Core.List.{List, [], _∷_, _++_}
+use mathlib.Core.List.{List, [], _∷_, _++_, map, map-append}
 use Prim.Native.Nat.{ℕ, zero, suc, _+_, _-_, _*_, max, _≤_, _<_}
 use native.Mathlib.Nat.{le-refl, add-le-add, zero-mul, add-mul, suc-mul, add-zero, add-suc, suc-inj, eq-or-lt-of-le}
 use native.Mathlib.Numerals.{add-one}
 use native.Mathlib.Omega.{arith}
 use lib.Dec.{T}
 use lib.ListN.{length, getD, take, length-append}
+use lib.Seq.{take-suc}
 use Rattle.laws.specs.Lists.{sumOf, largestOf, those, rows, sumTo, every}
 
 -- ---- is it more where each is more?
@@ -48,6 +49,17 @@ those-snoc t (x ∷ l) a = go (t x) (those-snoc t l a)
     go true e = ap (λ z. x ∷ z) e
     go false e = e
 
+-- ---- one element more of those that pass
+pub those-yes : {A : Type 0} (t : A → Bool) (l : List A) (a : A) → t a ≡ true → those t (l ++ (a ∷ [])) ≡ those t l ++ (a ∷ [])
+those-yes t l a e = those-snoc t l a ∙ ap (λ b. those t l ++ cond b (a ∷ []) []) e
+
+pub those-no : {A : Type 0} (t : A → Bool) (l : List A) (a : A) → t a ≡ false → those t (l ++ (a ∷ [])) ≡ those t l
+those-no t l a e = those-snoc t l a ∙ ap (λ b. those t l ++ cond b (a ∷ []) []) e ∙ append-nil (those t l)
+  where
+    append-nil : {B : Type 0} (m : List B) → m ++ [] ≡ m
+    append-nil [] = refl
+    append-nil (x ∷ m) = ap (λ z. x ∷ z) (append-nil m)
+
 -- ---- a loop over rows, one row a turn
 pub sum-more : {A : Type 0} (g : A → ℕ) (f : ℕ → A) (k s r : ℕ) → s ≡ sumOf g (rows k f) → r ≡ g (f k) → s + r ≡ sumOf g (rows (k + 1) f)
 unfolding rows
@@ -56,6 +68,24 @@ sum-more g f k s r e d = rw add-one (omega (arith, sum-snoc g (rows k f) (f k)))
 pub largest-more : {A : Type 0} (g : A → ℕ) (f : ℕ → A) (k s r n : ℕ) → s ≡ largestOf g (rows k f) → r ≡ g (f k) → n ≡ max s r → n ≡ largestOf g (rows (k + 1) f)
 unfolding rows
 largest-more g f k s r n e d h = rw add-one (omega (arith, largest-snoc g (rows k f) (f k)))
+
+-- a loop over the first of a list, one element a turn
+pub largest-take : {A : Type 0} (g : A → ℕ) (l : List A) (d : A) (k s r n : ℕ) → k < length l → s ≡ largestOf g (take k l) → r ≡ g (getD l k d) → n ≡ max s r
+    → n ≡ largestOf g (take (k + 1) l)
+largest-take g l d k s r n h e f m =
+    rw (add-one k, take-suc l k d h) (omega (arith, largest-snoc g (take k l) (getD l k d)))
+
+pub those-take-yes : {A : Type 0} (t : A → Bool) (l : List A) (d : A) (k : ℕ) → k < length l → t (getD l k d) ≡ true → those t (take (k + 1) l) ≡ those t (take k l) ++ (getD l k d ∷ [])
+those-take-yes t l d k h e = rw (add-one k, take-suc l k d h) (those-yes t (take k l) (getD l k d) e)
+
+pub those-take-no : {A : Type 0} (t : A → Bool) (l : List A) (d : A) (k : ℕ) → k < length l → t (getD l k d) ≡ false → those t (take (k + 1) l) ≡ those t (take k l)
+those-take-no t l d k h e = rw (add-one k, take-suc l k d h) (those-no t (take k l) (getD l k d) e)
+
+-- the first n of a list, row by row
+pub rows-take : {A : Type 0} (l : List A) (d : A) (n : ℕ) → n ≤ length l → rows n (λ k. getD l k d) ≡ take n l
+unfolding rows
+rows-take l d zero h = refl
+rows-take l d (suc n) h = ap (λ m. m ++ (getD l n d ∷ [])) (rows-take l d n (omega arith)) ∙ sym (take-suc l n d (omega arith))
 
 pub rows-none : {A : Type 0} (f : ℕ → A) → rows 0 f ≡ []
 unfolding rows
@@ -76,17 +106,7 @@ unfolding rows
 rows-same zero f g h = refl
 rows-same (suc n) f g h = ap₂ (λ l a. l ++ (a ∷ [])) (rows-same n f g (λ k p. h k (omega arith))) (h n (omega arith))
 
--- ---- those that pass
-pub those-yes : {A : Type 0} (t : A → Bool) (l : List A) (a : A) → t a ≡ true → those t (l ++ (a ∷ [])) ≡ those t l ++ (a ∷ [])
-those-yes t l a e = those-snoc t l a ∙ ap (λ b. those t l ++ cond b (a ∷ []) []) e
-
-pub those-no : {A : Type 0} (t : A → Bool) (l : List A) (a : A) → t a ≡ false → those t (l ++ (a ∷ [])) ≡ those t l
-those-no t l a e = those-snoc t l a ∙ ap (λ b. those t l ++ cond b (a ∷ []) []) e ∙ append-nil (those t l)
-  where
-    append-nil : {B : Type 0} (m : List B) → m ++ [] ≡ m
-    append-nil [] = refl
-    append-nil (x ∷ m) = ap (λ z. x ∷ z) (append-nil m)
-
+-- ---- those that pass, and the largest
 -- the largest over those that pass is the largest over all, with 0 for the others
 pub largest-those : {A : Type 0} (g : A → ℕ) (t : A → Bool) (l : List A) → largestOf (λ a. cond (t a) (g a) 0) l ≡ largestOf g (those t l)
 unfolding largestOf those
@@ -177,3 +197,14 @@ every-fails t n k h e = go (every n t) refl
     go : (b : Bool) → every n t ≡ b → b ≡ false
     go true d = sym (every-each t n d k h) ∙ e
     go false d = refl
+
+-- ---- a function of each
+pub rows-map : {A B : Type 0} (g : A → B) (n : ℕ) (f : ℕ → A) → map g (rows n f) ≡ rows n (λ k. g (f k))
+unfolding rows
+rows-map g zero f = refl
+rows-map g (suc n) f = map-append g (rows n f) (f n ∷ []) ∙ ap (λ l. l ++ (g (f n) ∷ [])) (rows-map g n f)
+
+pub largest-map : {A B : Type 0} (g : B → ℕ) (f : A → B) (l : List A) → largestOf g (map f l) ≡ largestOf (λ a. g (f a)) l
+unfolding largestOf
+largest-map g f [] = refl
+largest-map g f (x ∷ l) = ap (max (g (f x))) (largest-map g f l)

@@ -1,0 +1,4 @@
+pub mod All
+pub mod Lowest
+pub mod Inside
+pub mod Limits

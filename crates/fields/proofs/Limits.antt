@@ -1,0 +1,106 @@
+-- A plan's fields are all inside exactly if the plan is within document 01's limits: field by field, list by list. Assumes nothing.
+use mathlib.Core.Path.{_≡_, refl, sym, ap, _∙_, subst}
+use mathlib.Core.Bool.{Bool, true}
+use mathlib.Core.List.{List, [], _∷_, _++_, map, flatMap}
+use mathlib.Core.Logic.{_↔_}
+use Prim.Native.Nat.{ℕ, zero, suc, _+_, _-_, _^_, _≤_, _<_, zero-le}
+use native.Mathlib.Nat.{lt-of-not-le}
+use native.Mathlib.Decide.{decLe}
+use native.Mathlib.Omega.{arith}
+use lib.ListN.{length, getD, length-append, length-map, List·getD-append}
+use lib.Seq.{getD-append-add}
+use lib.Pow.{pow-pos}
+use Rattle.names.specs.Limits.{constant, payload, bits, ticks}
+use Rattle.plan.specs.declared.Timing.{Timing}
+use Rattle.plan.specs.declared.Stream.{Stream}
+use Rattle.plan.specs.Plan.{Plan, blank, TimingWithin, StreamWithin, GapWithin}
+use Rattle.fields.specs.Fields.{Field, _from_to_, timingFields, streamFields, gapField, fields, inside}
+use Rattle.fields.specs.Claims.{fieldAt, AllInside, FieldsWithin, InsideIfFieldsWithin}
+use Rattle.fields.proofs.All.{Shown, none, next, shown, all-front, all-back, all-both, flat-each, flat-all, map-each, map-all}
+use Rattle.fields.proofs.Lowest.{within}
+use Rattle.fields.proofs.Inside.{inside-if-within}
+
+abbrev Inside : Field → Type 0
+Inside f = inside f ≡ true
+
+abbrev none-there : Field
+none-there = 0 from 0 to 0
+
+-- a field that is written out
+within-next : {w a b : ℕ} {fs : List Field} → a ≤ w → w ≤ b → Shown Inside fs → Shown Inside (w from a to b ∷ fs)
+within-next {w} {a} {b} h k s = next (within w a b h k) s
+
+-- ---- the three bodies
+timing-to : (t : Timing) → AllInside (timingFields t) → TimingWithin t
+timing-to t a =
+    let limits : (i : ℕ) → i < 9 → (fieldAt (timingFields t) i .least ≤ fieldAt (timingFields t) i .word) × (fieldAt (timingFields t) i .word ≤ fieldAt (timingFields t) i .most) = λ i h. inside-if-within (fieldAt (timingFields t) i) .0 (a i h) in
+    record {
+      f = limits 0 (omega arith) .1;
+      e = limits 1 (omega arith) .1;
+      tfcs = limits 2 (omega arith) .1;
+      swx = limits 3 (omega arith) .1;
+      h = limits 4 (omega arith) .1;
+      g = limits 5 (omega arith) .1;
+      etg = limits 6 (omega arith) .1;
+      lag = limits 7 (omega arith) .1;
+      some-bit = limits 8 (omega arith) .0;
+      nb = limits 8 (omega arith) .1;
+    }
+
+timing-back : (t : Timing) → TimingWithin t → AllInside (timingFields t)
+timing-back t w =
+    shown Inside none-there
+    (within-next zero-le (w .f)
+    (within-next zero-le (w .e)
+    (within-next zero-le (w .tfcs)
+    (within-next zero-le (w .swx)
+    (within-next zero-le (w .h) (within-next zero-le (w .g) (within-next zero-le (w .etg) (within-next zero-le (w .lag) (within-next (w .some-bit) (w .nb) none)))))))))
+
+stream-to : (nb : ℕ) (s : Stream) → AllInside (streamFields nb s) → StreamWithin nb s × (s .label .0 ≤ ticks)
+stream-to nb s a =
+    let limits : (i : ℕ) → i < 6 → (fieldAt (streamFields nb s) i .least ≤ fieldAt (streamFields nb s) i .word) × (fieldAt (streamFields nb s) i .word ≤ fieldAt (streamFields nb s) i .most) = λ i h. inside-if-within (fieldAt (streamFields nb s) i) .0 (a i h) in (
+      record {
+        priority = omega (arith, limits 1 (omega arith) .1, pow-pos nb);
+        some-period = limits 2 (omega arith) .0;
+        period = limits 2 (omega arith) .1;
+        jitter = limits 3 (omega arith) .1;
+        some-payload = limits 4 (omega arith) .0;
+        payload = limits 4 (omega arith) .1;
+        some-deadline = limits 5 (omega arith) .0;
+        deadline = limits 5 (omega arith) .1;
+      },
+      limits 0 (omega arith) .1,
+    )
+
+stream-back : (nb : ℕ) (s : Stream) → StreamWithin nb s → s .label .0 ≤ ticks → AllInside (streamFields nb s)
+stream-back nb s w l =
+    let p : s .priority .0 ≤ 2 ^ nb - 1 = omega (arith, w .priority) in
+    shown Inside none-there
+    (within-next zero-le l
+    (within-next zero-le p
+    (within-next (w .some-period) (w .period)
+    (within-next zero-le (w .jitter) (within-next (w .some-payload) (w .payload) (within-next (w .some-deadline) (w .deadline) none))))))
+
+gap-to : (n : ℕ) → inside (gapField n) ≡ true → GapWithin n
+gap-to n e = let (a, b) = inside-if-within (gapField n) .0 e in record { some-gap = a; gap = b }
+
+pub inside-if-fields-within : InsideIfFieldsWithin
+unfolding fields
+inside-if-fields-within p =
+    let t = timingFields (p .timing) in
+    let s = flatMap (streamFields (p .timing .nb)) (p .streams) in
+    let g = map gapField (p .gaps) in (
+      λ a.
+          let each = flat-each Inside none-there blank (streamFields (p .timing .nb)) (p .streams) (all-front Inside none-there s g (all-back Inside none-there t (s ++ g) a)) in
+          record {
+            timing = timing-to (p .timing) (all-front Inside none-there t (s ++ g) a);
+            stream = λ k h. stream-to (p .timing .nb) (getD (p .streams) k blank) (each k h) .0;
+            label = λ k h. stream-to (p .timing .nb) (getD (p .streams) k blank) (each k h) .1;
+            gap = λ k h. gap-to (getD (p .gaps) k 0) (map-each Inside none-there 0 gapField (p .gaps) (all-back Inside none-there s g (all-back Inside none-there t (s ++ g) a)) k h);
+          },
+      λ w.
+          all-both Inside none-there t (s ++ g) (timing-back (p .timing) (w .timing))
+          (all-both Inside none-there s g
+          (flat-all Inside none-there blank (streamFields (p .timing .nb)) (p .streams) (λ k h. stream-back (p .timing .nb) (getD (p .streams) k blank) (w .stream k h) (w .label k h)))
+          (map-all Inside none-there 0 gapField (p .gaps) (λ k h. within (getD (p .gaps) k 0) 1 ticks (w .gap k h .some-gap) (w .gap k h .gap)))),
+    )

@@ -1,0 +1,4 @@
+pub mod Layout
+pub mod Fields
+pub mod Claims
+pub mod Private

@@ -1,0 +1,4 @@
+pub mod Gather
+pub mod Terms
+pub mod Places
+pub mod Unique
