@@ -1,11 +1,11 @@
 -- Laws of laying values onto an array, one a turn. Assumes nothing.
 use mathlib.Core.Path.{_≡_, refl, sym, ap, ap₂, _∙_}
 use mathlib.Core.List.{List}
-use mathlib.Core.Logic.{⊎-elim}
-use Prim.Native.Nat.{ℕ, suc, _+_, _-_, _*_, _≤_, _<_}
-use native.Mathlib.Nat.{eq-or-lt-of-le, lt-of-not-le, zero-add}
+use Prim.Native.Nat.{ℕ, _+_, _-_, _*_, _≤_, _<_}
+use native.Mathlib.Nat.{lt-of-not-le, zero-add}
 use native.Mathlib.Decide.{decLe}
 use native.Mathlib.Omega.{arith}
+use borrow.Author.Count.{below-more}
 use lib.ListN.{length, getD, set, replicate, length-set, length-replicate, getD-replicate}
 use lib.Seq.{getD-set-same, getD-set-other}
 use Rattle.laws.specs.Lists.{ceil}
@@ -23,13 +23,12 @@ pub paste-more : (values : List ℕ) (n from : ℕ) (onto r : List ℕ) (v : ℕ
 paste-more values n from onto r v h e p =
     record {
       long = length-set r (from + n) v ∙ p .long;
-      put = λ k g. ⊎-elim (λ (d : suc k ≡ n + 1). last k (omega (arith, d))) (λ l. getD-set-other r (from + n) (from + k) v 0 (λ d. omega arith) ∙ p .put k (omega arith)) (eq-or-lt-of-le g);
+      put = below-more (λ k. getD (set r (from + n) v) (from + k) 0 ≡ getD values k 0) n
+          (λ k g. getD-set-other r (from + n) (from + k) v 0 (λ d. omega arith) ∙ p .put k g)
+          (getD-set-same r (from + n) v 0 (omega (arith, p .long)) ∙ e);
       front = λ k g. getD-set-other r (from + n) k v 0 (λ d. omega arith) ∙ p .front k g;
       back = λ k g. getD-set-other r (from + n) k v 0 (λ d. omega arith) ∙ p .back k (omega arith);
     }
-  where
-    last : (k : ℕ) → k ≡ n → getD (set r (from + n) v) (from + k) 0 ≡ getD values k 0
-    last k d = rw d (getD-set-same r (from + n) v 0 (omega (arith, p .long)) ∙ e)
 
 pub started : (jitters : List ℕ) (late window : ℕ) → Started jitters 0 late window (replicate most (start - window))
 started jitters late window =
@@ -44,12 +43,11 @@ pub started-more : (jitters : List ℕ) (n late window : ℕ) (r : List ℕ) (v 
 started-more jitters n late window r v h e s =
     record {
       long = length-set r n v ∙ s .long;
-      stream = λ k g. ⊎-elim (λ (d : suc k ≡ n + 1). last k (omega (arith, d))) (λ l. getD-set-other r n k v 0 (λ d. omega arith) ∙ s .stream k (omega arith)) (eq-or-lt-of-le g);
+      stream = below-more (λ k. getD (set r n v) k 0 ≡ start - (getD jitters k 0 + late)) n
+          (λ k g. getD-set-other r n k v 0 (λ d. omega arith) ∙ s .stream k g)
+          (getD-set-same r n v 0 (omega (arith, s .long)) ∙ e);
       source = λ k g m. getD-set-other r n k v 0 (λ d. omega arith) ∙ s .source k (omega arith) m;
     }
-  where
-    last : (k : ℕ) → k ≡ n → getD (set r n v) k 0 ≡ start - (getD jitters k 0 + late)
-    last k d = rw d (getD-set-same r n v 0 (omega (arith, s .long)) ∙ e)
 
 -- ---- what was laid makes up a right side's rest
 module _ (g : Gathered) (f : Fit g) (late window : ℕ) (p : late ≤ cost) (q : window ≤ cost) (costs front periods edges : List ℕ)

@@ -1,11 +1,11 @@
 -- Laws of stairs: how an edge goes on, a turn of the pass over all stairs, and what the new edges give. Assumes nothing.
 use mathlib.Core.Path.{_≡_, refl, sym, ap, ap₂, _∙_}
 use mathlib.Core.List.{List}
-use mathlib.Core.Logic.{⊎-elim}
 use Prim.Native.Nat.{ℕ, zero, suc, _+_, _-_, _*_, _^_, _≤_, _<_}
-use native.Mathlib.Nat.{zero-mul, add-mul, mul-le-mul-right, eq-or-lt-of-le, div-eq-of-lt-le}
+use native.Mathlib.Nat.{le-refl, zero-mul, add-mul, mul-le-mul-right, div-eq-of-lt-le}
 use native.Mathlib.Decide.{decLe}
 use native.Mathlib.Omega.{arith}
+use borrow.Author.Count.{below-more}
 use lib.ListN.{length, getD, set, length-set}
 use lib.Seq.{getD-set-same, getD-set-other}
 use Rattle.names.specs.Limits.{ticks}
@@ -56,31 +56,25 @@ pass-start periods edges x = record { long = refl; gone = λ j h. absurd (omega 
 -- a stair that x has not passed
 pub pass-still : (periods edges now : List ℕ) (x k : ℕ) → x ≤ getD now k 0 → Pass periods edges now x k → Pass periods edges now x (k + 1)
 pass-still periods edges now x k h p =
+    let w : getD now k 0 ≡ getD edges k 0 = p .waits k (le-refl k) in
+    let here : getD now k 0 ≡ onward (getD edges k 0) (getD periods k 0) x = rw (← not-yet x (getD edges k 0) (getD periods k 0) (rw (← w) h)) (omega (arith, zero-mul (getD periods k 0))) in
     record {
       long = p .long;
-      gone = λ j g. ⊎-elim (λ (d : suc j ≡ k + 1). last j (omega (arith, d))) (λ l. p .gone j (omega arith)) (eq-or-lt-of-le g);
+      gone = below-more (λ j. getD now j 0 ≡ onward (getD edges j 0) (getD periods j 0) x) k (p .gone) here;
       waits = λ j g. p .waits j (omega arith);
     }
-  where
-    last : (j : ℕ) → j ≡ k → getD now j 0 ≡ onward (getD edges j 0) (getD periods j 0) x
-    last j e =
-        let w : getD now j 0 ≡ getD edges j 0 = p .waits j (omega arith) in
-        let s : x ≤ getD edges j 0 = rw (← w) (rw e h) in
-        rw (← not-yet x (getD edges j 0) (getD periods j 0) s) (omega (arith, w, zero-mul (getD periods j 0)))
 
 -- a stair that it has passed
 pub pass-on : (periods edges now : List ℕ) (x k v : ℕ) → k < length edges → v ≡ onward (getD now k 0) (getD periods k 0) x → Pass periods edges now x k
     → Pass periods edges (set now k v) x (k + 1)
 pass-on periods edges now x k v h e p =
+    let w : getD now k 0 ≡ getD edges k 0 = p .waits k (le-refl k) in
+    let here : getD (set now k v) k 0 ≡ onward (getD edges k 0) (getD periods k 0) x = getD-set-same now k v 0 (omega (arith, p .long)) ∙ e ∙ ap (λ z. onward z (getD periods k 0) x) w in
     record {
       long = length-set now k v ∙ p .long;
-      gone = λ j g. ⊎-elim (λ (d : suc j ≡ k + 1). last j (omega (arith, d))) (λ l. getD-set-other now k j v 0 (λ d. omega arith) ∙ p .gone j (omega arith)) (eq-or-lt-of-le g);
+      gone = below-more (λ j. getD (set now k v) j 0 ≡ onward (getD edges j 0) (getD periods j 0) x) k (λ j g. getD-set-other now k j v 0 (λ d. omega arith) ∙ p .gone j g) here;
       waits = λ j g. getD-set-other now k j v 0 (λ d. omega arith) ∙ p .waits j (omega arith);
     }
-  where
-    last : (j : ℕ) → j ≡ k → getD (set now k v) j 0 ≡ onward (getD edges j 0) (getD periods j 0) x
-    last j d =
-        rw d (getD-set-same now k v 0 (omega (arith, p .long)) ∙ e ∙ ap (λ z. onward z (getD periods k 0) x) (p .waits k (omega arith)))
 
 -- the height of one stair more, as the pass finds it
 pub pass-height : (costs periods edges now : List ℕ) (x k d : ℕ) → d ≡ ceil (x - getD now k 0) (getD periods k 0) → Pass periods edges now x k

@@ -78,7 +78,7 @@ add-edges-at c = let f = entry (second c) .pre in omega (arith, f .late, f .own 
 
 edges-at-requires-2 : tie.Need-edges-at-requires-2
 edges-at-requires-2 c κs =
-    let f = entry (second c) .pre in (f .few, omega (arith, f .late, f .own .cost), f .own .cost, λ k h. f .urgent k h .jitter)
+    let f = entry (second c) .pre in (f .few, omega (arith, f .late, f .own .cost), omega (arith, f .own .cost), λ k h. f .urgent k h .jitter)
 
 -- the busy period that was found
 found : (c : tie.After-again) → busy (termsOf (entry (second (c .before .before .before .before)) .args .t1)) ≡ At (c .before .before .before .before .before .before .before .found .given .0 .0)

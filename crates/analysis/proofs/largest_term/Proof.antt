@@ -55,7 +55,7 @@ add-count : tie.Need-add-count Inv-loop μ-loop
 add-count c = omega (arith, within (c .before), c .before .pre .0 .own .jitter)
 
 sub-count : tie.Need-sub-count Inv-loop μ-loop
-sub-count c = c .before .before .pre .0 .own .some
+sub-count c = omega (arith, c .before .before .pre .0 .own .some)
 
 add-count-2 : tie.Need-add-count-2 Inv-loop μ-loop
 add-count-2 c = let s = c .before .before in omega (arith, within s, s .pre .0 .own .jitter, s .pre .0 .own .period)

@@ -1,5 +1,5 @@
 -- Each part was gathered for the rules' term of the same place.
-use Rattle.analysis.specs.Stairs as Small
+use native.Mathlib.Omega.{arith}
 use Rattle.analysis.proofs.Fit.{fit-shown}
 use Rattle.rows.proofs.Terms.{terms-are, terms-fit}
 use borrow.Author.Needs.{needs}
@@ -18,7 +18,7 @@ more-urgent-requires c κs = search needs
 highest-requires : tie.Need-highest-requires
 highest-requires c κs =
     let u = c .before .before .before .before in
-    (u .more-urgent .ensures .few, u .before .before .cost .ensures .1, λ k h. u .more-urgent .ensures .fits k h .cost)
+    (omega (arith, u .more-urgent .ensures .few), u .before .before .cost .ensures .1, λ k h. u .more-urgent .ensures .fits k (omega arith) .cost)
 
 wide-gaps-requires : tie.Need-wide-gaps-requires
 wide-gaps-requires c κs = search needs
