@@ -20,7 +20,7 @@ height costs periods edges n x = sumTo (stair costs periods edges x) n
 
 -- the number of stairs there is room for, time's start, and the latest time that is looked at
 abbrev pub most : ℕ
-most = 72
+most = streams + sources
 
 abbrev pub start : ℕ
 start = 2 ^ 33

@@ -8,13 +8,13 @@ ghost use mathlib.Core.Path.{_≡_};
 ghost use Prim.Native.Nat.{ℕ, _+_, _-_, _*_, _^_, _≤_, _<_};
 ghost use lib.ListN.{length, getD};
 ghost use lib.IntN.{pos, _-ℤ_};
-ghost use Rattle.names.specs.Limits.{ticks};
+ghost use Rattle.names.specs.Limits.{streams, sources, ticks};
 ghost use Rattle.laws.specs.Lists.{ceil, every};
 ghost use Rattle.laws.specs.Search.{Least};
 ghost use Rattle.laws.specs.Signed.{maxZ};
 ghost use Rattle.laws.specs.declared.Found.the-variants.{At};
 ghost use Rattle.bound.specs.Bound as rule;
-ghost use Rattle.analysis.specs.Gathered.{termsOf, shareFits, gapFits, fits, answered};
+ghost use Rattle.analysis.specs.Gathered.{termsOf, cost, shareFits, gapFits, fits, answered};
 ghost use Rattle.analysis.specs.Stairs as stairs;
 use bound::Answer;
 use bound::Verdict;
@@ -27,7 +27,7 @@ use names::TICKS;
 pub const COST: u64 = 5000000;
 
 // The more urgent streams and, after them, the noise sources: each a stair of a right side.
-const STAIRS: usize = 72;
+const STAIRS: usize = STREAMS + SOURCES;
 
 // Time is counted from so long before a busy period that no edge of a stair is below zero.
 const START: u64 = 8589934592;
@@ -211,7 +211,7 @@ fn laid(values: &[u64], n: usize, from: usize, onto: [u64; STAIRS]) -> [u64; STA
 
 // Where the stairs start: a stream's `jitter` and `late` before time's start, a noise source's `window` before it.
 fn edges_at(jitters: &[u64; STREAMS], n: usize, late: u64, window: u64) -> [u64; STAIRS]
-    requires { ⌜ (n ≤ 64) × (late ≤ 5000000) × (window ≤ 5000000) × ((k : ℕ) → k < n → getD (now jitters) k 0 ≤ ticks) ⌝ }
+    requires { ⌜ (n ≤ streams) × (late ≤ cost) × (window ≤ cost) × ((k : ℕ) → k < n → getD (now jitters) k 0 ≤ ticks) ⌝ }
     ensures { λ r. ⌜ stairs.Started (now (jitters .entry)) n late window r ⌝ }
 {
     let mut out = [START - window; STAIRS];
@@ -247,7 +247,7 @@ fn shares_fit<'a>(
     periods: &'a [u64; STREAMS],
     jitters: &'a [u64; STREAMS],
 ) -> bool
-    requires { ⌜ n ≤ 64 ⌝ }
+    requires { ⌜ n ≤ streams ⌝ }
     ensures { λ r. ⌜ r ≡ every n (λ k. shareFits (record { C″ = getD (now (costs .entry)) k 0; T = getD (now (periods .entry)) k 0; J = getD (now (jitters .entry)) k 0 })) ⌝ }
 {
     let mut k: usize = 0;
@@ -273,7 +273,7 @@ fn gap_fits(gap: u64) -> bool
 }
 
 fn gaps_fit(n: usize, gaps: &[u64; SOURCES]) -> bool
-    requires { ⌜ n ≤ 8 ⌝ }
+    requires { ⌜ n ≤ sources ⌝ }
     ensures { λ r. ⌜ r ≡ every n (λ k. gapFits (getD (now (gaps .entry)) k 0)) ⌝ }
 {
     let mut k: usize = 0;

@@ -6,6 +6,7 @@ use Prim.Native.Nat.{ℕ, max, _+_, _-_, _^_, _≤_, _<_}
 use native.Mathlib.Omega.{arith}
 use lib.Dec.{ltb}
 use lib.ListN.{length, take, getD}
+use Rattle.names.specs.Limits.{sources}
 use Rattle.laws.specs.Lists.{largestOf, those, rows}
 use Rattle.laws.proofs.Lists.{largest-those, largest-map, rows-map, rows-same, rows-take}
 use Rattle.bound.specs.Terms.{Share, Terms}
@@ -49,7 +50,7 @@ module _ (s : Sheet) (c : Frame) (i : Stream) (fine : Fine s) (framed : Framed (
       ∙ ap (largestOf (λ j. j .C″)) (g .is ∙ urgent-is)
       ∙ largest-map (λ j. j .C″) (rule.share (planOf s)) (rule.hp (planOf s) i)
 
-  gaps-are : (gaps : List ℕ) → ((k : ℕ) → k < 8 → getD gaps k 0 ≡ getD (s .gaps) k 0) → rows (s .sources) (λ k. getD gaps k 0) ≡ take (s .sources) (s .gaps)
+  gaps-are : (gaps : List ℕ) → ((k : ℕ) → k < sources → getD gaps k 0 ≡ getD (s .gaps) k 0) → rows (s .sources) (λ k. getD gaps k 0) ≡ take (s .sources) (s .gaps)
   gaps-are gaps h =
       rows-same (s .sources) _ (λ k. getD (s .gaps) k 0) (λ k l. h k (omega (arith, fine .quiet))) ∙ rows-take (s .gaps) 0 (s .sources) (fine .gaps-long)
 
@@ -57,7 +58,7 @@ module _ (s : Sheet) (c : Frame) (i : Stream) (fine : Fine s) (framed : Framed (
       (eb : (b ≡ largestOf (blocks (c .u) p) (take (s .count) (s .streams))) × (b ≤ cost)) (eo : (own ≡ c .v + (i .payload + c .u)) × (own ≤ cost))
       (ep : (period ≡ i .period) × (period < 2 ^ 32)) (ej : (jitter ≡ i .jitter) × (jitter < 2 ^ 32)) (eu : Gathers s c p u)
       (eh : (hit ≡ max own (largestOf (λ x. x) (rows (u .count) (λ k. getD (u .costs) k 0)))) × (hit ≤ cost))
-      (eg : (k : ℕ) → k < 8 → getD gaps k 0 ≡ getD (s .gaps) k 0) where
+      (eg : (k : ℕ) → k < sources → getD gaps k 0 ≡ getD (s .gaps) k 0) where
     abbrev gathered : Gathered
     gathered =
         record {

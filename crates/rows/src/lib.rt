@@ -7,6 +7,7 @@ ghost use mathlib.Core.Path.{_≡_};
 ghost use mathlib.Core.Bool.{true};
 ghost use Prim.Native.Nat.{ℕ, _+_, _-_, _*_, _^_, _≤_, _<_, max};
 ghost use lib.ListN.{length, take, getD};
+ghost use Rattle.names.specs.Limits.{streams, sources, constant, payload, bits};
 ghost use Rattle.laws.specs.Lists.{largestOf, rows};
 ghost use Rattle.plan.specs.Plan.{planOf, blank, TimingWithin, StreamWithin};
 ghost use Rattle.plan.specs.Rules as rule;
@@ -59,7 +60,7 @@ fn greater(a: u64, b: u64) -> u64
 
 // The pulses of the priority bits but one.
 fn pulses(h: u64, g: u64, nb: u64) -> u64
-    requires { ⌜ (h ≤ 65535) × (g ≤ 65535) × (1 ≤ nb) × (nb ≤ 32) ⌝ }
+    requires { ⌜ (h ≤ constant) × (g ≤ constant) × (1 ≤ nb) × (nb ≤ bits) ⌝ }
     ensures { λ r. ⌜ (r ≡ (h + g) * (nb - 1)) × (r ≤ 4063170) ⌝ }
 {
     (h + g) * (nb - 1)
@@ -79,7 +80,7 @@ fn frame_of(t: Timing) -> Frame
 
 // C'' of a stream.
 fn cost(s: Stream, c: Frame) -> u64
-    requires { ⌜ (s .payload ≤ 65535) × (c .v + c .u ≤ gather.most) ⌝ }
+    requires { ⌜ (s .payload ≤ payload) × (c .v + c .u ≤ gather.most) ⌝ }
     ensures { λ r. ⌜ (r ≡ c .v + (s .payload + c .u)) × (r ≤ terms.cost) ⌝ }
 {
     c.v + (wide(s.payload) + c.u)
@@ -87,7 +88,7 @@ fn cost(s: Stream, c: Frame) -> u64
 
 // C' - 1 of a stream j that is less urgent than i, else 0.
 fn blocks(j: Stream, c: Frame, i: Stream) -> u64
-    requires { ⌜ (1 ≤ j .payload) × (j .payload ≤ 65535) × (c .v + c .u ≤ gather.most) ⌝ }
+    requires { ⌜ (1 ≤ j .payload) × (j .payload ≤ payload) × (c .v + c .u ≤ gather.most) ⌝ }
     ensures { λ r. ⌜ (r ≡ gather.blocks (c .u) (i .priority .0) j) × (r ≤ terms.cost) ⌝ }
 {
     if i.priority.0 < j.priority.0 {
@@ -144,7 +145,7 @@ fn more_urgent(s: Sheet, c: Frame, i: Stream) -> Urgent
 
 // The largest of `own` and the first n costs.
 fn highest(own: u64, n: usize, costs: &[u64; STREAMS]) -> u64
-    requires { ⌜ (n ≤ 64) × (own ≤ terms.cost) × ((k : ℕ) → k < n → getD (now costs) k 0 ≤ terms.cost) ⌝ }
+    requires { ⌜ (n ≤ streams) × (own ≤ terms.cost) × ((k : ℕ) → k < n → getD (now costs) k 0 ≤ terms.cost) ⌝ }
     ensures { λ r. ⌜ (r ≡ max own (largestOf (λ x. x) (rows n (λ k. getD (now (costs .entry)) k 0)))) × (r ≤ terms.cost) ⌝ }
 {
     let mut best = own;
@@ -157,7 +158,7 @@ fn highest(own: u64, n: usize, costs: &[u64; STREAMS]) -> u64
 }
 
 fn wide_gaps(gaps: [u32; SOURCES]) -> [u64; SOURCES]
-    ensures { λ r. ⌜ ((k : ℕ) → k < 8 → getD r k 0 ≡ getD gaps k 0) ⌝ }
+    ensures { λ r. ⌜ ((k : ℕ) → k < sources → getD r k 0 ≡ getD gaps k 0) ⌝ }
 {
     let mut out = [0u64; SOURCES];
     let mut k: usize = 0;
@@ -218,7 +219,7 @@ fn row_answer(s: Sheet, c: Frame, i: Stream) -> Answer
 // Each row's answer in file order; the places after them are none.
 fn filled(s: Sheet, c: Frame) -> [Answer; STREAMS]
     requires { ⌜ (gather.Fine s) × (gather.Framed (s .timing) c) ⌝ }
-    ensures { λ r. ⌜ r ≡ answersThen (planOf s) (64 - s .count) ⌝ }
+    ensures { λ r. ⌜ r ≡ answersThen (planOf s) (streams - s .count) ⌝ }
 {
     let n = s.count;
     let none = Answer {
