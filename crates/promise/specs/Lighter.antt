@@ -1,0 +1,71 @@
+-- When a second plan, `new`, is lighter than a first, `old`, and what that promises; proved in proofs/Promise.antt.
+use mathlib.Core.Path.{_≡_}
+use Prim.Native.Nat.{ℕ, _≤_, _<_}
+use lib.ListN.{length, getD}
+use Rattle.laws.specs.declared.Found.the-variants.{At}
+use Rattle.bound.specs.Bound.{busy, bound}
+use Rattle.bound.specs.declared.Verdict.the-variants.{Met}
+use Rattle.cover.specs.Cover.{Partnered}
+use Rattle.plan.specs.declared.Timing.{Timing}
+use Rattle.plan.specs.declared.Stream.{Stream}
+use Rattle.plan.specs.Plan.{Plan, blank}
+use Rattle.plan.specs.Rules.{terms, rowAnswer}
+use Rattle.checks.specs.Claims.{Right}
+
+-- the stream in row k of a plan
+abbrev pub at : Plan → ℕ → Stream
+at p k = getD (p .streams) k blank
+
+-- two streams are under one label
+abbrev pub Namesakes : Stream → Stream → Type 0
+Namesakes a b = a .label .0 ≡ b .label .0
+
+-- no timing constant, nor the number of priority bits, is greater
+pub record NoGreater (old new : Timing) : Type 0 where
+  pub f : new .f ≤ old .f
+  pub e : new .e ≤ old .e
+  pub tfcs : new .tfcs ≤ old .tfcs
+  pub swx : new .swx ≤ old .swx
+  pub h : new .h ≤ old .h
+  pub g : new .g ≤ old .g
+  pub etg : new .etg ≤ old .etg
+  pub lag : new .lag ≤ old .lag
+  pub nb : new .nb ≤ old .nb
+
+-- period and deadline are no shorter, jitter and payload no longer
+pub record Eased (old new : Stream) : Type 0 where
+  pub period : old .period ≤ new .period
+  pub deadline : old .deadline ≤ new .deadline
+  pub jitter : new .jitter ≤ old .jitter
+  pub payload : new .payload ≤ old .payload
+
+-- row k of the second plan stands in row r of the first
+pub record Stands (old new : Plan) (k r : ℕ) : Type 0 where
+  pub among : r < length (old .streams)
+  pub label : Namesakes (at new k) (at old r)
+  pub eased : Eased (at old r) (at new k)
+
+pub record Lighter (old new : Plan) : Type 0 where
+  pub timing : NoGreater (old .timing) (new .timing)
+  -- each stream of the second stands in the first under its label
+  pub row : (k : ℕ) → k < length (new .streams) → ℕ
+  pub stands : (k : ℕ) (h : k < length (new .streams)) → Stands old new k (row k h)
+  -- in the same order of priority
+  pub order : (j k : ℕ) (h : j < length (new .streams)) (i : k < length (new .streams)) → at new j .priority .0 < at new k .priority .0
+      → at old (row j h) .priority .0 < at old (row k i) .priority .0
+  -- each noise source of the second has its own partner in the first, with a gap no shorter
+  pub gaps : Partnered (λ gap partner. partner ≤ gap) (new .gaps) (old .gaps)
+
+-- a plan that is not refused
+abbrev pub NotRefused : Plan → Type 0
+NotRefused p = Right (length (p .streams)) (length (p .gaps)) p
+
+-- each stream of the second that has a bound in the first has one in the second, no larger, and "met" stays "met"
+pub record Kept (old new : Plan) (k r : ℕ) : Type 0 where
+  pub bound : (L : ℕ) → busy (terms old (at old r)) ≡ At L
+      → (K : ℕ) × (busy (terms new (at new k)) ≡ At K) × (bound (terms new (at new k)) K ≤ bound (terms old (at old r)) L)
+  pub met : rowAnswer old (at old r) .verdict ≡ Met → rowAnswer new (at new k) .verdict ≡ Met
+
+abbrev pub LighterKeeps : Type 0
+LighterKeeps =
+    (old new : Plan) → NotRefused old → NotRefused new → (l : Lighter old new) (k : ℕ) (h : k < length (new .streams)) → Kept old new k (l .row k h)
