@@ -2,14 +2,14 @@
 use mathlib.Core.Path.{_≡_, refl, sym, ap, ap₂, _∙_, subst}
 use mathlib.Core.Bool.{Bool, true, false, cond, _&&_}
 use mathlib.Core.Logic.{⊎-elim}
-use mathlib.Core.List.{List, [], _∷_, _++_, map, map-append}
+use mathlib.Core.List.{List, [], _∷_, _++_, map, map-append, append-assoc}
 use Prim.Native.Nat.{ℕ, zero, suc, _+_, _-_, _*_, max, _≤_, _<_}
-use native.Mathlib.Nat.{le-refl, add-le-add, zero-mul, add-mul, suc-mul, add-zero, add-suc, suc-inj, eq-or-lt-of-le}
+use native.Mathlib.Nat.{le-refl, add-le-add, zero-mul, add-mul, suc-mul, add-zero, add-suc, sub-zero, suc-inj, eq-or-lt-of-le}
 use native.Mathlib.Numerals.{add-one}
 use native.Mathlib.Omega.{arith}
 use lib.Dec.{T}
-use lib.ListN.{length, getD, take, length-append}
-use lib.Seq.{take-suc}
+use lib.ListN.{length, getD, set, take, replicate, length-append}
+use lib.Seq.{take-suc, set-at}
 use Rattle.laws.specs.Lists.{sumOf, largestOf, those, rows, sumTo, every}
 
 -- ---- is it more where each is more?
@@ -197,6 +197,16 @@ every-fails t n k h e = go (every n t) refl
     go : (b : Bool) → every n t ≡ b → b ≡ false
     go true d = sym (every-each t n d k h) ∙ e
     go false d = refl
+
+-- ---- places that are laid from the front, one row a turn, over places that hold one value
+pub lay-none : {A : Type 0} (f : ℕ → A) (y : A) (n : ℕ) → replicate n y ≡ rows 0 f ++ replicate (n - 0) y
+unfolding rows
+lay-none f y n = ap (λ k. replicate k y) (sym (sub-zero n))
+
+pub lay-more : {A : Type 0} (f : ℕ → A) (y : A) (n k : ℕ) → k < n → set (rows k f ++ replicate (n - k) y) k (f k) ≡ rows (k + 1) f ++ replicate (n - (k + 1)) y
+lay-more f y n k h =
+    let s : n - k ≡ suc (n - (k + 1)) = omega arith in
+    rw (s, set-at (rows k f) y (replicate (n - (k + 1)) y) (f k) k (length-rows k f), rows-more, append-assoc) refl
 
 -- ---- a function of each
 pub rows-map : {A B : Type 0} (g : A → B) (n : ℕ) (f : ℕ → A) → map g (rows n f) ≡ rows n (λ k. g (f k))

@@ -1,13 +1,15 @@
 -- Answers laid one after the other, and what a sheet that is fine gives the analysis. Assumes nothing.
-use mathlib.Core.Path.{_≡_, refl, sym, ap, _∙_}
-use mathlib.Core.List.{List, [], _∷_, _++_, map, map-append, append-assoc}
-use Prim.Native.Nat.{ℕ, suc, _+_, _-_, _≤_, _<_}
-use native.Mathlib.Numerals.{add-one}
+use mathlib.Core.Path.{_≡_, sym, ap, _∙_}
+use mathlib.Core.List.{List, map}
+use Prim.Native.Nat.{_-_, _≤_}
 use native.Mathlib.Omega.{arith}
-use lib.ListN.{length, take, getD, set, replicate, length-map, length-take}
-use lib.Seq.{take-suc, set-at, getD-take, length-take-le}
+use lib.ListN.{length, getD, replicate, length-take}
+use lib.Seq.{getD-take}
+use Rattle.laws.specs.Lists.{rows}
+use Rattle.laws.proofs.Lists.{rows-map, rows-take}
 use Rattle.plan.specs.declared.Sheet.{Sheet}
-use Rattle.plan.specs.Plan.{planOf, blank, Within, StreamWithin, GapWithin}
+use Rattle.plan.specs.Plan.{planOf, blank}
+use Rattle.plan.specs.Rules.{rowAnswer, answers}
 use Rattle.names.specs.Limits.{streams}
 use Rattle.names.specs.declared.Refusal.{Refusal}
 use Rattle.bound.specs.declared.Answer.{Answer}
@@ -19,14 +21,10 @@ use Rattle.rows.specs.declared.Answers.{Answers}
 use Rattle.rows.specs.Answers.{noAnswer, answersThen, answersIf, answersOf}
 use Rattle.rows.specs.Gather as gather
 
--- one more of a list, mapped, at the front of n places
-pub fill-more : {A B : Type 0} (f : A → B) (l : List A) (d : A) (n k : ℕ) (b v : B) (out : List B) → k < n → k < length l
-    → out ≡ map f (take k l) ++ replicate (n - k) b → v ≡ f (getD l k d) → set out k v ≡ map f (take (k + 1) l) ++ replicate (n - (k + 1)) b
-fill-more f l d n k b v out h g e i =
-    let m : n - k ≡ suc (n - (k + 1)) = omega arith in
-    let s : length (map f (take k l)) ≡ k = length-map (take k l) f ∙ length-take-le k l (omega arith) in
-    let t : map f (take (k + 1) l) ≡ map f (take k l) ++ (f (getD l k d) ∷ []) = ap (map f) (ap (λ j. take j l) (add-one k) ∙ take-suc l k d g) ∙ map-append f (take k l) (getD l k d ∷ []) in
-    rw (e, i, m, t) (set-at (map f (take k l)) b (replicate (n - (k + 1)) b) (f (getD l k d)) k s ∙ sym (append-assoc (map f (take k l)) (f (getD l k d) ∷ []) (replicate (n - (k + 1)) b)))
+-- the answers of a plan's rows, row by row
+pub answers-are : (s : Sheet) → s .count ≤ length (s .streams) → rows (s .count) (λ k. rowAnswer (planOf s) (getD (s .streams) k blank)) ≡ answers (planOf s)
+answers-are s h =
+    sym (rows-map (rowAnswer (planOf s)) (s .count) (λ k. getD (s .streams) k blank)) ∙ ap (map (rowAnswer (planOf s))) (rows-take (s .streams) blank (s .count) h)
 
 -- a sheet that is fine, place by place
 pub fine-places : (s : Sheet) → checkedOf s ≡ Fine → gather.Fine s

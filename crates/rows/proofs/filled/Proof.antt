@@ -1,26 +1,29 @@
 -- Each turn lays one row's answer.
 use borrow.Author.Needs.{needs}
-use mathlib.Core.Path.{_≡_, refl, ap, _∙_}
-use mathlib.Core.List.{_++_, map}
+use mathlib.Core.Path.{_≡_, ap, _∙_}
+use mathlib.Core.List.{_++_}
 use Prim.Native.Nat.{_-_, _≤_}
 use native.Mathlib.Omega.{arith}
-use lib.ListN.{take, replicate}
+use lib.ListN.{getD, replicate}
+use Rattle.names.specs.Limits.{streams}
+use Rattle.laws.specs.Lists.{rows}
+use Rattle.laws.proofs.Lists.{lay-none, lay-more}
 use Rattle.plan.specs.Plan.{planOf, blank}
 use Rattle.plan.specs.Rules.{rowAnswer}
 use Rattle.rows.specs.Answers.{noAnswer}
-use Rattle.rows.proofs.Places.{fill-more}
+use Rattle.rows.proofs.Places.{answers-are}
 use Rattle.rows.proofs.filled.Statement.{statement}
 use Rattle.rows.proofs.filled.Tie as tie
 
 abbrev Inv-loop : tie.InvT-loop
 Inv-loop c s n out₀ k₀ out k =
-    (k ≤ n) × (out ≡ map (rowAnswer (planOf s)) (take k (s .streams)) ++ replicate (64 - k) noAnswer)
+    (k ≤ n) × (out ≡ rows k (λ j. rowAnswer (planOf s) (getD (s .streams) j blank)) ++ replicate (streams - k) noAnswer)
 
 abbrev μ-loop : tie.MeasureT-loop
 μ-loop c s n out₀ k₀ out k = n - k
 
 loop-holds : tie.Need-loop-holds Inv-loop μ-loop
-loop-holds c = (omega arith, refl)
+loop-holds c = (omega arith, lay-none _ noAnswer streams)
 
 mul-i : tie.Need-mul-i Inv-loop μ-loop
 mul-i c = search needs
@@ -50,13 +53,15 @@ loop-again c =
     let d = c .before .before in
     let l = d .before .loop in
     let s = d .before .before in
-    (omega arith, fill-more (rowAnswer (planOf (s .args .t1))) (s .args .t1 .streams) blank 64 (l .k) noAnswer _ _ (omega (arith, s .pre .0 .few)) (omega (arith, s .pre .0 .long)) (l .inv .1) (c .row-answer .ensures))
+    (omega arith, rw (l .inv .1, c .row-answer .ensures) (lay-more _ noAnswer streams (l .k) (omega (arith, s .pre .0 .few))))
 
 returns : tie.Need-returns Inv-loop μ-loop
 returns c =
     let a = c .before .before .args in
     let e : c .before .loop .k ≡ a .t1 .count = omega arith in
-    c .before .loop .inv .1 ∙ ap (λ k. map (rowAnswer (planOf (a .t1))) (take k (a .t1 .streams)) ++ replicate (64 - k) noAnswer) e
+    let f = c .before .before .pre .0 in
+    c .before .loop .inv .1 ∙ ap (λ k. rows k (λ j. rowAnswer (planOf (a .t1)) (getD (a .t1 .streams) j blank)) ++ replicate (streams - k) noAnswer) e
+    ∙ ap (λ l. l ++ replicate (streams - a .t1 .count) noAnswer) (answers-are (a .t1) (f .long))
 
 pub filled-spec : {M : Type 1} → statement M
 filled-spec =
