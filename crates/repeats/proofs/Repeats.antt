@@ -1,10 +1,10 @@
 -- What the lowest repeat means: `first` and `some` mean what they say, and the values are compared as numbers.
 -- Assumes nothing.
-use mathlib.Core.Path.{_≡_, refl, sym, ap, _∙_, subst}
-use mathlib.Core.Bool.{Bool, true, false, true≢false}
+use mathlib.Core.Path.{_≡_, refl, sym, ap, _∙_}
+use mathlib.Core.Bool.{true, true≢false}
 use mathlib.Core.List.{List}
-use mathlib.Core.Logic.{_⊎_, inl, inr, ⊎-elim}
-use Prim.Native.Nat.{ℕ, zero, suc, _+_, _≤_, _<_}
+use mathlib.Core.Logic.{⊎-elim}
+use Prim.Native.Nat.{ℕ, _≤_, _<_}
 use native.Mathlib.Nat.{eq-or-lt-of-le, lt-of-not-le}
 use native.Mathlib.Decide.{decLe}
 use native.Mathlib.Omega.{arith}
@@ -14,10 +14,7 @@ use lib.ListN.{length, getD}
 use Rattle.names.specs.declared.Row.{Row}
 use Rattle.laws.specs.declared.Found.{Found}
 use Rattle.laws.specs.declared.Found.the-variants.{At as Found·At, Nothing as Found·Nothing}
-use Rattle.laws.specs.Search.{first}
-use Rattle.repeats.specs.declared.Repeat.{Repeat}
 use Rattle.repeats.specs.declared.Repeat.the-variants.{At, Nothing}
-use Rattle.repeats.specs.Rows.{Lowest}
 use Rattle.repeats.specs.Repeats.{repeatsAt, rowOf, firstRepeat, Repeats, AtTheLowest, NothingIfDistinct}
 use Rattle.repeats.proofs.Rows.{is-false, not-below, some-passes, finds-lowest, finds-nothing}
 

@@ -1,8 +1,8 @@
 -- Both loops leave at the first pair of rows with one value, so no row behind the outer one repeats an earlier row. Assumes nothing.
-use mathlib.Core.Path.{_≡_, refl, sym, ap, _∙_}
+use mathlib.Core.Path.{sym, ap}
 use mathlib.Core.Bool.{Bool}
 use mathlib.Core.List.{List}
-use Prim.Native.Nat.{ℕ, _-_, _≤_, _<_}
+use Prim.Native.Nat.{ℕ, _-_, _≤_}
 use native.Mathlib.Omega.{arith}
 use borrow.Author.Tests.{eq-eqb, ne-eqb}
 use lib.Dec.{eqb}
@@ -12,8 +12,6 @@ use Rattle.repeats.proofs.Rows.{NoneBelow, none-yet, none-more, some-at
 use borrow.Author.Needs.{needs}
 use Rattle.repeats.proofs.first_repeat.Statement.{statement}
 use Rattle.repeats.proofs.first_repeat.Tie as tie
-use Rattle.repeats.proofs.first_repeat.Reads as reads
-use Rattle.repeats.proofs.first_repeat.Lts as lts
 
 -- row j has the value of row i
 abbrev alike : List ℕ → ℕ → ℕ → Bool

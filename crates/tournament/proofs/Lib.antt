@@ -1,0 +1,5 @@
+pub mod Turns
+pub mod Bits
+pub mod Parts
+pub mod Readiness
+pub mod Unique

@@ -1,0 +1,88 @@
+-- The loop leaves at the first marked contender with a 0, so no row behind it is one. Assumes nothing.
+use mathlib.Core.Path.{_≡_, refl, sym, _∙_}
+use mathlib.Core.Bool.{Bool, false, _&&_}
+use mathlib.Core.Logic.{⊎-elim}
+use Prim.Native.Nat.{ℕ, _-_, _≤_}
+use native.Mathlib.Omega.{arith}
+use borrow.Author.Tests.{eq-eqb, ne-eqb}
+use Rattle.repeats.proofs.Rows.{NoneBelow, none-yet, none-more, some-at, some-none}
+use Rattle.tournament_state.specs.declared.Tournament.{Tournament}
+use Rattle.tournament.specs.Rule.{isIn, hasZero, heardAt}
+use borrow.Author.Needs.{needs}
+use Rattle.tournament.proofs.heard.Statement.{statement}
+use Rattle.tournament.proofs.heard.Tie as tie
+
+-- row i is marked and has a 0
+abbrev calls : Tournament → ℕ → ℕ → Bool
+calls t k i = isIn t i && hasZero t k i
+
+abbrev Inv-loop : tie.InvT-loop
+Inv-loop k t bits count i₀ i = (i ≤ count) × NoneBelow (calls t k) i
+
+abbrev μ-loop : tie.MeasureT-loop
+μ-loop k t bits count i₀ i = count - i
+
+loop-holds : tie.Need-loop-holds Inv-loop μ-loop
+loop-holds c = (search needs, none-yet _)
+
+mul-p : tie.Need-mul-p Inv-loop μ-loop
+mul-p c = search needs
+
+element-copy-out-p : tie.Need-element-copy-out-p Inv-loop μ-loop
+element-copy-out-p c = search needs
+
+element-copy-out-if1 : tie.Need-element-copy-out-if1 Inv-loop μ-loop
+element-copy-out-if1 c = search needs
+
+bit-requires : tie.Need-bit-requires Inv-loop μ-loop
+bit-requires c κs = search needs
+
+returns : tie.Need-returns Inv-loop μ-loop
+unfolding heardAt
+returns c =
+    let m = c .before .before in
+    let l = m .before .before .before .before .loop in
+    let a = m .before .before .before .before .before .args in
+    let zero = eq-eqb _ _ (sym (c .before .bit .ensures) ∙ c .if2 .taken) in
+    sym (some-at (calls (a .t1) (a .k)) (a .t1 .count) (l .i) (search needs) (rw (m .if1 .taken, zero) refl))
+
+add-i : tie.Need-add-i Inv-loop μ-loop
+add-i c = search needs
+
+loop-less : tie.Need-loop-less Inv-loop μ-loop
+loop-less c = search needs
+
+loop-again : tie.Need-loop-again Inv-loop μ-loop
+loop-again c =
+    let l = c .before .before .before .before .loop in
+    let a = c .before .before .before .before .before .args in
+    let silent : calls (a .t1) (a .k) (l .i) ≡ false =
+    ⊎-elim
+    (λ w. rw (w .0 .taken, ne-eqb _ _ (λ z. w .2 .left (w .1 .ensures ∙ z))) refl)
+    (λ w. rw (w .left) refl)
+    (c .if1 .came) in
+    (omega arith, none-more _ (l .i) (l .inv .1) silent)
+
+returns-2 : tie.Need-returns-2 Inv-loop μ-loop
+unfolding heardAt
+returns-2 c =
+    let l = c .before .loop in
+    let a = c .before .before .args in
+    sym (some-none (calls (a .t1) (a .k)) (a .t1 .count) (l .i) (l .inv .1) (search needs))
+
+pub heard-spec : {M : Type 1} → statement M
+heard-spec =
+    tie.close
+    (tie.spec
+    Inv-loop
+    μ-loop
+    loop-holds
+    mul-p
+    element-copy-out-p
+    element-copy-out-if1
+    bit-requires
+    returns
+    add-i
+    loop-less
+    loop-again
+    returns-2)

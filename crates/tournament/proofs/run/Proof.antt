@@ -1,0 +1,78 @@
+-- After so many turns the state is that after so many steps, and it stays ready for one more. Assumes nothing.
+use mathlib.Core.Path.{_≡_, refl, sym, ap, _∙_}
+use Prim.Native.Nat.{_-_, _≤_}
+use native.Mathlib.Omega.{arith}
+use Rattle.tournament_state.specs.declared.Answer.the-variants.{Done}
+use Rattle.tournament.specs.Rule.{next, steps}
+use Rattle.tournament.specs.Answers.{judgedOf, runOf}
+use Rattle.tournament.proofs.Readiness.{ready-done, ready-steps, steps-more, outcome-done, outcome-refused}
+use borrow.Author.Needs.{needs}
+use Rattle.tournament.proofs.run.Statement.{statement}
+use Rattle.tournament.proofs.run.Tie as tie
+
+abbrev Inv-loop : tie.InvT-loop
+Inv-loop bits now₀ counter₀ now counter = (counter ≤ bits) × (now ≡ steps counter now₀)
+
+abbrev μ-loop : tie.MeasureT-loop
+μ-loop bits now₀ counter₀ now counter = bits - counter
+
+judged-done : (c : tie.After-enum-told Inv-loop μ-loop) → judgedOf (c .before .before .before .args .t) ≡ Done
+judged-done c = sym (c .before .before .judged .ensures) ∙ c .enum-told .given .1
+
+judged-requires : tie.Need-judged-requires Inv-loop μ-loop
+judged-requires c κs = search needs
+
+enum-told : tie.Need-enum-told Inv-loop μ-loop
+enum-told c = search needs
+
+loop-holds : tie.Need-loop-holds Inv-loop μ-loop
+unfolding steps
+loop-holds c = search needs
+
+next-requires : tie.Need-next-requires Inv-loop μ-loop
+next-requires c κs =
+    let l = c .before .loop in
+    rw (l .inv .1) (ready-steps _ (ready-done _ (judged-done (c .before .before))) (l .counter))
+
+add-counter : tie.Need-add-counter Inv-loop μ-loop
+add-counter c = search needs
+
+loop-less : tie.Need-loop-less Inv-loop μ-loop
+loop-less c = search needs
+
+loop-again : tie.Need-loop-again Inv-loop μ-loop
+loop-again c =
+    let l = c .before .before .loop in
+    (omega arith, c .next .ensures ∙ ap next (l .inv .1) ∙ sym (steps-more (l .counter) _))
+
+enum-known-no : tie.Need-enum-known-no Inv-loop μ-loop
+enum-known-no c = search needs
+
+returns : tie.Need-returns Inv-loop μ-loop
+unfolding runOf
+returns c =
+    let l = c .before .loop in
+    let t = c .before .before .before .before .before .args .t in
+    let e : l .counter ≡ t .bits = omega arith in
+    outcome-done _ _ _ _ (judged-done (c .before .before)) (l .inv .1 ∙ ap (λ k. steps k t) e)
+
+returns-2 : tie.Need-returns-2 Inv-loop μ-loop
+unfolding runOf
+returns-2 c = outcome-refused _ _ _ _ _ (sym (c .before .before .before .judged .ensures) ∙ c .before .no .given .1) refl
+
+pub run-spec : {M : Type 1} → statement M
+run-spec =
+    tie.close
+    (tie.spec
+    Inv-loop
+    μ-loop
+    judged-requires
+    enum-told
+    loop-holds
+    next-requires
+    add-counter
+    loop-less
+    loop-again
+    enum-known-no
+    returns
+    returns-2)

@@ -1,0 +1,53 @@
+-- A start meets the verdict on its own state first. Assumes nothing.
+use mathlib.Core.Path.{_≡_, sym, _∙_}
+use Rattle.tournament_state.specs.declared.Phase.the-variants.{AtBit}
+use Rattle.tournament_state.specs.declared.Answer.the-variants.{Done}
+use Rattle.tournament_state.specs.Refusals.{verdictOf}
+use Rattle.tournament_state.proofs.Meaning.{done-limits}
+use Rattle.tournament.specs.Answers.{nobody, startOf}
+use Rattle.tournament.proofs.Readiness.{outcome-done, outcome-refused}
+use borrow.Author.Needs.{needs}
+use Rattle.tournament.proofs.start.Statement.{statement}
+use Rattle.tournament.proofs.start.Tie as tie
+
+verdict-done : (c : tie.After-enum-told) → let a = c .before .before .before .args in verdictOf (a .bits) (a .count) (a .priorities) (AtBit 1) ≡ Done
+verdict-done c = sym (c .before .before .verdict .ensures) ∙ c .enum-told .given .1
+
+verdict-requires : tie.Need-verdict-requires
+verdict-requires c κs = search needs
+
+enum-told : tie.Need-enum-told
+enum-told c = search needs
+
+begun-requires : tie.Need-begun-requires
+begun-requires c κs =
+    let a = c .before .before .before .args in
+    done-limits (a .bits) (a .count) (a .priorities) (AtBit 1) (verdict-done c) .few
+
+enum-known-no : tie.Need-enum-known-no
+enum-known-no c = search needs
+
+nobody-requires : tie.Need-nobody-requires
+nobody-requires c κs = search needs
+
+returns : tie.Need-returns
+unfolding startOf
+returns c = outcome-done _ nobody _ _ (verdict-done (c .before)) (c .begun .ensures)
+
+returns-2 : tie.Need-returns-2
+unfolding startOf
+returns-2 c =
+    let n = c .before .before in
+    outcome-refused _ nobody _ _ _ (sym (n .before .before .verdict .ensures) ∙ n .no .given .1) (c .nobody .ensures)
+
+pub start-spec : {M : Type 1} → statement M
+start-spec =
+    tie.close
+    (tie.spec
+    verdict-requires
+    enum-told
+    begun-requires
+    enum-known-no
+    nobody-requires
+    returns
+    returns-2)

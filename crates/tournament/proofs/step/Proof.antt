@@ -1,0 +1,35 @@
+-- A state that is not refused is ready for a step. Assumes nothing.
+use mathlib.Core.Path.{_≡_, refl, sym, _∙_}
+use Rattle.tournament_state.specs.declared.Answer.the-variants.{Done}
+use Rattle.tournament.specs.Answers.{judgedOf, stepOf}
+use Rattle.tournament.proofs.Readiness.{ready-done, outcome-done, outcome-refused}
+use borrow.Author.Needs.{needs}
+use Rattle.tournament.proofs.step.Statement.{statement}
+use Rattle.tournament.proofs.step.Tie as tie
+
+judged-done : (c : tie.After-enum-told) → judgedOf (c .before .before .before .args .t) ≡ Done
+judged-done c = sym (c .before .before .judged .ensures) ∙ c .enum-told .given .1
+
+judged-requires : tie.Need-judged-requires
+judged-requires c κs = search needs
+
+enum-told : tie.Need-enum-told
+enum-told c = search needs
+
+next-requires : tie.Need-next-requires
+next-requires c κs = ready-done _ (judged-done c)
+
+enum-known-no : tie.Need-enum-known-no
+enum-known-no c = search needs
+
+returns : tie.Need-returns
+unfolding stepOf
+returns c = outcome-done _ _ _ _ (judged-done (c .before)) (c .next .ensures)
+
+returns-2 : tie.Need-returns-2
+unfolding stepOf
+returns-2 c = outcome-refused _ _ _ _ _ (sym (c .before .before .before .judged .ensures) ∙ c .before .no .given .1) refl
+
+pub step-spec : {M : Type 1} → statement M
+step-spec =
+    tie.close (tie.spec judged-requires enum-told next-requires enum-known-no returns returns-2)

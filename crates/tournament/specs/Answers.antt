@@ -1,0 +1,76 @@
+-- What each call answers: the refusal of document 01 and the state as it was, or the state by the rule.
+use mathlib.Core.Bool.{true, false, not}
+use mathlib.Core.List.{List}
+use Prim.Native.Nat.{ℕ}
+use lib.Dec.{eqb}
+use lib.ListN.{replicate}
+use Rattle.names.specs.declared.Priority.{Priority}
+use Rattle.names.specs.Limits.{contenders}
+use Rattle.laws.specs.declared.Found.{Found}
+use Rattle.laws.specs.declared.Found.the-variants.{At as Found·At, Nothing as Found·Nothing}
+use Rattle.laws.specs.Search.{first}
+use Rattle.tournament_state.specs.declared.Phase.{Phase}
+use Rattle.tournament_state.specs.declared.Phase.the-variants.{AtBit, Finished, NoWinner}
+use Rattle.tournament_state.specs.declared.Tournament.{Tournament}
+use Rattle.tournament_state.specs.declared.Answer.{Answer}
+use Rattle.tournament_state.specs.declared.Answer.the-variants.{Done, Refused}
+use Rattle.tournament_state.specs.Refusals.{none, verdictOf, pairVerdictOf}
+use Rattle.tournament.specs.declared.Outcome.{Outcome}
+use Rattle.tournament.specs.declared.Carrier.{Carrier}
+use Rattle.tournament.specs.declared.Carrier.the-variants.{Heard, NotHeard, Refused as Carrier·Refused}
+use Rattle.tournament.specs.declared.Parting.{Parting}
+use Rattle.tournament.specs.declared.Parting.the-variants.{At as Parting·At, Refused as Parting·Refused}
+use Rattle.tournament.specs.Rule.{bitAt, begunOf, heardAt, next, steps}
+
+-- the verdict on a state
+abbrev pub judgedOf : Tournament → Answer
+judgedOf t = verdictOf (t .bits) (t .count) (t .priorities) (t .phase)
+
+-- a refused call hands the state back as it was
+abbrev pub outcome : Answer → Tournament → Tournament → Outcome
+outcome Done before after = record { tournament = after; answer = Done }
+outcome (Refused refusal) before after = record { tournament = before; answer = Refused refusal }
+
+-- a refused start has no state: no bits, no contenders, no winner
+abbrev pub nobody : Tournament
+nobody = record { bits = 0; count = 0; priorities = replicate contenders none; marks = replicate contenders false; phase = NoWinner }
+
+-- a start meets 7, 8 and 9 as its state would
+unfoldable pub startOf : ℕ → ℕ → List Priority → Outcome
+startOf NB n places = outcome (verdictOf NB n places (AtBit 1)) nobody (begunOf NB n places)
+
+unfoldable pub stepOf : Tournament → Outcome
+stepOf t = outcome (judgedOf t) t (next t)
+
+-- all steps to the end: NB are enough from any bit, since a finished tournament stays as it is
+unfoldable pub runOf : Tournament → Outcome
+runOf t = outcome (judgedOf t) t (steps (t .bits) t)
+
+-- whether a carrier is heard at the state's bit; at no bit, none is
+abbrev pub heardNow : Tournament → Phase → Carrier
+heardNow t (AtBit k) = elim (heardAt t k) [ true ↦ Heard | false ↦ NotHeard ]
+heardNow t (Finished row) = NotHeard
+heardNow t NoWinner = NotHeard
+
+abbrev pub heardUnless : Answer → Carrier → Carrier
+heardUnless Done carrier = carrier
+heardUnless (Refused refusal) carrier = Carrier·Refused refusal
+
+unfoldable pub carrierOf : Tournament → Carrier
+carrierOf t = heardUnless (judgedOf t) (heardNow t (t .phase))
+
+-- At which bit two priorities part: the first bit from the top, counted from 1, at which they differ (0, no bit's number, if there is none)
+abbrev pub numberOf : Found → ℕ
+numberOf (Found·At k) = k
+numberOf Found·Nothing = 0
+
+unfoldable pub partingBit : ℕ → Priority → Priority → ℕ
+partingBit NB a b = numberOf (first (λ k. not (eqb (bitAt NB k a) (bitAt NB k b))) 1 NB)
+
+-- here 8 and 9 apply, with rows 0 and 1
+abbrev pub partUnless : Answer → ℕ → Parting
+partUnless Done k = Parting·At k
+partUnless (Refused refusal) k = Parting·Refused refusal
+
+unfoldable pub partingOf : ℕ → Priority → Priority → Parting
+partingOf NB a b = partUnless (pairVerdictOf NB a b) (partingBit NB a b)

@@ -1,0 +1,4 @@
+pub mod Tests
+pub mod Places
+pub mod Meaning
+pub mod Unique
