@@ -14,13 +14,16 @@ use Rattle.bound.specs.Bound.{verdictNumber}
 use Rattle.plan.specs.declared.Sheet.{Sheet}
 use Rattle.plan.specs.Plan.{planOf}
 use Rattle.plan.specs.Rules.{answers, rowAnswer}
+use Rattle.checks.specs.declared.Checked.{Checked}
 use Rattle.checks.specs.declared.Checked.the-variants.{Fine, Refused}
 use Rattle.checks.specs.Checks.{unless, lines, checkedOf}
 use Rattle.checks.proofs.Judge.{given, passed, nothing-given, fine-then, refused-then}
 use Rattle.checks.proofs.Fine.{fine-within}
+use Rattle.file.specs.declared.ReadPlan.{ReadPlan}
+use Rattle.file.specs.File.{readOf}
 use Rattle.rows.specs.declared.Answers.{Answers}
 use Rattle.rows.specs.Answers.{noAnswer, answersThen, answersIf, answersOf}
-use Rattle.answers.specs.Words.{words, rowWords, answerWords, tooFew, answerAs, answerOf}
+use Rattle.answers.specs.Words.{words, rowWords, answerWords, tooFew, answerAs, answerOf, answerRead, answerFileOf}
 
 length-words : (l : List Answer) → length (flatMap rowWords l) ≡ words * length l
 unfolding flatMap
@@ -82,3 +85,8 @@ module _ (s : Sheet) (out : List ℕ) where
     rows-front l d =
         let n : length (answers (planOf s)) ≡ s .count = length-map (planOf s .streams) (rowAnswer (planOf s)) ∙ fine-within s e .1 in
         rw d (omega (arith, length-append (answers (planOf s)) (replicate (streams - s .count) noAnswer)), take-at (answers (planOf s)) _ (s .count) n)
+
+-- ---- of a file: what the reader found, and its answer
+pub file-is : (bs out : List ℕ) (found : ReadPlan) (k : Checked) → found ≡ readOf bs → found .answer ≡ k → answerFileOf bs out ≡ answerRead k (found .sheet) out
+unfolding answerFileOf
+file-is bs out found k e d = sym (ap (λ r. answerRead (r .answer) (r .sheet) out) e) ∙ ap (λ a. answerRead a (found .sheet) out) d

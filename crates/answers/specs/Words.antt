@@ -10,6 +10,7 @@ use Rattle.plan.specs.Plan.{Plan, planOf}
 use Rattle.plan.specs.Rules.{answers}
 use Rattle.checks.specs.declared.Checked.{Checked}
 use Rattle.checks.specs.declared.Checked.the-variants.{Fine, Refused}
+use Rattle.file.specs.File.{readOf}
 use Rattle.checks.specs.Checks.{Line, judge, unless, lines}
 
 -- the words of a row: the verdict (0 met, 1 missed, 2 none), then the bound (0 for none)
@@ -35,3 +36,11 @@ answerAs (Refused r) n p out = (Refused r, out)
 -- of a plan's values: the lines of its values, then 6
 unfoldable pub answerOf : Sheet → List ℕ → Checked × List ℕ
 answerOf s out = answerAs (judge (lines (s .count) (s .sources) (planOf s) ++ tooFew (s .count) out)) (s .count) (planOf s) out
+
+-- of a file: a refused file is refused, and what was read is answered
+abbrev pub answerRead : Checked → Sheet → List ℕ → Checked × List ℕ
+answerRead Fine s out = answerOf s out
+answerRead (Refused r) s out = (Refused r, out)
+
+unfoldable pub answerFileOf : List ℕ → List ℕ → Checked × List ℕ
+answerFileOf bs out = answerRead (readOf bs .answer) (readOf bs .sheet) out

@@ -1,24 +1,19 @@
 -- The values are fine exactly if they are a right plan: each line that is not given says its part of it. Assumes nothing.
-use mathlib.Core.Path.{_≡_, refl, sym, ap, _∙_}
-use mathlib.Core.Bool.{Bool, true, false, cond, _&&_, true≢false}
-use mathlib.Core.List.{List, [], _∷_, map}
-use mathlib.Core.Logic.{_↔_}
-use Prim.Native.Nat.{ℕ, _≤_, _<_}
+use mathlib.Core.Path.{_≡_, refl, sym}
+use mathlib.Core.Bool.{Bool, true, false, _&&_, true≢false}
+use mathlib.Core.List.{map}
 use native.Mathlib.Omega.{arith}
 use borrow.Author.Tests.{leb-true, eqb-true}
 use lib.Dec.{leb, eqb}
-use lib.ListN.{length, getD}
+use lib.ListN.{length}
 use Rattle.names.specs.Limits.{streams, sources}
-use Rattle.laws.specs.declared.Found.{Found}
-use Rattle.laws.specs.declared.Found.the-variants.{At, Nothing}
+use Rattle.laws.specs.declared.Found.the-variants.{Nothing}
 use Rattle.repeats.specs.declared.Repeat.{Repeat}
 use Rattle.repeats.specs.declared.Repeat.the-variants.{At as Repeat·At, Nothing as Repeat·Nothing}
-use Rattle.repeats.specs.Repeats.{firstRepeat}
 use Rattle.repeats.proofs.Repeats.{nothing-if-distinct}
-use Rattle.plan.specs.declared.Sheet.{Sheet}
-use Rattle.plan.specs.Plan.{Plan, planOf, Within}
+use Rattle.plan.specs.Plan.{planOf}
 use Rattle.fields.specs.Layout as layout
-use Rattle.fields.specs.Fields.{fields, lowest}
+use Rattle.fields.specs.Fields.{fields}
 use Rattle.fields.proofs.Inside.{nothing-if-inside}
 use Rattle.fields.proofs.Limits.{inside-if-fields-within}
 use Rattle.checks.specs.declared.Checked.the-variants.{Fine}

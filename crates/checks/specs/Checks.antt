@@ -5,7 +5,6 @@ use Prim.Native.Nat.{ℕ}
 use lib.Dec.{leb, eqb}
 use lib.ListN.{length}
 use Rattle.names.specs.Limits.{streams, sources}
-use Rattle.names.specs.declared.Refusal.{Refusal}
 use Rattle.laws.specs.declared.Found.{Found}
 use Rattle.laws.specs.declared.Found.the-variants.{At, Nothing}
 use Rattle.repeats.specs.declared.Repeat.{Repeat}
@@ -37,7 +36,7 @@ abbrev pub rowIn : Repeat → Found
 rowIn (Repeat·At r) = At (r .0)
 rowIn Repeat·Nothing = Nothing
 
--- n is 1 to 64 and m is 0 to 8, and the plan has that many streams and gaps
+-- n is 1 to 64 and m is 0 to 8, and the plan has that many streams and gaps: a sheet that counts more than its places does not
 abbrev pub counted : ℕ → ℕ → Plan → Bool
 counted n m p = leb 1 n && leb n streams && leb m sources && eqb (length (p .streams)) n && eqb (length (p .gaps)) m
 

@@ -1,10 +1,9 @@
 -- Only for the contracts of private functions.
-use mathlib.Core.List.{map}
 use Prim.Native.Nat.{ℕ}
 use lib.ListN.{getD}
 use Rattle.plan.specs.declared.Stream.{Stream}
-use Rattle.fields.specs.Fields.{streamFields}
+use Rattle.fields.specs.Fields.{streamWords}
 
--- word k of a stream; the number of priority bits bears on its limits alone
+-- word k of a stream
 abbrev pub wordOf : ℕ → Stream → ℕ
-wordOf k s = getD (map (λ f. f .word) (streamFields 0 s)) k 0
+wordOf k s = getD (streamWords s) k 0

@@ -17,6 +17,8 @@ ghost use mathlib.Core.Path.{_≡_};
 ghost use mathlib.Core.List.{map};
 ghost use Prim.Native.Nat.{_≤_, _<_};
 ghost use lib.ListN.{take};
+ghost use Rattle.names.specs.Limits as limit;
+ghost use Rattle.fields.specs.Layout as layout;
 ghost use Rattle.checks.specs.Checks.{checkedOf};
 ghost use Rattle.checks.specs.Private.{wordOf};
 
@@ -26,9 +28,14 @@ pub enum Checked {
     Refused(Refusal),
 }
 
+// The words of a stream that have its label and its priority.
+const LABEL: usize = 0;
+
+const PRIORITY: usize = 1;
+
 // Word k of each stream, in row order.
 fn column(streams: [Stream; STREAMS], n: usize, k: usize) -> [u32; STREAMS]
-    requires { ⌜ (n ≤ 64) × (k < 6) ⌝ }
+    requires { ⌜ (n ≤ limit.streams) × (k < layout.stream) ⌝ }
     ensures { λ r. ⌜ take n r ≡ map (wordOf k) (take n streams) ⌝ }
 {
     let mut out = [0; STREAMS];
@@ -66,12 +73,12 @@ pub fn check(sheet: Sheet) -> Checked
         Found::Nothing => {}
     }
     let streams = sheet.streams;
-    let priorities = column(streams, n, 1);
+    let priorities = column(streams, n, PRIORITY);
     match first_repeat(&priorities[..n]) {
         Repeat::At(r) => return refused(4, r.0),
         Repeat::Nothing => {}
     }
-    let labels = column(streams, n, 0);
+    let labels = column(streams, n, LABEL);
     match first_repeat(&labels[..n]) {
         Repeat::At(r) => return refused(5, r.0),
         Repeat::Nothing => {}

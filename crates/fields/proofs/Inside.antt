@@ -2,18 +2,17 @@
 use mathlib.Core.Path.{_≡_, refl, sym, ap, _∙_, subst}
 use mathlib.Core.Bool.{Bool, true, false, _&&_, true≢false}
 use mathlib.Core.List.{List, [], _∷_}
-use mathlib.Core.Logic.{_↔_}
 use Prim.Native.Nat.{ℕ, zero, suc, _+_, _*_, _≤_, _<_}
 use native.Mathlib.Nat.{lt-of-not-le}
 use native.Mathlib.Decide.{decLe}
 use native.Mathlib.Omega.{arith}
 use borrow.Author.Tests.{leb-true}
 use lib.Dec.{leb}
-use lib.ListN.{length, getD}
+use lib.ListN.{length}
 use Rattle.laws.specs.declared.Found.{Found}
 use Rattle.laws.specs.declared.Found.the-variants.{At, Nothing}
 use Rattle.fields.specs.Layout as layout
-use Rattle.fields.specs.Fields.{Field, _from_to_, inside, lowest}
+use Rattle.fields.specs.Fields.{Field, inside, lowest}
 use Rattle.fields.specs.Claims.{fieldAt, LowestOutside, AllInside, AtTheLowest, NothingIfInside, InsideIfWithin}
 use Rattle.fields.proofs.Lowest.{within}
 

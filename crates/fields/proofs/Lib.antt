@@ -2,3 +2,4 @@ pub mod All
 pub mod Lowest
 pub mod Inside
 pub mod Limits
+pub mod Unique

@@ -1,21 +1,18 @@
 -- A plan's fields are all inside exactly if the plan is within document 01's limits: field by field, list by list. Assumes nothing.
-use mathlib.Core.Path.{_≡_, refl, sym, ap, _∙_, subst}
-use mathlib.Core.Bool.{Bool, true}
-use mathlib.Core.List.{List, [], _∷_, _++_, map, flatMap}
-use mathlib.Core.Logic.{_↔_}
-use Prim.Native.Nat.{ℕ, zero, suc, _+_, _-_, _^_, _≤_, _<_, zero-le}
-use native.Mathlib.Nat.{lt-of-not-le}
-use native.Mathlib.Decide.{decLe}
+use mathlib.Core.Path.{_≡_}
+use mathlib.Core.Bool.{true}
+use mathlib.Core.List.{List, _∷_, _++_, map, flatMap}
+use Prim.Native.Nat.{ℕ, _-_, _^_, _≤_, _<_, zero-le}
 use native.Mathlib.Omega.{arith}
-use lib.ListN.{length, getD, length-append, length-map, List·getD-append}
-use lib.Seq.{getD-append-add}
+use lib.ListN.{getD}
 use lib.Pow.{pow-pos}
-use Rattle.names.specs.Limits.{constant, payload, bits, ticks}
+use Rattle.fields.specs.Layout as layout
+use Rattle.names.specs.Limits.{payload, ticks}
 use Rattle.plan.specs.declared.Timing.{Timing}
 use Rattle.plan.specs.declared.Stream.{Stream}
-use Rattle.plan.specs.Plan.{Plan, blank, TimingWithin, StreamWithin, GapWithin}
+use Rattle.plan.specs.Plan.{blank, TimingWithin, StreamWithin, GapWithin}
 use Rattle.fields.specs.Fields.{Field, _from_to_, timingFields, streamFields, gapField, fields, inside}
-use Rattle.fields.specs.Claims.{fieldAt, AllInside, FieldsWithin, InsideIfFieldsWithin}
+use Rattle.fields.specs.Claims.{fieldAt, AllInside, InsideIfFieldsWithin}
 use Rattle.fields.proofs.All.{Shown, none, next, shown, all-front, all-back, all-both, flat-each, flat-all, map-each, map-all}
 use Rattle.fields.proofs.Lowest.{within}
 use Rattle.fields.proofs.Inside.{inside-if-within}
@@ -33,7 +30,7 @@ within-next {w} {a} {b} h k s = next (within w a b h k) s
 -- ---- the three bodies
 timing-to : (t : Timing) → AllInside (timingFields t) → TimingWithin t
 timing-to t a =
-    let limits : (i : ℕ) → i < 9 → (fieldAt (timingFields t) i .least ≤ fieldAt (timingFields t) i .word) × (fieldAt (timingFields t) i .word ≤ fieldAt (timingFields t) i .most) = λ i h. inside-if-within (fieldAt (timingFields t) i) .0 (a i h) in
+    let limits : (i : ℕ) → i < layout.timing → (fieldAt (timingFields t) i .least ≤ fieldAt (timingFields t) i .word) × (fieldAt (timingFields t) i .word ≤ fieldAt (timingFields t) i .most) = λ i h. inside-if-within (fieldAt (timingFields t) i) .0 (a i h) in
     record {
       f = limits 0 (omega arith) .1;
       e = limits 1 (omega arith) .1;
@@ -58,7 +55,7 @@ timing-back t w =
 
 stream-to : (nb : ℕ) (s : Stream) → AllInside (streamFields nb s) → StreamWithin nb s × (s .label .0 ≤ ticks)
 stream-to nb s a =
-    let limits : (i : ℕ) → i < 6 → (fieldAt (streamFields nb s) i .least ≤ fieldAt (streamFields nb s) i .word) × (fieldAt (streamFields nb s) i .word ≤ fieldAt (streamFields nb s) i .most) = λ i h. inside-if-within (fieldAt (streamFields nb s) i) .0 (a i h) in (
+    let limits : (i : ℕ) → i < layout.stream → (fieldAt (streamFields nb s) i .least ≤ fieldAt (streamFields nb s) i .word) × (fieldAt (streamFields nb s) i .word ≤ fieldAt (streamFields nb s) i .most) = λ i h. inside-if-within (fieldAt (streamFields nb s) i) .0 (a i h) in (
       record {
         priority = omega (arith, limits 1 (omega arith) .1, pow-pos nb);
         some-period = limits 2 (omega arith) .0;

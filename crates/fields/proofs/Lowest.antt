@@ -11,7 +11,6 @@ use borrow.Author.Tests.{le-leb, lt-leb}
 use lib.Dec.{leb}
 use lib.ListN.{length, getD, take, drop, replicate, drop-of-length-le}
 use lib.Seq.{drop-cons}
-use Rattle.laws.specs.declared.Found.{Found}
 use Rattle.laws.specs.declared.Found.the-variants.{At, Nothing}
 use Rattle.plan.specs.declared.Stream.{Stream}
 use Rattle.plan.specs.Plan.{Plan}
@@ -79,7 +78,7 @@ module _ (nb : ℕ) (streams : List Stream) (r : ℕ) (d : Stream) (h : r < leng
   pub stream-not-here : lowest (layout.streamAt r) (streamFields nb (getD streams r d)) ≡ Nothing
       → lowest (layout.streamAt 0) (flatMap (streamFields nb) streams) ≡ lowest (layout.streamAt (r + 1)) (flatMap (streamFields nb) (drop (r + 1) streams))
   stream-not-here e =
-      let n : layout.streamAt r + 6 ≡ layout.streamAt (r + 1) = omega arith in
+      let n : layout.streamAt r + layout.stream ≡ layout.streamAt (r + 1) = omega arith in
       so-far ∙ ap (lowest (layout.streamAt r)) next-stream ∙ append-none (layout.streamAt r) (streamFields nb (getD streams r d)) _ e ∙ ap (λ j. lowest j (flatMap (streamFields nb) (drop (r + 1) streams))) n
 
 pub streams-done : (nb : ℕ) (streams : List Stream) (k r : ℕ) → length streams ≤ r → lowest k (flatMap (streamFields nb) (drop r streams)) ≡ Nothing

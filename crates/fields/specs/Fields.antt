@@ -55,6 +55,13 @@ unfoldable pub fields : Plan → List Field
 fields p =
     timingFields (p .timing) ++ (flatMap (streamFields (p .timing .nb)) (p .streams) ++ map gapField (p .gaps))
 
+-- the words alone; the number of priority bits bears on a stream's limits and not on its words
+abbrev pub timingWords : Timing → List ℕ
+timingWords t = map (λ f. f .word) (timingFields t)
+
+abbrev pub streamWords : Stream → List ℕ
+streamWords s = map (λ f. f .word) (streamFields 0 s)
+
 abbrev pub inside : Field → Bool
 inside f = leb (f .least) (f .word) && leb (f .word) (f .most)
 

@@ -1,5 +1,6 @@
 -- Where the words of a plan stand in its file: document 01, "The plan file". Counted in words; a place in bytes is 4 times that.
 use Prim.Native.Nat.{ℕ, _+_, _*_}
+use Rattle.names.specs.Limits.{streams, sources}
 
 -- a word of 32 bits has 4 bytes
 abbrev pub word : ℕ
@@ -28,3 +29,7 @@ gapAt n k = streamAt n + k
 -- a file of n streams and m gaps has 80 + 24n + 4m bytes
 abbrev pub size : ℕ → ℕ → ℕ
 size n m = word * gapAt n m
+
+-- the largest file has 412 words, 1,648 bytes
+abbrev pub largest : ℕ
+largest = gapAt streams sources

@@ -14,12 +14,13 @@ use plan::Stream;
 use plan::Timing;
 ghost use mathlib.Core.Path.{_≡_};
 ghost use mathlib.Core.List.{map, flatMap};
-ghost use Prim.Native.Nat.{ℕ, _+_, _-_, _^_, _*_, min, _≤_};
+ghost use Prim.Native.Nat.{_+_, _-_, _^_, _*_, min, _≤_};
 ghost use lib.ListN.{length, take};
+ghost use Rattle.names.specs.Limits as limit;
 ghost use Rattle.laws.specs.declared.Found.the-variants.{At};
 ghost use Rattle.plan.specs.Plan.{planOf};
 ghost use Rattle.fields.specs.Layout as layout;
-ghost use Rattle.fields.specs.Fields.{timingFields, streamFields, gapField, fields, lowest};
+ghost use Rattle.fields.specs.Fields.{timingFields, streamFields, gapField, fields, timingWords, streamWords, lowest};
 ghost use Rattle.fields.specs.Private.{fieldsOf};
 
 // A word's bytes, and the words of the contents, of the timing and of a stream. A noise gap is one word.
@@ -33,7 +34,7 @@ pub const STREAM: usize = 6;
 
 // The byte offset of word k of the file.
 fn at_word(k: usize) -> Found
-    requires { ⌜ k ≤ 65535 ⌝ }
+    requires { ⌜ k ≤ layout.largest ⌝ }
     ensures { λ r. ⌜ r ≡ At (layout.word * k) ⌝ }
 {
     Found::At((WORD * k) as u64)
@@ -41,7 +42,7 @@ fn at_word(k: usize) -> Found
 
 // The lowest field outside its limits, of words from word k of the file on.
 fn words_outside<'a>(words: &'a [u32], least: &'a [u32], most: &'a [u32], k: usize) -> Found
-    requires { ⌜ (length (now least) ≡ length (now words)) × (length (now most) ≡ length (now words)) × (k + length (now words) ≤ 65535) ⌝ }
+    requires { ⌜ (length (now least) ≡ length (now words)) × (length (now most) ≡ length (now words)) × (k + length (now words) ≤ layout.largest) ⌝ }
     ensures { λ r. ⌜ r ≡ lowest k (fieldsOf (now (words .entry)) (now (least .entry)) (now (most .entry))) ⌝ }
 {
     for i in 0..words.len() {
@@ -57,11 +58,12 @@ fn words_outside<'a>(words: &'a [u32], least: &'a [u32], most: &'a [u32], k: usi
 
 // The timing's words in file order.
 pub fn timing_words(t: Timing) -> [u32; TIMING]
-    ensures { λ r. ⌜ r ≡ map (λ f. f .word) (timingFields t) ⌝ }
+    ensures { λ r. ⌜ r ≡ timingWords t ⌝ }
 {
     [t.f, t.e, t.tfcs, t.swx, t.h, t.g, t.etg, t.lag, t.nb]
 }
 
+// F to LAG are at most 65,535, and NB is 1 to 32.
 fn timing_outside(t: Timing) -> Found
     ensures { λ r. ⌜ r ≡ lowest layout.contents (timingFields t) ⌝ }
 {
@@ -81,17 +83,17 @@ fn timing_outside(t: Timing) -> Found
     words_outside(&words, &least, &most, CONTENTS)
 }
 
-// In 64 bits, where 2 to the 32 has room.
+// 2^NB - 1, in 64 bits, where 2^32 has room.
 fn largest_priority(nb: u32) -> u32
-    requires { ⌜ nb ≤ 32 ⌝ }
+    requires { ⌜ nb ≤ limit.bits ⌝ }
     ensures { λ r. ⌜ r ≡ 2 ^ nb - 1 ⌝ }
 {
     ((1u64 << nb) - 1) as u32
 }
 
-// A stream's words in file order; they do not depend on the number of priority bits.
+// A stream's words in file order.
 pub fn stream_words(s: Stream) -> [u32; STREAM]
-    ensures { λ r. ⌜ ((nb : ℕ) → r ≡ map (λ f. f .word) (streamFields nb s)) ⌝ }
+    ensures { λ r. ⌜ r ≡ streamWords s ⌝ }
 {
     [
         s.label.0,
@@ -103,9 +105,9 @@ pub fn stream_words(s: Stream) -> [u32; STREAM]
     ]
 }
 
-// The stream that starts at word k of the file.
+// The stream that starts at word k of the file. Every word is a label.
 fn stream_outside(s: Stream, nb: u32, k: usize) -> Found
-    requires { ⌜ (nb ≤ 32) × (k ≤ 65000) ⌝ }
+    requires { ⌜ (nb ≤ limit.bits) × (k + layout.stream ≤ layout.largest) ⌝ }
     ensures { λ r. ⌜ r ≡ lowest k (streamFields nb s) ⌝ }
 {
     let any = TICKS as u32;
@@ -116,7 +118,7 @@ fn stream_outside(s: Stream, nb: u32, k: usize) -> Found
 }
 
 fn streams_outside(streams: [Stream; STREAMS], n: usize, nb: u32) -> Found
-    requires { ⌜ (n ≤ 64) × (nb ≤ 32) ⌝ }
+    requires { ⌜ (n ≤ limit.streams) × (nb ≤ limit.bits) ⌝ }
     ensures { λ r. ⌜ r ≡ lowest (layout.streamAt 0) (flatMap (streamFields nb) (take n streams)) ⌝ }
 {
     for r in 0..n {
@@ -131,7 +133,7 @@ fn streams_outside(streams: [Stream; STREAMS], n: usize, nb: u32) -> Found
 
 // The gaps, which start where stream n would.
 fn gaps_outside(gaps: [u32; SOURCES], m: usize, n: usize) -> Found
-    requires { ⌜ (m ≤ 8) × (n ≤ 64) ⌝ }
+    requires { ⌜ (m ≤ limit.sources) × (n ≤ limit.streams) ⌝ }
     ensures { λ r. ⌜ r ≡ lowest (layout.streamAt n) (map gapField (take m gaps)) ⌝ }
 {
     let least = [1; SOURCES];
@@ -144,7 +146,7 @@ fn gaps_outside(gaps: [u32; SOURCES], m: usize, n: usize) -> Found
     )
 }
 
-fn least(a: usize, b: usize) -> usize
+fn smaller(a: usize, b: usize) -> usize
     ensures { λ r. ⌜ r ≡ min a b ⌝ }
 {
     if a < b { a } else { b }
@@ -155,8 +157,8 @@ fn least(a: usize, b: usize) -> usize
 pub fn outside(sheet: Sheet) -> Found
     ensures { λ r. ⌜ r ≡ lowest layout.contents (fields (planOf sheet)) ⌝ }
 {
-    let n = least(sheet.count, STREAMS);
-    let m = least(sheet.sources, SOURCES);
+    let n = smaller(sheet.count, STREAMS);
+    let m = smaller(sheet.sources, SOURCES);
     let timing = sheet.timing;
     let nb = timing.nb;
     match timing_outside(timing) {

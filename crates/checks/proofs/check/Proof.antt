@@ -5,12 +5,12 @@ use mathlib.Core.List.{map}
 use Prim.Native.Nat.{ℕ}
 use native.Mathlib.Omega.{arith}
 use borrow.Author.Needs.{needs, length-unmapped}
-use lib.ListN.{length, take, length-map}
+use lib.ListN.{length, length-map}
 use lib.Seq.{length-take-le}
+use Rattle.names.specs.Limits as limit
 use Rattle.laws.specs.declared.Found.the-variants.{Nothing}
 use Rattle.repeats.specs.declared.Repeat.the-variants.{Nothing as Repeat·Nothing}
 use Rattle.repeats.specs.Repeats.{firstRepeat}
-use Rattle.plan.specs.declared.Sheet.{Sheet}
 use Rattle.plan.specs.Plan.{planOf}
 use Rattle.plan.proofs.Stream as S
 use Rattle.fields.specs.Layout as layout
@@ -25,8 +25,8 @@ two : (c : tie.Else3) → let s = c .before .before .before .args .sheet in coun
 two c =
     let b = c .before .before .before in
     let s = b .args .sheet in
-    let places : length (s .streams) ≡ 64 = sym (length-map (s .streams) (S.the-field .into)) ∙ b .good .0 .1 .1 .1 .0 .1 .0 .1 in
-    let gaps : length (s .gaps) ≡ 8 = length-unmapped ℕ (s .gaps) 8 (b .good .0 .1 .1 .1 .1 .1 .0 .1 .0 .1) in
+    let places : length (s .streams) ≡ limit.streams = sym (length-map (s .streams) (S.the-field .into)) ∙ b .good .0 .1 .1 .1 .0 .1 .0 .1 in
+    let gaps : length (s .gaps) ≡ limit.sources = length-unmapped ℕ (s .gaps) limit.sources (b .good .0 .1 .1 .1 .1 .1 .0 .1 .0 .1) in
     right-counts (s .count) (s .sources) (planOf s) (omega arith) (omega arith) (omega arith)
     (length-take-le (s .count) (s .streams) (omega arith))
     (length-take-le (s .sources) (s .gaps) (omega arith))
@@ -41,46 +41,36 @@ four c =
     let f = c .before .before in
     ap firstRepeat (sym (f .before .before .column .ensures)) ∙ sym (f .first-repeat .ensures) ∙ c .enum-told2 .given .1
 
--- src/lib.rt:184:9
 refused-requires : tie.Need-refused-requires
 refused-requires c κs = search needs
 
--- src/lib.rt:184:9
 returns : tie.Need-returns
 unfolding checkedOf
 returns c = let s = c .before .before .args .sheet in c .refused .ensures ∙ sym (line-2 (s .count) (s .sources) (planOf s) (too-few (s .count) (s .sources) (planOf s) (c .before .if1 .taken)))
 
--- src/lib.rt:187:9
 refused-requires-2 : tie.Need-refused-requires-2
 refused-requires-2 c κs = search needs
 
--- src/lib.rt:187:9
 returns-2 : tie.Need-returns-2
 unfolding checkedOf
 returns-2 c = let s = c .before .before .before .args .sheet in c .refused2 .ensures ∙ sym (line-2 (s .count) (s .sources) (planOf s) (too-many (s .count) (s .sources) (planOf s) (c .before .if2 .taken)))
 
--- src/lib.rt:190:9
 refused-requires-3 : tie.Need-refused-requires-3
 refused-requires-3 c κs = search needs
 
--- src/lib.rt:190:9
 returns-3 : tie.Need-returns-3
 unfolding checkedOf
 returns-3 c = let s = c .before .before .before .before .args .sheet in c .refused3 .ensures ∙ sym (line-2 (s .count) (s .sources) (planOf s) (too-noisy (s .count) (s .sources) (planOf s) (c .before .if3 .taken)))
 
--- src/lib.rt:192:11
 outside-requires : tie.Need-outside-requires
 outside-requires c κs = search needs
 
--- src/lib.rt:193:19
 enum-known-p : tie.Need-enum-known-p
 enum-known-p c = search needs
 
--- src/lib.rt:193:25
 refused-requires-4 : tie.Need-refused-requires-4
 refused-requires-4 c κs = search needs
 
--- src/lib.rt:193:25
 returns-4 : tie.Need-returns-4
 unfolding checkedOf
 returns-4 c =
@@ -91,31 +81,24 @@ returns-4 c =
 enum-told : tie.Need-enum-told
 enum-told c = search needs
 
--- src/lib.rt:197:22
 column-requires : tie.Need-column-requires
 column-requires c κs = search needs
 
--- src/lib.rt:198:24
 array-share-prefix-priorities : tie.Need-array-share-prefix-priorities
 array-share-prefix-priorities c = search needs
 
--- src/lib.rt:198:24
 slice-aggregate-first-repeat : tie.Need-slice-aggregate-first-repeat
 slice-aggregate-first-repeat c = sym (length-take-le _ _ (omega arith))
 
--- src/lib.rt:198:11
 first-repeat-requires : tie.Need-first-repeat-requires
 first-repeat-requires c κs = search needs
 
--- src/lib.rt:199:20
 enum-known-r : tie.Need-enum-known-r
 enum-known-r c = search needs
 
--- src/lib.rt:199:26
 refused-requires-5 : tie.Need-refused-requires-5
 refused-requires-5 c κs = search needs
 
--- src/lib.rt:199:26
 returns-5 : tie.Need-returns-5
 unfolding checkedOf
 returns-5 c =
@@ -129,31 +112,24 @@ returns-5 c =
 enum-told-2 : tie.Need-enum-told-2
 enum-told-2 c = search needs
 
--- src/lib.rt:202:18
 column-requires-2 : tie.Need-column-requires-2
 column-requires-2 c κs = search needs
 
--- src/lib.rt:203:24
 array-share-prefix-labels : tie.Need-array-share-prefix-labels
 array-share-prefix-labels c = search needs
 
--- src/lib.rt:203:24
 slice-aggregate-first-repeat-2 : tie.Need-slice-aggregate-first-repeat-2
 slice-aggregate-first-repeat-2 c = sym (length-take-le _ _ (omega arith))
 
--- src/lib.rt:203:11
 first-repeat-requires-2 : tie.Need-first-repeat-requires-2
 first-repeat-requires-2 c κs = search needs
 
--- src/lib.rt:204:20
 enum-known-r-2 : tie.Need-enum-known-r-2
 enum-known-r-2 c = search needs
 
--- src/lib.rt:204:26
 refused-requires-6 : tie.Need-refused-requires-6
 refused-requires-6 c κs = search needs
 
--- src/lib.rt:204:26
 returns-6 : tie.Need-returns-6
 unfolding checkedOf
 returns-6 c =
@@ -168,7 +144,6 @@ returns-6 c =
 enum-told-3 : tie.Need-enum-told-3
 enum-told-3 c = search needs
 
--- src/lib.rt:178:1
 returns-7 : tie.Need-returns-7
 unfolding checkedOf
 returns-7 c =

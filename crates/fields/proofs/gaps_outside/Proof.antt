@@ -1,70 +1,56 @@
-use mathlib.Core.Path.{_≡_, sym, ap, _∙_}
+-- All gaps have one pair of limits, so two arrays of one number stand beside them. Assumes nothing.
+use mathlib.Core.Path.{sym, ap, _∙_}
 use native.Mathlib.Omega.{arith}
-use lib.ListN.{length, replicate}
+use lib.ListN.{replicate}
 use lib.Seq.{length-take-le}
-use Rattle.names.specs.Limits.{ticks}
+use Rattle.names.specs.Limits.{sources, ticks}
 use Rattle.fields.specs.Layout as layout
 use Rattle.fields.specs.Fields.{lowest}
 use Rattle.fields.proofs.Lowest.{alike}
 use borrow.Author.Needs.{needs}
 use Rattle.fields.proofs.gaps_outside.Statement.{statement}
 use Rattle.fields.proofs.gaps_outside.Tie as tie
-use Rattle.fields.proofs.gaps_outside.Reads as reads
-use Rattle.fields.proofs.gaps_outside.Lts as lts
-use Rattle.fields.proofs.words_outside.Reads as words-outside-reads
 
--- src/lib.rt:132:17
 cast-most : tie.Need-cast-most
 cast-most c = search needs
 
--- src/lib.rt:133:13
 array-share-prefix-gaps : tie.Need-array-share-prefix-gaps
 array-share-prefix-gaps c = search needs
 
--- src/lib.rt:133:13
 slice-aggregate-words-outside : tie.Need-slice-aggregate-words-outside
 slice-aggregate-words-outside c = sym (length-take-le _ _ (omega arith))
 
--- src/lib.rt:133:25
 array-share-prefix-least : tie.Need-array-share-prefix-least
 array-share-prefix-least c = search needs
 
--- src/lib.rt:133:25
 slice-aggregate-words-outside-2 : tie.Need-slice-aggregate-words-outside-2
 slice-aggregate-words-outside-2 c = sym (length-take-le _ _ (omega arith))
 
--- src/lib.rt:133:38
 array-share-prefix-most : tie.Need-array-share-prefix-most
 array-share-prefix-most c = search needs
 
--- src/lib.rt:133:38
 slice-aggregate-words-outside-3 : tie.Need-slice-aggregate-words-outside-3
 slice-aggregate-words-outside-3 c = sym (length-take-le _ _ (omega arith))
 
--- src/lib.rt:133:50
 add-words-outside : tie.Need-add-words-outside
 add-words-outside c = search needs
 
--- src/lib.rt:133:70
 mul-words-outside : tie.Need-mul-words-outside
 mul-words-outside c = search needs
 
--- src/lib.rt:133:50
 add-words-outside-2 : tie.Need-add-words-outside-2
 add-words-outside-2 c = search needs
 
--- src/lib.rt:133:5
 words-outside-requires : tie.Need-words-outside-requires
 words-outside-requires c κs =
     let a = c .before .before .before .args in
     let g = length-take-le (a .m) (a .t1) (omega arith) in
-    (length-take-le (a .m) (replicate 8 1) (omega arith) ∙ sym g, length-take-le (a .m) (replicate 8 ticks) (omega arith) ∙ sym g, omega (arith, g))
+    (length-take-le (a .m) (replicate sources 1) (omega arith) ∙ sym g, length-take-le (a .m) (replicate sources ticks) (omega arith) ∙ sym g, omega (arith, g))
 
--- src/lib.rt:127:1
 returns : tie.Need-returns
 returns c =
     let a = c .before .before .before .before .args in
-    c .words-outside .ensures ∙ ap (lowest (layout.streamAt (a .n))) (alike 1 ticks 8 (a .m) (a .t1) (omega arith))
+    c .words-outside .ensures ∙ ap (lowest (layout.streamAt (a .n))) (alike 1 ticks sources (a .m) (a .t1) (omega arith))
 
 pub gaps-outside-spec : {M : Type 1} → statement M
 gaps-outside-spec =

@@ -6,7 +6,8 @@ use native.Mathlib.Nat.{zero-min, min-zero, suc-min-suc}
 use native.Mathlib.Omega.{arith}
 use borrow.Author.Needs.{needs, length-unmapped}
 use lib.ListN.{length, take, length-map, length-take}
-use Rattle.laws.specs.declared.Found.the-variants.{At, Nothing}
+use Rattle.names.specs.Limits as limit
+use Rattle.laws.specs.declared.Found.the-variants.{Nothing}
 use Rattle.plan.specs.Plan.{planOf}
 use Rattle.plan.proofs.Stream as S
 use Rattle.fields.specs.Layout as layout
@@ -22,41 +23,36 @@ take-least (suc n) [] = rw min-zero refl
 take-least (suc n) (x ∷ l) = rw suc-min-suc (ap (λ r. x ∷ r) (take-least n l))
 
 -- a sheet has 64 places for streams and 8 for gaps
-streams-taken : (c : tie.After-least) → let s = c .before .args .sheet in
-    (c .least .result ≡ length (take (s .count) (s .streams))) × (take (c .least .result) (s .streams) ≡ take (s .count) (s .streams))
+streams-taken : (c : tie.After-smaller) → let s = c .before .args .sheet in
+    (c .smaller .result ≡ length (take (s .count) (s .streams))) × (take (c .smaller .result) (s .streams) ≡ take (s .count) (s .streams))
 streams-taken c =
     let s = c .before .args .sheet in
-    let places : length (s .streams) ≡ 64 = sym (length-map (s .streams) (S.the-field .into)) ∙ c .before .good .0 .1 .1 .1 .0 .1 .0 .1 in
-    let e : c .least .result ≡ min (s .count) (length (s .streams)) = c .least .ensures ∙ ap (min (s .count)) (sym places) in
+    let places : length (s .streams) ≡ limit.streams = sym (length-map (s .streams) (S.the-field .into)) ∙ c .before .good .0 .1 .1 .1 .0 .1 .0 .1 in
+    let e : c .smaller .result ≡ min (s .count) (length (s .streams)) = c .smaller .ensures ∙ ap (min (s .count)) (sym places) in
     (e ∙ sym (length-take (s .count) (s .streams)), ap (λ n. take n (s .streams)) e ∙ take-least (s .count) (s .streams))
 
-gaps-taken : (c : tie.After-least2) → let s = c .before .before .args .sheet in take (c .least2 .result) (s .gaps) ≡ take (s .sources) (s .gaps)
+gaps-taken : (c : tie.After-smaller2) → let s = c .before .before .args .sheet in take (c .smaller2 .result) (s .gaps) ≡ take (s .sources) (s .gaps)
 gaps-taken c =
     let s = c .before .before .args .sheet in
-    let places : length (s .gaps) ≡ 8 = length-unmapped ℕ (s .gaps) 8 (c .before .before .good .0 .1 .1 .1 .1 .1 .0 .1 .0 .1) in
-    let e : c .least2 .result ≡ min (s .sources) (length (s .gaps)) = c .least2 .ensures ∙ ap (min (s .sources)) (sym places) in
+    let places : length (s .gaps) ≡ limit.sources = length-unmapped ℕ (s .gaps) limit.sources (c .before .before .good .0 .1 .1 .1 .1 .1 .0 .1 .0 .1) in
+    let e : c .smaller2 .result ≡ min (s .sources) (length (s .gaps)) = c .smaller2 .ensures ∙ ap (min (s .sources)) (sym places) in
     ap (λ n. take n (s .gaps)) e ∙ take-least (s .sources) (s .gaps)
 
 timing-inside : (c : tie.After-enum-told) → lowest layout.contents (timingFields (c .before .before .before .before .before .before .args .sheet .timing)) ≡ Nothing
 timing-inside c = sym (c .before .before .timing-outside .ensures) ∙ c .enum-told .given .1
 
--- src/lib.rt:136:9
-least-requires : tie.Need-least-requires
-least-requires c κs = search needs
+smaller-requires : tie.Need-smaller-requires
+smaller-requires c κs = search needs
 
--- src/lib.rt:137:9
-least-requires-2 : tie.Need-least-requires-2
-least-requires-2 c κs = search needs
+smaller-requires-2 : tie.Need-smaller-requires-2
+smaller-requires-2 c κs = search needs
 
--- src/lib.rt:140:11
 timing-outside-requires : tie.Need-timing-outside-requires
 timing-outside-requires c κs = search needs
 
--- src/lib.rt:141:19
 enum-known-p : tie.Need-enum-known-p
 enum-known-p c = search needs
 
--- src/lib.rt:141:25
 returns : tie.Need-returns
 returns c =
     let p = c .before .before .before in
@@ -66,19 +62,16 @@ returns c =
 enum-told : tie.Need-enum-told
 enum-told c = search needs
 
--- src/lib.rt:145:11
 streams-outside-requires : tie.Need-streams-outside-requires
 streams-outside-requires c κs =
     let t = c .before in
     let b = t .before .before .before .before in
     let timing = timingFields (b .before .before .args .sheet .timing) in
-    (omega (arith, b .before .least .ensures), inside-if-within _ .0 (nothing-if-inside layout.contents timing .0 (timing-inside t) 8 (omega arith)) .1)
+    (omega (arith, b .before .smaller .ensures), inside-if-within _ .0 (nothing-if-inside layout.contents timing .0 (timing-inside t) 8 (omega arith)) .1)
 
--- src/lib.rt:146:19
 enum-known-p-2 : tie.Need-enum-known-p-2
 enum-known-p-2 c = search needs
 
--- src/lib.rt:146:25
 returns-2 : tie.Need-returns-2
 returns-2 c =
     let q = c .before .before .before in
@@ -91,13 +84,11 @@ returns-2 c =
 enum-told-2 : tie.Need-enum-told-2
 enum-told-2 c = search needs
 
--- src/lib.rt:150:5
 gaps-outside-requires : tie.Need-gaps-outside-requires
 gaps-outside-requires c κs =
     let b = c .before .before .before .before .before .before .before .before .before in
-    omega (arith, b .before .least .ensures, b .least2 .ensures)
+    omega (arith, b .before .smaller .ensures, b .smaller2 .ensures)
 
--- src/lib.rt:133:1
 returns-3 : tie.Need-returns-3
 returns-3 c =
     let u = c .before .before in
@@ -107,7 +98,7 @@ returns-3 c =
     let s = b .before .before .args .sheet in
     let e = ap (λ l. lowest (layout.streamAt 0) (flatMap (streamFields (s .timing .nb)) l)) (sym (streams-taken (b .before) .1)) in
     c .gaps-outside .ensures
-    ∙ ap (λ l. lowest (layout.streamAt (b .before .least .result)) (map gapField l)) (gaps-taken b)
+    ∙ ap (λ l. lowest (layout.streamAt (b .before .smaller .result)) (map gapField l)) (gaps-taken b)
     ∙ ap (λ n. lowest (layout.streamAt n) (map gapField (take (s .sources) (s .gaps)))) (streams-taken (b .before) .0)
     ∙ sym (gaps-left (planOf s) (timing-inside t) (e ∙ sym (q .streams-outside .ensures) ∙ u .enum-told2 .given .1))
 
@@ -115,8 +106,8 @@ pub outside-spec : {M : Type 1} → statement M
 outside-spec =
     tie.close
     (tie.spec
-    least-requires
-    least-requires-2
+    smaller-requires
+    smaller-requires-2
     timing-outside-requires
     enum-known-p
     returns

@@ -1,9 +1,10 @@
-use mathlib.Core.Path.{_≡_, refl, sym, ap, _∙_}
+-- All streams before r are inside, so what is found from r on is what is found from the start. Assumes nothing.
+use mathlib.Core.Path.{_≡_, refl, sym, _∙_}
 use mathlib.Core.List.{flatMap}
 use Prim.Native.Nat.{_-_, _≤_}
 use native.Mathlib.Omega.{arith}
 use borrow.Author.Needs.{needs}
-use lib.ListN.{length, take, drop}
+use lib.ListN.{take, drop}
 use lib.Seq.{getD-take, length-take-le}
 use Rattle.plan.specs.Plan.{blank}
 use Rattle.fields.specs.Layout as layout
@@ -11,9 +12,6 @@ use Rattle.fields.specs.Fields.{streamFields, lowest}
 use Rattle.fields.proofs.Lowest.{stream-here, stream-not-here, streams-done}
 use Rattle.fields.proofs.streams_outside.Statement.{statement}
 use Rattle.fields.proofs.streams_outside.Tie as tie
-use Rattle.fields.proofs.streams_outside.Reads as reads
-use Rattle.fields.proofs.streams_outside.Lts as lts
-use Rattle.fields.proofs.stream_outside.Reads as stream-outside-reads
 
 abbrev Inv-loop : tie.InvT-loop
 Inv-loop n nb streams r₀ r =
@@ -24,39 +22,30 @@ Inv-loop n nb streams r₀ r =
 abbrev μ-loop : tie.MeasureT-loop
 μ-loop n nb streams r₀ r = n - r
 
--- src/lib.rt:116:5
 loop-holds : tie.Need-loop-holds Inv-loop μ-loop
 loop-holds c = (omega arith, refl)
 
--- src/lib.rt:117:17
 mul-s : tie.Need-mul-s Inv-loop μ-loop
 mul-s c = search needs
 
--- src/lib.rt:117:17
 array-copy-out-s : tie.Need-array-copy-out-s Inv-loop μ-loop
 array-copy-out-s c = search needs
 
--- src/lib.rt:118:37
 add-stream-outside : tie.Need-add-stream-outside Inv-loop μ-loop
 add-stream-outside c = search needs
 
--- src/lib.rt:118:57
 mul-stream-outside : tie.Need-mul-stream-outside Inv-loop μ-loop
 mul-stream-outside c = search needs
 
--- src/lib.rt:118:37
 add-stream-outside-2 : tie.Need-add-stream-outside-2 Inv-loop μ-loop
 add-stream-outside-2 c = search needs
 
--- src/lib.rt:118:15
 stream-outside-requires : tie.Need-stream-outside-requires Inv-loop μ-loop
 stream-outside-requires c κs = search needs
 
--- src/lib.rt:119:23
 enum-known-p : tie.Need-enum-known-p Inv-loop μ-loop
 enum-known-p c = search needs
 
--- src/lib.rt:119:29
 returns : tie.Need-returns Inv-loop μ-loop
 returns c =
     let p = c .before .before .before in
@@ -69,15 +58,12 @@ returns c =
 enum-told : tie.Need-enum-told Inv-loop μ-loop
 enum-told c = search needs
 
--- src/lib.rt:116:9
 add-r : tie.Need-add-r Inv-loop μ-loop
 add-r c = search needs
 
--- src/lib.rt:116:5
 loop-less : tie.Need-loop-less Inv-loop μ-loop
 loop-less c = search needs
 
--- src/lib.rt:116:5
 loop-again : tie.Need-loop-again Inv-loop μ-loop
 loop-again c =
     let p = c .before .before in
@@ -89,7 +75,6 @@ loop-again c =
           (rw s (sym (p .stream-outside .ensures) ∙ c .enum-told .given .1)),
     )
 
--- src/lib.rt:112:1
 returns-2 : tie.Need-returns-2 Inv-loop μ-loop
 returns-2 c =
     let l = c .before .loop in

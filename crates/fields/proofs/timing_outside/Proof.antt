@@ -1,34 +1,25 @@
+-- The timing's words with their limits beside them are its fields. Assumes nothing.
 use mathlib.Core.Path.{refl, _∙_}
 use Rattle.fields.specs.Private.{fieldsOf}
 use borrow.Author.Needs.{needs}
 use Rattle.fields.proofs.timing_outside.Statement.{statement}
 use Rattle.fields.proofs.timing_outside.Tie as tie
-use Rattle.fields.proofs.timing_outside.Reads as reads
-use Rattle.fields.proofs.timing_outside.Lts as lts
-use Rattle.fields.proofs.words_outside.Reads as words-outside-reads
-use Rattle.fields.proofs.timing_words.Reads as timing-words-reads
 
--- src/lib.rt:78:17
 timing-words-requires : tie.Need-timing-words-requires
 timing-words-requires c κs = search needs
 
--- src/lib.rt:81:13
 slice-aggregate-words-outside : tie.Need-slice-aggregate-words-outside
 slice-aggregate-words-outside c = search needs
 
--- src/lib.rt:81:21
 slice-aggregate-words-outside-2 : tie.Need-slice-aggregate-words-outside-2
 slice-aggregate-words-outside-2 c = search needs
 
--- src/lib.rt:81:29
 slice-aggregate-words-outside-3 : tie.Need-slice-aggregate-words-outside-3
 slice-aggregate-words-outside-3 c = search needs
 
--- src/lib.rt:81:5
 words-outside-requires : tie.Need-words-outside-requires
 words-outside-requires c κs = search needs
 
--- src/lib.rt:75:1
 returns : tie.Need-returns
 unfolding fieldsOf
 returns c = c .words-outside .ensures ∙ rw (c .before .before .before .before .timing-words .ensures) refl

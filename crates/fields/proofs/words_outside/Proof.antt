@@ -1,6 +1,7 @@
-use mathlib.Core.Path.{_≡_, refl, sym, ap, _∙_}
+-- All fields before i are inside, so what is found from i on is what is found from the start. Assumes nothing.
+use mathlib.Core.Path.{_≡_, refl, sym, _∙_}
 use Prim.Native.Nat.{_+_, _-_, _≤_}
-use native.Mathlib.Nat.{add-zero, add-assoc}
+use native.Mathlib.Nat.{add-zero}
 use native.Mathlib.Omega.{arith}
 use borrow.Author.Needs.{needs}
 use denote.Ref.{now}
@@ -10,9 +11,6 @@ use Rattle.fields.specs.Private.{fieldsOf}
 use Rattle.fields.proofs.Lowest.{within, too-small, too-large, rest, here, not-here, nowhere}
 use Rattle.fields.proofs.words_outside.Statement.{statement}
 use Rattle.fields.proofs.words_outside.Tie as tie
-use Rattle.fields.proofs.words_outside.Reads as reads
-use Rattle.fields.proofs.words_outside.Lts as lts
-use Rattle.fields.proofs.at_word.Reads as at-word-reads
 
 abbrev Inv-loop : tie.InvT-loop
 Inv-loop words least most k i₀ i-end i =
@@ -21,35 +19,27 @@ Inv-loop words least most k i₀ i-end i =
 abbrev μ-loop : tie.MeasureT-loop
 μ-loop words least most k i₀ i-end i = i-end - i
 
--- src/lib.rt:57:5
 loop-holds : tie.Need-loop-holds Inv-loop μ-loop
 loop-holds c = (omega arith, refl, rw add-zero refl)
 
--- src/lib.rt:58:12
 mul-if1 : tie.Need-mul-if1 Inv-loop μ-loop
 mul-if1 c = search needs
 
--- src/lib.rt:58:12
 shared-slice-read-if1 : tie.Need-shared-slice-read-if1 Inv-loop μ-loop
 shared-slice-read-if1 c = search needs
 
--- src/lib.rt:58:23
 mul-if1-2 : tie.Need-mul-if1-2 Inv-loop μ-loop
 mul-if1-2 c = search needs
 
--- src/lib.rt:58:23
 shared-slice-read-if1-2 : tie.Need-shared-slice-read-if1-2 Inv-loop μ-loop
 shared-slice-read-if1-2 c = search needs
 
--- src/lib.rt:59:28
 add-at-word : tie.Need-add-at-word Inv-loop μ-loop
 add-at-word c = search needs
 
--- src/lib.rt:59:13
 at-word-requires : tie.Need-at-word-requires Inv-loop μ-loop
 at-word-requires c κs = search needs
 
--- src/lib.rt:59:13
 returns : tie.Need-returns Inv-loop μ-loop
 returns c =
     let p = c .before .before .before .before .before in
@@ -58,31 +48,24 @@ returns c =
     c .at-word .ensures
     ∙ sym (here (now (a .words)) (now (a .least)) (now (a .most)) (a .k) i (omega arith) (omega arith) (omega arith) (p .loop .inv .2) (too-small _ _ _ (c .before .if1 .taken)))
 
--- src/lib.rt:61:12
 mul-if2 : tie.Need-mul-if2 Inv-loop μ-loop
 mul-if2 c = search needs
 
--- src/lib.rt:61:12
 shared-slice-read-if2 : tie.Need-shared-slice-read-if2 Inv-loop μ-loop
 shared-slice-read-if2 c = search needs
 
--- src/lib.rt:61:22
 mul-if2-2 : tie.Need-mul-if2-2 Inv-loop μ-loop
 mul-if2-2 c = search needs
 
--- src/lib.rt:61:22
 shared-slice-read-if2-2 : tie.Need-shared-slice-read-if2-2 Inv-loop μ-loop
 shared-slice-read-if2-2 c = search needs
 
--- src/lib.rt:62:28
 add-at-word-2 : tie.Need-add-at-word-2 Inv-loop μ-loop
 add-at-word-2 c = search needs
 
--- src/lib.rt:62:13
 at-word-requires-2 : tie.Need-at-word-requires-2 Inv-loop μ-loop
 at-word-requires-2 c κs = search needs
 
--- src/lib.rt:62:13
 returns-2 : tie.Need-returns-2 Inv-loop μ-loop
 returns-2 c =
     let p = c .before .before .before .before .before .before .before .before in
@@ -91,15 +74,12 @@ returns-2 c =
     c .at-word2 .ensures
     ∙ sym (here (now (a .words)) (now (a .least)) (now (a .most)) (a .k) i (omega arith) (omega arith) (omega arith) (p .loop .inv .2) (too-large _ _ _ (c .before .if2 .taken)))
 
--- src/lib.rt:57:9
 add-i : tie.Need-add-i Inv-loop μ-loop
 add-i c = search needs
 
--- src/lib.rt:57:5
 loop-less : tie.Need-loop-less Inv-loop μ-loop
 loop-less c = search needs
 
--- src/lib.rt:57:5
 loop-again : tie.Need-loop-again Inv-loop μ-loop
 loop-again c =
     let p = c .before .before .before .before .before .before .before in
@@ -110,7 +90,6 @@ loop-again c =
       not-here (now (a .words)) (now (a .least)) (now (a .most)) (a .k) i (omega arith) (omega arith) (omega arith) (p .loop .inv .2) (within _ _ _ (c .before .before .before .if1 .left) (c .if2 .left)),
     )
 
--- src/lib.rt:53:1
 returns-3 : tie.Need-returns-3 Inv-loop μ-loop
 returns-3 c =
     let l = c .before .loop in

@@ -1,0 +1,153 @@
+-- One plan, one file: bytes and words are each other's inverse, words and plans are too, and what is within the limits fits its words.
+-- Assumes nothing.
+use mathlib.Core.Path.{_≡_, refl, sym, ap, ap₂, _∙_}
+use mathlib.Core.List.{List, _++_, flatMap}
+use Prim.Native.Nat.{ℕ, _*_, _^_, _≤_, _<_}
+use native.Mathlib.Nat.{lt-of-not-le, lt-of-le-of-lt, lt-of-lt-of-le}
+use native.Mathlib.Decide.{decLe}
+use native.Mathlib.Omega.{arith}
+use borrow.Author.Tests.{le-leb, eq-eqb}
+use lib.Dec.{T, ltb, ltb→lt, lit<}
+use lib.Pow.{pow-mono}
+use lib.ListN.{length, getD, take, drop, List·getD-eq-default}
+use lib.Seq.{take-at}
+use Rattle.names.specs.Limits.{streams, sources}
+use Rattle.words.specs.Words.{wordsOf, bytesOf, Below}
+use Rattle.words.proofs.Laws as W
+use Rattle.plan.specs.Plan.{Plan, planOf, blank}
+use Rattle.fields.specs.Layout as layout
+use Rattle.fields.specs.Fields.{timingWords, streamWords}
+use Rattle.fields.proofs.All.{none, next, All, shown, all-both, flat-all}
+use Rattle.checks.specs.declared.Checked.{Checked}
+use Rattle.checks.specs.declared.Checked.the-variants.{Fine, Refused}
+use Rattle.checks.specs.Checks.{judge, lines, checkedOf}
+use Rattle.checks.specs.Claims.{Right}
+use Rattle.checks.proofs.Judge.{fine-parts}
+use Rattle.checks.proofs.Fine.{fine-if-right}
+use Rattle.file.specs.declared.ReadPlan.{ReadPlan}
+use Rattle.file.specs.declared.Written.{Written}
+use Rattle.file.specs.declared.Written.the-variants.{Bytes}
+use Rattle.file.specs.File.{contents, words, fileOf, streamsIn, gapsIn, planIn, sheetOf, readAs, readOf, linesOut, writeAs, writeOf}
+use Rattle.file.specs.Claims.{ReadsWhatWasWritten, WritesWhatWasRead, ReadsOneSheet}
+use Rattle.file.proofs.Same.{same-refl}
+use Rattle.file.proofs.Reading.{read-values, ReadFine, fine-read, one-sheet, checked-sheet}
+use Rattle.file.proofs.Writing.{write-fine}
+use Rattle.file.proofs.Bodies.{words-are, length-words, plan-in-words, words-of-plan}
+
+-- ---- the words of a plan within the limits fit 32 bits
+abbrev Fits : ℕ → Type 0
+Fits x = x < 2 ^ 32
+
+fit : {x b : ℕ} → x ≤ b → T (ltb b (2 ^ 32)) → Fits x
+fit {x} {b} h t = lt-of-le-of-lt h (ltb→lt b (2 ^ 32) t)
+
+contents-fit : (n m : ℕ) → n ≤ streams → m ≤ sources → All Fits 0 (contents n m)
+contents-fit n m a b =
+    let x : Fits (layout.word * (layout.stream * n)) = omega arith in
+    let y : Fits (layout.word * layout.streamAt n) = omega arith in
+    let z : Fits (layout.word * m) = omega arith in
+    shown Fits 0
+    (next (lit< tt) (next (lit< tt) (next (lit< tt) (next (lit< tt) (next (lit< tt)
+    (next (lit< tt) (next (lit< tt) (next x (next (lit< tt) (next y (next z none)))))))))))
+
+module _ (p : Plan) (w : Right (length (p .streams)) (length (p .gaps)) p) where
+  timing-fit : All Fits 0 (timingWords (p .timing))
+  timing-fit =
+      let t = w .within .timing in
+      shown Fits 0
+      (next (fit (t .f) tt) (next (fit (t .e) tt) (next (fit (t .tfcs) tt) (next (fit (t .swx) tt) (next (fit (t .h) tt)
+      (next (fit (t .g) tt) (next (fit (t .etg) tt) (next (fit (t .lag) tt) (next (fit (t .nb) tt) none)))))))))
+
+  stream-fit : (k : ℕ) → k < length (p .streams) → All Fits 0 (streamWords (getD (p .streams) k blank))
+  stream-fit k h =
+      let s = w .within .stream k h in
+      let priority : Fits (getD (p .streams) k blank .priority .0) = lt-of-lt-of-le (s .priority) (pow-mono (w .within .timing .nb)) in
+      shown Fits 0
+      (next (fit (w .label k h) tt) (next priority (next (fit (s .period) tt)
+      (next (fit (s .jitter) tt) (next (fit (s .payload) tt) (next (fit (s .deadline) tt) none))))))
+
+  words-fit : Below (2 ^ 32) (words p)
+  words-fit i = go (decLe (length (words p)) i)
+    where
+      all : All Fits 0 (words p)
+      all =
+          rw (words-are p)
+          (all-both Fits 0 (contents (length (p .streams)) (length (p .gaps))) (timingWords (p .timing) ++ (flatMap streamWords (p .streams) ++ p .gaps)) (contents-fit (length (p .streams)) (length (p .gaps)) (w .within .count) (w .within .sources))
+          (all-both Fits 0 (timingWords (p .timing)) (flatMap streamWords (p .streams) ++ p .gaps) timing-fit
+          (all-both Fits 0 (flatMap streamWords (p .streams)) (p .gaps) (flat-all Fits 0 blank streamWords (p .streams) stream-fit)
+          (λ k h. fit (w .within .gap k h .gap) tt))))
+
+      go : Dec (length (words p) ≤ i) → getD (words p) i 0 < 2 ^ 32
+      go (yes h) = rw (List·getD-eq-default (words p) 0 h) (omega arith)
+      go (no h) = all i (lt-of-not-le h)
+
+-- ---- from a plan to its file and back
+length-file : (p : Plan) → length (fileOf p) ≡ layout.size (length (p .streams)) (length (p .gaps))
+length-file p = W.length-bytes (words p) ∙ ap (λ k. layout.word * k) (length-words p)
+
+pub read-file : (p : Plan) → Right (length (p .streams)) (length (p .gaps)) p → readOf (fileOf p) ≡ record { answer = Fine; sheet = sheetOf p }
+read-file p w =
+    let n = length (p .streams) in
+    let m = length (p .gaps) in
+    let all = contents n m ++ (timingWords (p .timing) ++ (flatMap streamWords (p .streams) ++ p .gaps)) in
+    let ws : wordsOf (fileOf p) ≡ words p = W.words-bytes (words p) (words-fit p w) in
+    let few : n ≤ streams = w .within .count in
+    let quiet : m ≤ sources = w .within .sources in
+    let long : length (fileOf p) ≡ layout.size n m = length-file p in
+    let n-is : streamsIn all ≡ n = omega arith in
+    let m-is : gapsIn all ≡ m = omega arith in
+    let head : take layout.contents (wordsOf (fileOf p)) ≡ contents n m = ap (take layout.contents) (ws ∙ words-are p) in
+    let back : planIn n m (wordsOf (fileOf p)) ≡ p = ap (planIn n m) ws ∙ plan-in-words p in
+    read-values (fileOf p) n m (ap streamsIn (ws ∙ words-are p) ∙ n-is) (ap gapsIn (ws ∙ words-are p) ∙ m-is)
+    (simp (le-leb (layout.word * layout.contents) (length (fileOf p)) (omega arith), le-leb (length (fileOf p)) (layout.size streams sources) (omega arith)))
+    (rw head (rw (same-refl (contents n m)) (eq-eqb _ _ long)))
+    ∙ ap (λ q. readAs (judge (lines n m q)) q) back
+    ∙ ap (λ c. readAs c p) (fine-if-right n m p .1 w)
+
+own-counts : (n m : ℕ) (p : Plan) → Right n m p → Right (length (p .streams)) (length (p .gaps)) p
+own-counts n m p r =
+    record { within = r .within; count = refl; sources = refl; label = r .label; priorities = r .priorities; labels = r .labels }
+
+same-count : (a b : ℕ) → _≡_ {A = Written} (Bytes a) (Bytes b) → a ≡ b
+same-count a b e = cc
+
+pub reads-what-was-written : ReadsWhatWasWritten
+unfolding writeOf
+reads-what-was-written s buf n e = go (judge (linesOut s buf)) refl e
+  where
+    go : (c : Checked) → judge (linesOut s buf) ≡ c → writeAs c s buf .0 ≡ Bytes n → readOf (take n (writeAs c s buf .1)) ≡ record { answer = Fine; sheet = sheetOf (planOf s) }
+    go Fine j e =
+        let p = planOf s in
+        let r = fine-if-right (s .count) (s .sources) p .0 (fine-parts (lines (s .count) (s .sources) p) _ j .0) in
+        let long : length (fileOf p) ≡ n = length-file p ∙ ap₂ layout.size (r .count) (r .sources) ∙ same-count _ n e in
+        ap readOf (take-at (fileOf p) _ n long)
+        ∙ read-file p (own-counts (s .count) (s .sources) p r)
+    go (Refused r) j e = absurd (let z : _≡_ {A = ℕ} 0 1 = cc in omega arith)
+
+-- ---- from a file to its plan and back
+pub reads-one-sheet : ReadsOneSheet
+reads-one-sheet bs e =
+    let f = fine-read bs e in
+    let p = planIn (f .n) (f .m) (wordsOf bs) in
+    let q : readOf bs .sheet ≡ sheetOf p = ap (λ (r : ReadPlan). r .sheet) (f .read) in
+    q ∙ ap sheetOf (sym (one-sheet p)) ∙ ap (λ s. sheetOf (planOf s)) (sym q)
+
+-- the bytes of the plan that was read are the bytes that were read
+file-back : (bs : List ℕ) → Below 256 bs → (f : ReadFine bs) → fileOf (planIn (f .n) (f .m) (wordsOf bs)) ≡ bs
+file-back bs small f =
+    let k = layout.gapAt (f .n) (f .m) in
+    let long : length (wordsOf bs) ≡ k = W.length-words bs ∙ omega (arith, f .size) in
+    ap bytesOf (words-of-plan (wordsOf bs) (f .n) (f .m) long (f .contents)) ∙ W.bytes-words k bs small (f .size)
+
+pub writes-what-was-read : WritesWhatWasRead
+writes-what-was-read bs buf small e h =
+    let f = fine-read bs e in
+    let p = planIn (f .n) (f .m) (wordsOf bs) in
+    let r = fine-if-right (f .n) (f .m) p .0 (f .values) in
+    let n = length (p .streams) in
+    let m = length (p .gaps) in
+    let long : layout.size n m ≡ length bs = ap₂ layout.size (r .count) (r .sources) ∙ sym (f .size) in
+    let fine : checkedOf (sheetOf p) ≡ Fine = checked-sheet (f .n) (f .m) p (r .count) (r .sources) ∙ f .values in
+    ap (λ (r : ReadPlan). writeOf (r .sheet) buf) (f .read)
+    ∙ write-fine (sheetOf p) buf fine (omega arith)
+    ∙ ap₂ (λ k (bytes : List ℕ). (Bytes k, bytes ++ drop k buf)) long (ap fileOf (one-sheet p) ∙ file-back bs small f)

@@ -1,0 +1,45 @@
+-- What is proved of the plan file: one plan, one file (proofs/RoundTrip.antt), and document 01's numbers (proofs/Numbers.antt).
+use mathlib.Core.Path.{_≡_}
+use mathlib.Core.List.{List, [], _∷_, _++_}
+use Prim.Native.Nat.{ℕ, _+_, _*_, _≤_, _<_}
+use lib.ListN.{length, getD, take, drop}
+use Rattle.words.specs.Words.{Below}
+use Rattle.plan.specs.declared.Sheet.{Sheet}
+use Rattle.plan.specs.Plan.{Plan, planOf}
+use Rattle.fields.specs.Layout as layout
+use Rattle.fields.specs.Fields.{fields}
+use Rattle.fields.specs.Claims.{fieldAt}
+use Rattle.checks.specs.declared.Checked.the-variants.{Fine}
+use Rattle.file.specs.declared.Written.the-variants.{Bytes}
+use Rattle.file.specs.File.{contents, words, sheetOf, readOf, writeOf}
+
+-- reading what was written gives the same plan, for every sheet that is not refused
+abbrev pub ReadsWhatWasWritten : Type 0
+ReadsWhatWasWritten =
+    (s : Sheet) (buf : List ℕ) (n : ℕ) → writeOf s buf .0 ≡ Bytes n
+    → readOf (take n (writeOf s buf .1)) ≡ record { answer = Fine; sheet = sheetOf (planOf s) }
+
+-- writing what was read gives the same bytes, for every file that is not refused
+abbrev pub WritesWhatWasRead : Type 0
+WritesWhatWasRead =
+    (bs buf : List ℕ) → Below 256 bs → readOf bs .answer ≡ Fine → length bs ≤ length buf
+    → writeOf (readOf bs .sheet) buf ≡ (Bytes (length bs), bs ++ drop (length bs) buf)
+
+-- a plan has one sheet: the plan on it is that plan, and what was read is such a sheet
+abbrev pub OneSheet : Type 0
+OneSheet = (p : Plan) → planOf (sheetOf p) ≡ p
+
+abbrev pub ReadsOneSheet : Type 0
+ReadsOneSheet = (bs : List ℕ) → readOf bs .answer ≡ Fine → readOf bs .sheet ≡ sheetOf (planOf (readOf bs .sheet))
+
+-- the contents are the words of document 01, ..
+abbrev pub ContentsAre : Type 0
+ContentsAre = (n m : ℕ) → contents n m ≡ 1 ∷ 3 ∷ 1 ∷ 44 ∷ 36 ∷ 2 ∷ 80 ∷ 24 * n ∷ 3 ∷ (80 + 24 * n) ∷ 4 * m ∷ []
+
+-- .. a file has as many bytes as it says, the largest 1,648, ..
+abbrev pub SizesAre : Type 0
+SizesAre = ((n m : ℕ) → layout.size n m ≡ 80 + 24 * n + 4 * m) × (layout.word * layout.largest ≡ 1648)
+
+-- .. and field i of the bodies, whose place in refusal 3 is 4 × (11 + i), is word 11 + i of the file
+abbrev pub PlaceIsOffset : Type 0
+PlaceIsOffset = (p : Plan) (i : ℕ) → i < length (fields p) → getD (words p) (layout.contents + i) 0 ≡ fieldAt (fields p) i .word

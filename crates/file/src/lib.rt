@@ -1,0 +1,55 @@
+// The plan file: its definition, what reading and writing give, and that one plan is one file.
+//
+// specs/ goes from bytes to raw words, from raw words to a plan, and back; proofs/ has the two round trips. The reader and
+// the writer are crates above, which promise what is defined here. Nothing is assumed. This crate knows of no lent memory.
+use checks::Checked;
+use fields::CONTENTS;
+use fields::STREAM;
+use fields::TIMING;
+use fields::WORD;
+use names::Refusal;
+use plan::Sheet;
+ghost use mathlib.Core.Path.{_≡_};
+ghost use Rattle.fields.specs.Layout as layout;
+ghost use Rattle.file.specs.File as spec;
+
+// What a reader hands back. The sheet of a refused file is all zero.
+pub struct ReadPlan {
+    pub answer: Checked,
+    pub sheet: Sheet,
+}
+
+// What a writer hands back: how many bytes it wrote, or why none.
+pub enum Written {
+    Bytes(usize),
+    Refused(Refusal),
+}
+
+// The bytes of a file of n streams and m noise sources.
+pub fn size(n: u16, m: u16) -> usize
+    ensures { λ r. ⌜ r ≡ layout.size n m ⌝ }
+{
+    WORD * (CONTENTS + TIMING + STREAM * n as usize + m as usize)
+}
+
+// The contents of a file of n streams and m noise sources.
+pub fn contents(n: u16, m: u16) -> [u32; CONTENTS]
+    ensures { λ r. ⌜ r ≡ spec.contents n m ⌝ }
+{
+    let edition = 1;
+    let entries = 3;
+    let streams = STREAM * n as usize;
+    [
+        edition,
+        entries,
+        1,
+        (WORD * CONTENTS) as u32,
+        (WORD * TIMING) as u32,
+        2,
+        (WORD * (CONTENTS + TIMING)) as u32,
+        (WORD * streams) as u32,
+        3,
+        (WORD * (CONTENTS + TIMING + streams)) as u32,
+        (WORD * m as usize) as u32,
+    ]
+}

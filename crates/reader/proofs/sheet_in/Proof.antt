@@ -1,0 +1,32 @@
+-- The parts are those of the plan, and n streams and m gaps have been read. Assumes nothing.
+use mathlib.Core.Path.{refl}
+use denote.Ref.{now}
+use lib.ListN.{getD}
+use Rattle.laws.proofs.Lists.{length-rows}
+use Rattle.words.specs.Words.{wordsOf}
+use Rattle.fields.specs.Layout as layout
+use Rattle.file.specs.File.{streamIn, planIn}
+use borrow.Author.Needs.{needs}
+use Rattle.reader.proofs.sheet_in.Statement.{statement}
+use Rattle.reader.proofs.sheet_in.Tie as tie
+
+timing-in-requires : tie.Need-timing-in-requires
+timing-in-requires c κs = search needs
+
+streams-in-requires : tie.Need-streams-in-requires
+streams-in-requires c κs = search needs
+
+gaps-in-requires : tie.Need-gaps-in-requires
+gaps-in-requires c κs = search needs
+
+returns : tie.Need-returns
+unfolding planIn
+returns c =
+    let a = c .before .before .before .before .args in
+    let n = length-rows (a .n) (λ r. streamIn (wordsOf (now (a .bytes))) (layout.streamAt r)) in
+    let m = length-rows (a .m) (λ k. getD (wordsOf (now (a .bytes))) (layout.gapAt (a .n) k) 0) in
+    rw (c .before .before .timing-in .ensures, c .before .streams-in .ensures, c .gaps-in .ensures, n, m) refl
+
+pub sheet-in-spec : {M : Type 1} → statement M
+sheet-in-spec =
+    tie.close (tie.spec timing-in-requires streams-in-requires gaps-in-requires returns)
