@@ -2,4 +2,5 @@ pub mod All
 pub mod Lowest
 pub mod Inside
 pub mod Limits
+pub mod Places
 pub mod Unique

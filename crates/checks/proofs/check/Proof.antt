@@ -2,19 +2,16 @@
 use mathlib.Core.Path.{_≡_, sym, ap, _∙_}
 use mathlib.Core.Bool.{true}
 use mathlib.Core.List.{map}
-use Prim.Native.Nat.{ℕ}
 use native.Mathlib.Omega.{arith}
-use borrow.Author.Needs.{needs, length-unmapped}
-use lib.ListN.{length, length-map}
+use borrow.Author.Needs.{needs}
 use lib.Seq.{length-take-le}
-use Rattle.names.specs.Limits as limit
 use Rattle.laws.specs.declared.Found.the-variants.{Nothing}
 use Rattle.repeats.specs.declared.Repeat.the-variants.{Nothing as Repeat·Nothing}
 use Rattle.repeats.specs.Repeats.{firstRepeat}
 use Rattle.plan.specs.Plan.{planOf}
-use Rattle.plan.proofs.Stream as S
 use Rattle.fields.specs.Layout as layout
 use Rattle.fields.specs.Fields.{fields, lowest}
+use Rattle.fields.proofs.Places.{stream-places, gap-places}
 use Rattle.checks.specs.Checks.{counted, checkedOf}
 use Rattle.checks.proofs.Judge.{too-few, too-many, too-noisy, right-counts, line-2, line-3, line-4, line-5, no-line}
 use Rattle.checks.proofs.check.Statement.{statement}
@@ -25,8 +22,8 @@ two : (c : tie.Else3) → let s = c .before .before .before .args .sheet in coun
 two c =
     let b = c .before .before .before in
     let s = b .args .sheet in
-    let places : length (s .streams) ≡ limit.streams = sym (length-map (s .streams) (S.the-field .into)) ∙ b .good .0 .1 .1 .1 .0 .1 .0 .1 in
-    let gaps : length (s .gaps) ≡ limit.sources = length-unmapped ℕ (s .gaps) limit.sources (b .good .0 .1 .1 .1 .1 .1 .0 .1 .0 .1) in
+    let places = stream-places s (_, b .good .0 .1 .1) in
+    let gaps = gap-places s (_, b .good .0 .1 .1) in
     right-counts (s .count) (s .sources) (planOf s) (omega arith) (omega arith) (omega arith)
     (length-take-le (s .count) (s .streams) (omega arith))
     (length-take-le (s .sources) (s .gaps) (omega arith))

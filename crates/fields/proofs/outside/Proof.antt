@@ -4,15 +4,14 @@ use mathlib.Core.List.{List, [], _∷_, map, flatMap}
 use Prim.Native.Nat.{ℕ, zero, suc, min}
 use native.Mathlib.Nat.{zero-min, min-zero, suc-min-suc}
 use native.Mathlib.Omega.{arith}
-use borrow.Author.Needs.{needs, length-unmapped}
-use lib.ListN.{length, take, length-map, length-take}
-use Rattle.names.specs.Limits as limit
+use borrow.Author.Needs.{needs}
+use lib.ListN.{length, take, length-take}
 use Rattle.laws.specs.declared.Found.the-variants.{Nothing}
 use Rattle.plan.specs.Plan.{planOf}
-use Rattle.plan.proofs.Stream as S
 use Rattle.fields.specs.Layout as layout
 use Rattle.fields.specs.Fields.{timingFields, streamFields, gapField, lowest}
 use Rattle.fields.proofs.Lowest.{timing-here, streams-here, gaps-left}
+use Rattle.fields.proofs.Places.{stream-places, gap-places}
 use Rattle.fields.proofs.Inside.{inside-if-within, nothing-if-inside}
 use Rattle.fields.proofs.outside.Statement.{statement}
 use Rattle.fields.proofs.outside.Tie as tie
@@ -27,14 +26,14 @@ streams-taken : (c : tie.After-smaller) → let s = c .before .args .sheet in
     (c .smaller .result ≡ length (take (s .count) (s .streams))) × (take (c .smaller .result) (s .streams) ≡ take (s .count) (s .streams))
 streams-taken c =
     let s = c .before .args .sheet in
-    let places : length (s .streams) ≡ limit.streams = sym (length-map (s .streams) (S.the-field .into)) ∙ c .before .good .0 .1 .1 .1 .0 .1 .0 .1 in
+    let places = stream-places s (_, c .before .good .0 .1 .1) in
     let e : c .smaller .result ≡ min (s .count) (length (s .streams)) = c .smaller .ensures ∙ ap (min (s .count)) (sym places) in
     (e ∙ sym (length-take (s .count) (s .streams)), ap (λ n. take n (s .streams)) e ∙ take-least (s .count) (s .streams))
 
 gaps-taken : (c : tie.After-smaller2) → let s = c .before .before .args .sheet in take (c .smaller2 .result) (s .gaps) ≡ take (s .sources) (s .gaps)
 gaps-taken c =
     let s = c .before .before .args .sheet in
-    let places : length (s .gaps) ≡ limit.sources = length-unmapped ℕ (s .gaps) limit.sources (c .before .before .good .0 .1 .1 .1 .1 .1 .0 .1 .0 .1) in
+    let places = gap-places s (_, c .before .before .good .0 .1 .1) in
     let e : c .smaller2 .result ≡ min (s .sources) (length (s .gaps)) = c .smaller2 .ensures ∙ ap (min (s .sources)) (sym places) in
     ap (λ n. take n (s .gaps)) e ∙ take-least (s .sources) (s .gaps)
 

@@ -1,24 +1,22 @@
 -- The four parts stand one after the other, so what is written is the whole file. Assumes nothing.
-use mathlib.Core.Path.{_≡_, sym, _∙_}
-use Prim.Native.Nat.{ℕ}
+use mathlib.Core.Path.{_≡_, sym}
+use Prim.Native.Nat.{_≤_}
 use native.Mathlib.Omega.{arith}
-use borrow.Author.Needs.{needs, length-unmapped}
+use borrow.Author.Needs.{needs}
 use denote.Ref.{now}
-use lib.ListN.{length, length-map}
+use lib.ListN.{length, take}
 use lib.Seq.{length-take-le}
-use Rattle.names.specs.Limits as limit
 use Rattle.plan.specs.Plan.{planOf}
-use Rattle.plan.proofs.Stream as S
+use Rattle.fields.proofs.Places.{stream-places, gap-places}
 use Rattle.writer.proofs.Whole.{whole}
 use Rattle.writer.proofs.put_file.Statement.{statement}
 use Rattle.writer.proofs.put_file.Tie as tie
 
--- a sheet has 64 places for streams and 8 for gaps
-stream-places : (c : tie.Start) → length (c .args .sheet .streams) ≡ limit.streams
-stream-places c = sym (length-map (c .args .sheet .streams) (S.the-field .into)) ∙ c .good .1 .0 .1 .1 .1 .0 .1 .0 .1
+streams-long : (c : tie.Start) → length (take (c .args .sheet .count) (c .args .sheet .streams)) ≡ c .args .sheet .count
+streams-long c = length-take-le _ _ (omega (arith, stream-places (c .args .sheet) (_, c .good .1 .0 .1 .1), c .pre))
 
-gap-places : (c : tie.Start) → length (c .args .sheet .gaps) ≡ limit.sources
-gap-places c = let h : ⊥ = c .good .1 .0 .1 .1 in length-unmapped ℕ (c .args .sheet .gaps) limit.sources (c .good .1 .0 .1 .1 .1 .1 .1 .0 .1 .0 .1)
+gaps-fit : (c : tie.Start) → c .args .sheet .sources ≤ length (c .args .sheet .gaps)
+gaps-fit c = omega (arith, gap-places (c .args .sheet) (_, c .good .1 .0 .1 .1), c .pre)
 
 cast-contents : tie.Need-cast-contents
 cast-contents c = search needs
@@ -65,12 +63,12 @@ mul-put-words-3 c = search needs
 array-share-prefix-gaps : tie.Need-array-share-prefix-gaps
 array-share-prefix-gaps c =
     let b = c .before .before .before .before .before .before .before .before .before .before .before .before .before .before .before .before .before .before .before .before in
-    omega (arith, gap-places b, b .pre)
+    gaps-fit b
 
 slice-aggregate-put-words-3 : tie.Need-slice-aggregate-put-words-3
 slice-aggregate-put-words-3 c =
     let b = c .before .before .before .before .before .before .before .before .before .before .before .before .before .before .before .before .before .before .before .before .before in
-    sym (length-take-le _ _ (omega (arith, gap-places b, b .pre)))
+    sym (length-take-le _ _ (gaps-fit b))
 
 put-words-requires-3 : tie.Need-put-words-requires-3
 put-words-requires-3 c κs = search needs
@@ -87,8 +85,8 @@ returns c =
     let b = h .before .before .before .before .before in
     let s = b .args .sheet in
     whole (now (b .args .buf)) (planOf s) (s .count) (s .sources)
-    (length-take-le (s .count) (s .streams) (omega (arith, stream-places b, b .pre)))
-    (length-take-le (s .sources) (s .gaps) (omega (arith, gap-places b, b .pre)))
+    (streams-long b)
+    (length-take-le (s .sources) (s .gaps) (gaps-fit b))
     (b .pre .2)
     (rw (h .before .before .before .contents .ensures) at (h .put-words .ensures))
     (rw (t .before .before .before .timing-words .ensures) at (t .put-words2 .ensures))

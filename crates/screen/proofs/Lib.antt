@@ -1,0 +1,4 @@
+pub mod Counts
+pub mod Placed
+pub mod Same
+pub mod Unique

@@ -1,0 +1,4 @@
+pub mod Screen
+pub mod Claims
+pub mod Private
+pub mod Determined

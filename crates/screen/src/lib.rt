@@ -1,0 +1,116 @@
+// The planner's screen: the answers of a plan whose streams are lent as a list of records.
+//
+// `screen` answers for every list, however long, just as `answers::answer_values` does for the sheet of these values: the
+// first 64 streams and 8 gaps are copied out, and the list's own lengths are its counts, so an empty or over-long list is
+// refused 2. Nothing is assumed. This crate must not know of files or text, and it makes no check and no bound of its own.
+ghost use mathlib.Core.Path.{_≡_};
+ghost use Prim.Native.Nat.{_<_, min};
+ghost use lib.ListN.{length, getD, set, replicate};
+ghost use Rattle.names.specs.Limits.{streams as most, sources};
+ghost use Rattle.plan.specs.Plan.{blank};
+ghost use Rattle.answers.specs.Words.{answerOf};
+ghost use Rattle.screen.specs.Screen.{placed, sheetFor};
+ghost use Rattle.screen.specs.Private.{lotOf, sheetOf};
+use answers::answer_values;
+use checks::Checked;
+use names::Label;
+use names::Priority;
+use names::SOURCES;
+use names::STREAMS;
+use plan::Sheet;
+use plan::Stream;
+use plan::Timing;
+
+// A list's first streams in places of fixed number, and how many the list has.
+struct Lot {
+    rows: [Stream; STREAMS],
+    count: usize,
+}
+
+fn least(a: usize, b: usize) -> usize
+    ensures { λ r. ⌜ r ≡ min a b ⌝ }
+{
+    if a < b { a } else { b }
+}
+
+fn empty(n: usize) -> Lot
+    ensures { λ r. ⌜ r ≡ record { rows = replicate most blank; count = n } ⌝ }
+{
+    let s = Stream {
+        label: Label(0),
+        priority: Priority(0),
+        period: 0,
+        jitter: 0,
+        payload: 0,
+        deadline: 0,
+    };
+    Lot {
+        rows: [s; STREAMS],
+        count: n,
+    }
+}
+
+fn put(lot: Lot, i: usize, s: Stream) -> Lot
+    requires { ⌜ i < most ⌝ }
+    ensures { λ r. ⌜ r ≡ record { rows = set (lot .rows) i s; count = lot .count } ⌝ }
+{
+    let mut next = lot;
+    next.rows[i] = s;
+    next
+}
+
+// The one place where the lent records are looked into: all else is on values and plain slices.
+fn stream_at(streams: &[Stream], i: usize) -> Stream
+    requires { ⌜ i < length (now streams) ⌝ }
+    ensures { λ r. ⌜ r ≡ getD (now (streams .entry)) i blank ⌝ }
+{
+    streams[i]
+}
+
+// However long the list is, no more than 64 turns; its own length goes along, so that it is refused later.
+fn gathered(streams: &[Stream]) -> Lot
+    ensures { λ r. ⌜ r ≡ lotOf (now (streams .entry)) ⌝ }
+{
+    let count = streams.len();
+    let n = least(count, STREAMS);
+    let mut lot = empty(count);
+    let mut i = 0;
+    while i < n {
+        lot = put(lot, i, stream_at(streams, i));
+        i += 1;
+    }
+    lot
+}
+
+fn copied(gaps: &[u32]) -> [u32; SOURCES]
+    ensures { λ r. ⌜ r ≡ placed sources 0 (now (gaps .entry)) ⌝ }
+{
+    let n = least(gaps.len(), SOURCES);
+    let mut out = [0; SOURCES];
+    for k in 0..n {
+        out[k] = gaps[k];
+    }
+    out
+}
+
+fn answered(lot: Lot, timing: Timing, gaps: &[u32], out: &mut [u64]) -> Checked
+    ensures { λ r. ⌜ (r ≡ answerOf (sheetOf lot timing (now (gaps .entry))) (now (out .entry)) .0) × (now (out .exit) ≡ answerOf (sheetOf lot timing (now (gaps .entry))) (now (out .entry)) .1) ⌝ }
+{
+    let rows = lot.rows;
+    let copies = copied(gaps);
+    let sheet = Sheet {
+        timing,
+        streams: rows,
+        count: lot.count,
+        gaps: copies,
+        sources: gaps.len(),
+    };
+    answer_values(sheet, out)
+}
+
+// The answers of the lent streams under this timing and these noise gaps, or the first refusal of 2, 3, 4, 5, 6 that applies.
+pub fn screen(streams: &[Stream], timing: Timing, gaps: &[u32], out: &mut [u64]) -> Checked
+    ensures { λ r. ⌜ (r ≡ answerOf (sheetFor (now (streams .entry)) timing (now (gaps .entry))) (now (out .entry)) .0) × (now (out .exit) ≡ answerOf (sheetFor (now (streams .entry)) timing (now (gaps .entry))) (now (out .entry)) .1) ⌝ }
+{
+    answered(gathered(streams), timing, gaps, out)
+}
