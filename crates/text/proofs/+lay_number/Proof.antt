@@ -1,0 +1,135 @@
+-- A number below 10 is its one digit; any other is what its tenth lays, and then its last digit. Its tenth is smaller.
+use Prim.Native.Nat.{ℕ, _<_}
+use Rattle.text.proofs.Laying.{number-one, number-more}
+use borrow.Author.Needs.{needs}
+use borrow.Fn.Kinds.{In}
+use borrow.Fn.PlainCycle.{Measures, is, falls, and}
+use Rattle.text.proofs.lay_number.Reads as lay-number
+use Rattle.text.proofs.lay_number.Kinds as lay-number-kinds
+use Rattle.text.proofs.+lay_number.Lts-lay_number as lay-number-lts
+use Rattle.text.proofs.lay.Reads as lay-reads
+use Rattle.text.proofs.+lay_number.{statement}
+use Rattle.text.proofs.+lay_number.Tie.{close}
+
+abbrev μ-lay-number : Measures 1 lay-number-kinds.ps ℕ
+μ-lay-number κs a = a .1 .1 .0
+
+abbrev lay-number-at : ℕ → In 1 lay-number-kinds.ps
+lay-number-at t =
+    and 1 lay-number-kinds.ps (is 1 lay-number-kinds.ps μ-lay-number t) lay-number.Pre
+
+abbrev lay-number-below : ℕ → In 1 lay-number-kinds.ps
+lay-number-below t =
+    and 1 lay-number-kinds.ps (falls 1 lay-number-kinds.ps _<_ μ-lay-number t) lay-number.Pre
+
+lay-number-cast-lay : (t : ℕ) → lay-number-lts.Need-cast-lay (
+  lay-reads.Asked,
+  lay-reads.Learnt,
+  lay-number-below t,
+  lay-number.Post,
+) (lay-number-at t) lay-number.Post
+lay-number-cast-lay t c = search needs
+
+lay-number-add-lay : (t : ℕ) → lay-number-lts.Need-add-lay (
+  lay-reads.Asked,
+  lay-reads.Learnt,
+  lay-number-below t,
+  lay-number.Post,
+) (lay-number-at t) lay-number.Post
+lay-number-add-lay t c = search needs
+
+lay-number-lay-requires : (t : ℕ) → lay-number-lts.Need-lay-requires (
+  lay-reads.Asked,
+  lay-reads.Learnt,
+  lay-number-below t,
+  lay-number.Post,
+) (lay-number-at t) lay-number.Post
+lay-number-lay-requires t c κs = search needs
+
+lay-number-same-length : (t : ℕ) → lay-number-lts.Need-same-length (
+  lay-reads.Asked,
+  lay-reads.Learnt,
+  lay-number-below t,
+  lay-number.Post,
+) (lay-number-at t) lay-number.Post
+lay-number-same-length t c = search needs
+
+lay-number-returns : (t : ℕ) → lay-number-lts.Need-returns (
+  lay-reads.Asked,
+  lay-reads.Learnt,
+  lay-number-below t,
+  lay-number.Post,
+) (lay-number-at t) lay-number.Post
+lay-number-returns t c = number-one _ (c .before .before .before .before .if1 .taken) (c .before .before .lay .ensures)
+
+lay-number-lay-number-requires : (t : ℕ) → lay-number-lts.Need-lay-number-requires (
+  lay-reads.Asked,
+  lay-reads.Learnt,
+  lay-number-below t,
+  lay-number.Post,
+) (lay-number-at t) lay-number.Post
+lay-number-lay-number-requires t c κs = search needs
+
+lay-number-cast-lay-2 : (t : ℕ) → lay-number-lts.Need-cast-lay-2 (
+  lay-reads.Asked,
+  lay-reads.Learnt,
+  lay-number-below t,
+  lay-number.Post,
+) (lay-number-at t) lay-number.Post
+lay-number-cast-lay-2 t c = search needs
+
+lay-number-add-lay-2 : (t : ℕ) → lay-number-lts.Need-add-lay-2 (
+  lay-reads.Asked,
+  lay-reads.Learnt,
+  lay-number-below t,
+  lay-number.Post,
+) (lay-number-at t) lay-number.Post
+lay-number-add-lay-2 t c = search needs
+
+lay-number-lay-requires-2 : (t : ℕ) → lay-number-lts.Need-lay-requires-2 (
+  lay-reads.Asked,
+  lay-reads.Learnt,
+  lay-number-below t,
+  lay-number.Post,
+) (lay-number-at t) lay-number.Post
+lay-number-lay-requires-2 t c κs = search needs
+
+lay-number-same-length-2 : (t : ℕ) → lay-number-lts.Need-same-length-2 (
+  lay-reads.Asked,
+  lay-reads.Learnt,
+  lay-number-below t,
+  lay-number.Post,
+) (lay-number-at t) lay-number.Post
+lay-number-same-length-2 t c = search needs
+
+lay-number-returns-2 : (t : ℕ) → lay-number-lts.Need-returns-2 (
+  lay-reads.Asked,
+  lay-reads.Learnt,
+  lay-number-below t,
+  lay-number.Post,
+) (lay-number-at t) lay-number.Post
+lay-number-returns-2 t c =
+    let d = c .before .before in
+    let n = d .before .before .before .before in
+    number-more _ (n .before .before .if1 .left) (n .before .before .before .before .fits .x .fits) (n .lay-number .ensures) (d .lay2 .ensures)
+
+pub +lay-number-spec : {M : Type 1} → statement M
++lay-number-spec = close μ-lay-number λ t. lay-number-lts.spec (
+  lay-reads.Asked,
+  lay-reads.Learnt,
+  lay-number-below t,
+  lay-number.Post,
+)
+    (lay-number-at t)
+    lay-number.Post
+    (lay-number-cast-lay t)
+    (lay-number-add-lay t)
+    (lay-number-lay-requires t)
+    (lay-number-same-length t)
+    (lay-number-returns t)
+    (lay-number-lay-number-requires t)
+    (lay-number-cast-lay-2 t)
+    (lay-number-add-lay-2 t)
+    (lay-number-lay-requires-2 t)
+    (lay-number-same-length-2 t)
+    (lay-number-returns-2 t)

@@ -1,0 +1,5 @@
+pub mod Laying
+pub mod Rows
+pub mod Size
+pub mod Example
+pub mod Unique

@@ -1,0 +1,46 @@
+-- The lines of a listing, one more at a time. Assumes nothing.
+use mathlib.Core.Path.{_≡_, refl, sym, ap, _∙_}
+use mathlib.Core.List.{List, [], _∷_, _++_, append-assoc, append-nil}
+use Prim.Native.Nat.{ℕ, zero, suc, _+_, _≤_, _<_, min}
+use native.Mathlib.Nat.{lt-of-not-le}
+use native.Mathlib.Numerals.{add-one}
+use native.Mathlib.Decide.{decLe}
+use native.Mathlib.Omega.{arith}
+use lib.ListN.{length, getD, take}
+use lib.Seq.{take-all}
+use Rattle.bound.specs.declared.Answer.{Answer}
+use Rattle.plan.specs.declared.Stream.{Stream}
+use Rattle.text.specs.Listing.{row, rows}
+
+-- one row more
+more : (k : ℕ) (ss : List Stream) (answers : List Answer) (d : Stream) (b : Answer) → k < length ss → k < length answers
+    → rows (take (suc k) ss) (take (suc k) answers) ≡ rows (take k ss) (take k answers) ++ row (getD ss k d) (getD answers k b)
+unfolding rows
+more k [] answers d b h g = absurd (omega arith)
+more k (s ∷ ss) [] d b h g = absurd (omega arith)
+more zero (s ∷ ss) (a ∷ answers) d b h g = append-nil (row s a)
+more (suc k) (s ∷ ss) (a ∷ answers) d b h g =
+    ap (λ t. row s a ++ t) (more k ss answers d b (omega arith) (omega arith)) ∙ sym (append-assoc (row s a) (rows (take k ss) (take k answers)) _)
+
+pub rows-more : (k : ℕ) (ss : List Stream) (answers : List Answer) (d : Stream) (b : Answer) → k < length ss → k < length answers
+    → rows (take k ss) (take k answers) ++ row (getD ss k d) (getD answers k b) ≡ rows (take (k + 1) ss) (take (k + 1) answers)
+rows-more k ss answers d b h g = rw add-one (sym (more k ss answers d b h g))
+
+-- answers past the last stream are not read
+pub rows-all : (k : ℕ) (ss : List Stream) (answers : List Answer) → rows (take k ss) (take k answers) ≡ rows (take k ss) answers
+unfolding rows
+rows-all zero ss answers = refl
+rows-all (suc k) [] answers = refl
+rows-all (suc k) (s ∷ ss) [] = refl
+rows-all (suc k) (s ∷ ss) (a ∷ answers) = ap (λ t. row s a ++ t) (rows-all k ss answers)
+
+-- no more than there are
+pub take-min : {A : Type 0} (n m : ℕ) (l : List A) → length l ≤ m → take (min n m) l ≡ take n l
+take-min n m l h =
+    elim (decLe n m) [
+      | yes p ↦ let e : min n m ≡ n = omega arith in ap (λ k. take k l) e
+      | no p ↦
+          let g = lt-of-not-le p in
+          let e : min n m ≡ m = omega arith in
+          ap (λ k. take k l) e ∙ take-all m l h ∙ sym (take-all n l (omega arith))
+    ]

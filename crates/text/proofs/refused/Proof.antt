@@ -1,0 +1,41 @@
+-- Laid past the end the text is measured; then it is laid at the start, or not at all.
+use native.Mathlib.Omega.{arith}
+use Rattle.text.proofs.Laying.{put-full, put-at}
+use borrow.Author.Needs.{needs}
+use Rattle.text.proofs.refused.Statement.{statement}
+use Rattle.text.proofs.refused.Tie as tie
+
+lay-refusal-requires : tie.Need-lay-refusal-requires
+lay-refusal-requires c κs = search needs
+
+sub-bytes : tie.Need-sub-bytes
+sub-bytes c = search needs
+
+same-length : tie.Need-same-length
+same-length c = search needs
+
+returns : tie.Need-returns
+returns c = put-full 0 (c .before .before .before .lay-refusal .ensures) (omega arith)
+
+lay-refusal-requires-2 : tie.Need-lay-refusal-requires-2
+lay-refusal-requires-2 c κs = search needs
+
+same-length-2 : tie.Need-same-length-2
+same-length-2 c = search needs
+
+returns-2 : tie.Need-returns-2
+returns-2 c =
+    let l = c .before .before in
+    put-at 0 (l .before .before .before .before .before .lay-refusal .ensures) (omega arith) (l .lay-refusal2 .ensures)
+
+pub refused-spec : {M : Type 1} → statement M
+refused-spec =
+    tie.close
+    (tie.spec
+    lay-refusal-requires
+    sub-bytes
+    same-length
+    returns
+    lay-refusal-requires-2
+    same-length-2
+    returns-2)

@@ -1,0 +1,42 @@
+-- What is proved of the listing's size; the proofs are in proofs/Size.antt.
+use mathlib.Core.Path.{_≡_}
+use mathlib.Core.List.{List, map}
+use Prim.Native.Nat.{ℕ, _+_, _*_, _^_, _≤_, _<_}
+use lib.ListN.{length, getD}
+use Rattle.names.specs.Limits.{streams, ticks}
+use Rattle.bound.specs.declared.Answer.{Answer}
+use Rattle.plan.specs.declared.Stream.{Stream}
+use Rattle.plan.specs.Plan.{Plan, blank}
+use Rattle.text.specs.declared.Put.the-variants.{At}
+use Rattle.text.specs.Listing.{listingOf}
+use Rattle.text.specs.Put.{put}
+
+-- what is printed of a stream is a word of 32 bits
+pub record Printed (s : Stream) : Type 0 where
+  pub label : s .label .0 ≤ ticks
+  pub priority : s .priority .0 ≤ ticks
+  pub deadline : s .deadline ≤ ticks
+
+-- a plan of at most 64 streams with such words, and answers whose bounds have at most w digits
+pub record Listed (w : ℕ) (p : Plan) (answers : List Answer) : Type 0 where
+  pub count : length (p .streams) ≤ streams
+  pub stream : (k : ℕ) → k < length (p .streams) → Printed (getD (p .streams) k blank)
+  pub bound : (k : ℕ) → k < length answers → getD (map (λ a. a .bound) answers) k 0 < 10 ^ w
+
+-- the header has 38 bytes and a row 42 at most beside its bound
+abbrev pub most : ℕ → ℕ
+most w = 38 + streams * (42 + w)
+
+-- no listing has more
+abbrev pub LargestListing : Type 0
+LargestListing = (w : ℕ) (p : Plan) (answers : List Answer) → 1 ≤ w → Listed w p answers → length (listingOf p answers) ≤ most w
+
+-- bounds up to 8,589,934,590 have 10 digits at most, and then 3,366 bytes are enough, ..
+abbrev pub LargestOfBounds : Type 0
+LargestOfBounds = (p : Plan) (answers : List Answer) → Listed 10 p answers → length (listingOf p answers) ≤ 3366
+
+-- .. and a buffer of 4,006 bytes is never too small: no 64-bit word has more than 20 digits
+abbrev pub NeverFull : Type 0
+NeverFull =
+    (p : Plan) (answers : List Answer) (buffer : List ℕ) → Listed 20 p answers → 4006 ≤ length buffer
+    → put buffer 0 (listingOf p answers) .0 ≡ At (length (listingOf p answers))

@@ -1,0 +1,67 @@
+-- The listing of document 01, "Plans to run", byte by byte.
+use mathlib.Core.List.{List, [], _∷_, _++_}
+use Prim.Native.Nat.{ℕ, _/_, _%_}
+use Rattle.names.specs.declared.Label.{Label}
+use Rattle.names.specs.declared.Refusal.{Refusal}
+use Rattle.bound.specs.declared.Verdict.{Verdict}
+use Rattle.bound.specs.declared.Verdict.the-variants.{Met, Missed, None}
+use Rattle.bound.specs.declared.Answer.{Answer}
+use Rattle.plan.specs.declared.Stream.{Stream}
+use Rattle.plan.specs.Plan.{Plan}
+use Rattle.decimal.specs.Decimal.{digits}
+use Rattle.text.specs.Words as word
+
+-- a line of fields: they are parted by one space, and the line ends in one newline
+abbrev pub line : List (List ℕ) → List ℕ
+line [] = word.newline ∷ []
+line (f ∷ []) = f ++ word.newline ∷ []
+line (f ∷ g ∷ fs) = f ++ word.space ∷ line (g ∷ fs)
+
+-- a label is group × 65,536 + number
+abbrev pub group : ℕ
+group = 65536
+
+-- .. and is printed as group.number: 10.1 and 10.10 are two labels
+abbrev pub labelText : Label → List ℕ
+labelText l = digits (l .0 / group) ++ word.point ∷ digits (l .0 % group)
+
+-- a row that is none prints "-" as its bound ..
+abbrev pub boundText : Verdict → ℕ → List ℕ
+boundText Met b = digits b
+boundText Missed b = digits b
+boundText None b = word.dash
+
+-- .. and "none" as its verdict
+abbrev pub verdictText : Verdict → List ℕ
+verdictText Met = word.met
+verdictText Missed = word.missed
+verdictText None = word.none
+
+-- the first line
+abbrev pub header : List ℕ
+header = line (word.label ∷ word.priority ∷ word.bound ∷ word.deadline ∷ word.verdict ∷ [])
+
+-- the line of a stream and its answer
+unfoldable pub row : Stream → Answer → List ℕ
+row s a =
+    line
+    (labelText (s .label)
+    ∷ digits (s .priority .0)
+    ∷ boundText (a .verdict) (a .bound)
+    ∷ digits (s .deadline)
+    ∷ verdictText (a .verdict)
+    ∷ [])
+
+-- a line for each stream that has an answer, in file order
+unfoldable pub rows : List Stream → List Answer → List ℕ
+rows [] answers = []
+rows (s ∷ ss) [] = []
+rows (s ∷ ss) (a ∷ answers) = row s a ++ rows ss answers
+
+-- the whole listing of a plan and its rows' answers
+unfoldable pub listingOf : Plan → List Answer → List ℕ
+listingOf p answers = header ++ rows (p .streams) answers
+
+-- a refused plan prints one line, "refused 4 at 1"
+unfoldable pub refusedOf : Refusal → List ℕ
+refusedOf r = line (word.refused ∷ digits (r .number) ∷ word.at ∷ digits (r .place) ∷ [])

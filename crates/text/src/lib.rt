@@ -1,0 +1,212 @@
+// The listing as text: numbers, labels, and the whole listing or a refusal's line, into a lent buffer.
+//
+// Every public function answers for every input, and its contract fixes each byte of the buffer: a text that does not
+// fit is answered `Full` and leaves the buffer as it was. Nothing is assumed. This crate must not know of files, of checks,
+// or of how an answer comes about.
+ghost use mathlib.Core.Path.{_≡_};
+ghost use mathlib.Core.List.{[], _∷_};
+ghost use Prim.Native.Nat.{min};
+ghost use lib.ListN.{length};
+ghost use Rattle.names.specs.Limits.{streams};
+ghost use Rattle.decimal.specs.Decimal.{digits};
+ghost use Rattle.plan.specs.Plan.{planOf};
+ghost use Rattle.text.specs.Listing as text;
+ghost use Rattle.text.specs.Put.{Puts};
+ghost use Rattle.text.specs.Private.{Laid, Countable, ofNumber, ofLabel, ofVerdict, ofRow, ofHeader, ofListing, ofRefusal};
+use bound::Answer;
+use bound::Verdict;
+use names::Label;
+use names::Refusal;
+use names::STREAMS;
+use plan::Sheet;
+use plan::Stream;
+
+// The place after a text that was put, or that it does not fit.
+pub enum Put {
+    At(usize),
+    Full,
+}
+
+// A label is group * 65,536 + number.
+const GROUP: u32 = 65536;
+
+// Lays a byte at a place. Past the buffer's end nothing is laid, so a text laid there is only measured.
+fn lay(out: &mut [u8], at: usize, byte: u8) -> usize
+    requires { ⌜ Countable at 0 ⌝ }
+    ensures { λ r. ⌜ Laid 1 (now (out .entry)) at (byte ∷ []) r (now (out .exit)) ⌝ }
+{
+    if at < out.len() {
+        out[at] = byte;
+    }
+    at + 1
+}
+
+fn lay_text(out: &mut [u8], at: usize, text: &[u8]) -> usize
+    requires { ⌜ Countable at (length (now text)) ⌝ }
+    ensures { λ r. ⌜ Laid (length (now (text .entry))) (now (out .entry)) at (now (text .entry)) r (now (out .exit)) ⌝ }
+{
+    let mut next = at;
+    let mut i: usize = 0;
+    while i < text.len() {
+        next = lay(out, next, text[i]);
+        i += 1;
+    }
+    next
+}
+
+fn lay_number(out: &mut [u8], at: usize, x: u64) -> usize
+    requires { ⌜ Countable at ofNumber ⌝ }
+    ensures { λ r. ⌜ Laid ofNumber (now (out .entry)) at (digits x) r (now (out .exit)) ⌝ }
+{
+    if x < 10 {
+        return lay(out, at, b'0' + x as u8);
+    }
+    let last = lay_number(out, at, x / 10);
+    lay(out, last, b'0' + (x % 10) as u8)
+}
+
+fn lay_label(out: &mut [u8], at: usize, label: Label) -> usize
+    requires { ⌜ Countable at ofLabel ⌝ }
+    ensures { λ r. ⌜ Laid ofLabel (now (out .entry)) at (text.labelText label) r (now (out .exit)) ⌝ }
+{
+    let group = label.0 / GROUP;
+    let number = label.0 % GROUP;
+    let at = lay_number(out, at, group as u64);
+    let at = lay(out, at, b'.');
+    lay_number(out, at, number as u64)
+}
+
+fn lay_bound(out: &mut [u8], at: usize, verdict: Verdict, bound: u64) -> usize
+    requires { ⌜ Countable at ofNumber ⌝ }
+    ensures { λ r. ⌜ Laid ofNumber (now (out .entry)) at (text.boundText verdict bound) r (now (out .exit)) ⌝ }
+{
+    match verdict {
+        Verdict::Met => lay_number(out, at, bound),
+        Verdict::Missed => lay_number(out, at, bound),
+        Verdict::None => lay(out, at, b'-'),
+    }
+}
+
+fn lay_verdict(out: &mut [u8], at: usize, verdict: Verdict) -> usize
+    requires { ⌜ Countable at ofVerdict ⌝ }
+    ensures { λ r. ⌜ Laid ofVerdict (now (out .entry)) at (text.verdictText verdict) r (now (out .exit)) ⌝ }
+{
+    match verdict {
+        Verdict::Met => lay_text(out, at, b"met"),
+        Verdict::Missed => lay_text(out, at, b"missed"),
+        Verdict::None => lay_text(out, at, b"none"),
+    }
+}
+
+fn lay_row(out: &mut [u8], at: usize, stream: Stream, answer: Answer) -> usize
+    requires { ⌜ Countable at ofRow ⌝ }
+    ensures { λ r. ⌜ Laid ofRow (now (out .entry)) at (text.row stream answer) r (now (out .exit)) ⌝ }
+{
+    let label = stream.label;
+    let verdict = answer.verdict;
+    let at = lay_label(out, at, label);
+    let at = lay(out, at, b' ');
+    let at = lay_number(out, at, stream.priority.0 as u64);
+    let at = lay(out, at, b' ');
+    let at = lay_bound(out, at, verdict, answer.bound);
+    let at = lay(out, at, b' ');
+    let at = lay_number(out, at, stream.deadline as u64);
+    let at = lay(out, at, b' ');
+    let end = lay_verdict(out, at, verdict);
+    lay(out, end, b'\n')
+}
+
+fn lay_header(out: &mut [u8], at: usize) -> usize
+    requires { ⌜ Countable at ofHeader ⌝ }
+    ensures { λ r. ⌜ Laid ofHeader (now (out .entry)) at text.header r (now (out .exit)) ⌝ }
+{
+    lay_text(out, at, b"label priority bound deadline verdict\n")
+}
+
+// How many streams a sheet has: as many as it counts, but no more than its places.
+fn stream_count(count: usize) -> usize
+    ensures { λ r. ⌜ r ≡ min count streams ⌝ }
+{
+    if count < STREAMS { count } else { STREAMS }
+}
+
+fn lay_listing(out: &mut [u8], at: usize, sheet: Sheet, rows: [Answer; STREAMS]) -> usize
+    requires { ⌜ Countable at ofListing ⌝ }
+    ensures { λ r. ⌜ Laid ofListing (now (out .entry)) at (text.listingOf (planOf sheet) rows) r (now (out .exit)) ⌝ }
+{
+    let n = stream_count(sheet.count);
+    let mut next = lay_header(out, at);
+    let mut k: usize = 0;
+    while k < n {
+        let stream = sheet.streams[k];
+        let answer = rows[k];
+        next = lay_row(out, next, stream, answer);
+        k += 1;
+    }
+    next
+}
+
+fn lay_refusal(out: &mut [u8], at: usize, refusal: Refusal) -> usize
+    requires { ⌜ Countable at ofRefusal ⌝ }
+    ensures { λ r. ⌜ Laid ofRefusal (now (out .entry)) at (text.refusedOf refusal) r (now (out .exit)) ⌝ }
+{
+    let at = lay_text(out, at, b"refused ");
+    let at = lay_number(out, at, refusal.number as u64);
+    let at = lay_text(out, at, b" at ");
+    let at = lay_number(out, at, refusal.place as u64);
+    lay(out, at, b'\n')
+}
+
+// A number's digits, at a place of the buffer.
+pub fn put_number(out: &mut [u8], at: usize, x: u64) -> Put
+    ensures { λ r. ⌜ Puts (now (out .entry)) at (digits x) r (now (out .exit)) ⌝ }
+{
+    let size = out.len();
+    if size < at {
+        return Put::Full;
+    }
+    let bytes = lay_number(out, size, x) - size;
+    if size - at < bytes {
+        return Put::Full;
+    }
+    Put::At(lay_number(out, at, x))
+}
+
+// A label as group.number, at a place of the buffer.
+pub fn put_label(out: &mut [u8], at: usize, label: Label) -> Put
+    ensures { λ r. ⌜ Puts (now (out .entry)) at (text.labelText label) r (now (out .exit)) ⌝ }
+{
+    let size = out.len();
+    if size < at {
+        return Put::Full;
+    }
+    let bytes = lay_label(out, size, label) - size;
+    if size - at < bytes {
+        return Put::Full;
+    }
+    Put::At(lay_label(out, at, label))
+}
+
+// The listing of a sheet's plan with its rows' answers, at the start of the buffer.
+pub fn listing(sheet: Sheet, rows: [Answer; STREAMS], out: &mut [u8]) -> Put
+    ensures { λ r. ⌜ Puts (now (out .entry)) 0 (text.listingOf (planOf sheet) rows) r (now (out .exit)) ⌝ }
+{
+    let size = out.len();
+    let listed = lay_listing(out, size, sheet, rows) - size;
+    if size < listed {
+        return Put::Full;
+    }
+    Put::At(lay_listing(out, 0, sheet, rows))
+}
+
+// The line of a refusal, at the start of the buffer.
+pub fn refused(refusal: Refusal, out: &mut [u8]) -> Put
+    ensures { λ r. ⌜ Puts (now (out .entry)) 0 (text.refusedOf refusal) r (now (out .exit)) ⌝ }
+{
+    let size = out.len();
+    let bytes = lay_refusal(out, size, refusal) - size;
+    if size < bytes {
+        return Put::Full;
+    }
+    Put::At(lay_refusal(out, 0, refusal))
+}
