@@ -61,7 +61,7 @@ answer-all-requires c κs = search needs
 put-words-requires : tie.Need-put-words-requires
 put-words-requires c κs =
     let a = c .before .before in
-    (few (a .before .before), front a .0, a .before .if1 .left)
+    (omega (arith, few (a .before .before)), omega (arith, front a .0), omega (arith, a .before .if1 .left))
 
 same-length : tie.Need-same-length
 same-length c = search needs
