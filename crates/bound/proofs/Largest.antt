@@ -1,4 +1,4 @@
--- The bound is the largest term, and above zero. Assumes nothing.
+-- The bound is the largest term, above zero, and at most J + L. Assumes nothing.
 use mathlib.Core.Path.{_≡_, refl, sym, ap, _∙_, subst}
 use Prim.Native.Nat.{ℕ, _+_, _-_, _*_, _≤_, _<_}
 use native.Mathlib.Nat.{zero-mul, add-zero}
@@ -9,11 +9,12 @@ use lib.Signed.{leZ, nonNeg, pos-natAbs}
 use Rattle.laws.specs.Lists.{ceil}
 use Rattle.laws.specs.Signed.{largestTo}
 use Rattle.laws.proofs.Round.{ceil-pos}
-use Rattle.laws.proofs.Signed.{largest-ge, largest-is, above-pos}
+use Rattle.laws.proofs.Signed.{largest-ge, largest-is, above-pos, diff-le}
 use Rattle.bound.specs.Terms.{Terms}
 use Rattle.bound.specs.Bound.{busy, Q, w, term, bound}
-use Rattle.bound.specs.Claims.{Sound, BoundIsLargest}
+use Rattle.bound.specs.Claims.{Sound, BoundIsLargest, BoundWithin}
 use Rattle.bound.proofs.Sides.{busy-is-least}
+use Rattle.bound.proofs.Instances.{room, w-exists}
 
 -- a busy period has an instance
 pub some-instance : (r : Terms) → Sound r → (L : ℕ) → 1 ≤ L → 1 ≤ Q r L
@@ -42,3 +43,9 @@ bound-is-largest r s L b =
       (q, omega arith, bound-is r s L ∙ e),
       largest-pos r s (Q r L - 1) .1,
     )
+
+pub bound-within : BoundWithin
+bound-within r s L b =
+    let (q, h, e) = bound-is-largest r s L b .1 in
+    let l = busy-is-least r L .0 b .1 in
+    omega (arith, diff-le (bound r L) (r .own .J + w r q + r .last) (q * r .own .T) e, w-exists r s L q b h .1, room r s L (l .fixed) (l .above) q h, s .last)

@@ -40,3 +40,7 @@ abbrev pub BoundIsLargest : Type 0
 BoundIsLargest =
     (r : Terms) → Sound r → (L : ℕ) → busy r ≡ At L
     → ((q : ℕ) → q < Q r L → T (leZ (term r q) (pos (bound r L)))) × ((q : ℕ) × (q < Q r L) × (pos (bound r L) ≡ term r q)) × (1 ≤ bound r L)
+
+-- .. and at most J + L, so it fits its word: with J and L at most 4,294,967,295 it has ten digits at most
+abbrev pub BoundWithin : Type 0
+BoundWithin = (r : Terms) → Sound r → (L : ℕ) → busy r ≡ At L → bound r L ≤ r .own .J + L

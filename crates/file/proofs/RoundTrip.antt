@@ -28,7 +28,7 @@ use Rattle.file.specs.declared.ReadPlan.{ReadPlan}
 use Rattle.file.specs.declared.Written.{Written}
 use Rattle.file.specs.declared.Written.the-variants.{Bytes}
 use Rattle.file.specs.File.{contents, words, fileOf, streamsIn, gapsIn, planIn, sheetOf, readAs, readOf, linesOut, writeAs, writeOf}
-use Rattle.file.specs.Claims.{ReadsWhatWasWritten, WritesWhatWasRead, ReadsOneSheet}
+use Rattle.file.specs.Claims.{ReadsAsItsValues, ReadsWhatWasWritten, WritesWhatWasRead, ReadsOneSheet}
 use Rattle.file.proofs.Same.{same-refl}
 use Rattle.file.proofs.Reading.{read-values, ReadFine, fine-read, one-sheet, checked-sheet}
 use Rattle.file.proofs.Writing.{write-fine}
@@ -85,14 +85,13 @@ module _ (p : Plan) (w : Right (length (p .streams)) (length (p .gaps)) p) where
 length-file : (p : Plan) → length (fileOf p) ≡ layout.size (length (p .streams)) (length (p .gaps))
 length-file p = W.length-bytes (words p) ∙ ap (λ k. layout.word * k) (length-words p)
 
-pub read-file : (p : Plan) → Right (length (p .streams)) (length (p .gaps)) p → readOf (fileOf p) ≡ record { answer = Fine; sheet = sheetOf p }
-read-file p w =
+-- any plan of few enough streams and gaps whose words fit is read as its values say, the refused ones too
+pub reads-as-its-values : ReadsAsItsValues
+reads-as-its-values p few quiet fits =
     let n = length (p .streams) in
     let m = length (p .gaps) in
     let all = contents n m ++ (timingWords (p .timing) ++ (flatMap streamWords (p .streams) ++ p .gaps)) in
-    let ws : wordsOf (fileOf p) ≡ words p = W.words-bytes (words p) (words-fit p w) in
-    let few : n ≤ streams = w .within .count in
-    let quiet : m ≤ sources = w .within .sources in
+    let ws : wordsOf (fileOf p) ≡ words p = W.words-bytes (words p) fits in
     let long : length (fileOf p) ≡ layout.size n m = length-file p in
     let n-is : streamsIn all ≡ n = omega arith in
     let m-is : gapsIn all ≡ m = omega arith in
@@ -102,7 +101,11 @@ read-file p w =
     (simp (le-leb (layout.word * layout.contents) (length (fileOf p)) (omega arith), le-leb (length (fileOf p)) (layout.size streams sources) (omega arith)))
     (rw head (rw (same-refl (contents n m)) (eq-eqb _ _ long)))
     ∙ ap (λ q. readAs (judge (lines n m q)) q) back
-    ∙ ap (λ c. readAs c p) (fine-if-right n m p .1 w)
+
+pub read-file : (p : Plan) → Right (length (p .streams)) (length (p .gaps)) p → readOf (fileOf p) ≡ record { answer = Fine; sheet = sheetOf p }
+read-file p w =
+    reads-as-its-values p (w .within .count) (w .within .sources) (words-fit p w)
+    ∙ ap (λ c. readAs c p) (fine-if-right (length (p .streams)) (length (p .gaps)) p .1 w)
 
 own-counts : (n m : ℕ) (p : Plan) → Right n m p → Right (length (p .streams)) (length (p .gaps)) p
 own-counts n m p r =

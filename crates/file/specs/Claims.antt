@@ -1,8 +1,9 @@
 -- What is proved of the plan file: one plan, one file (proofs/RoundTrip.antt), and document 01's numbers (proofs/Numbers.antt).
 use mathlib.Core.Path.{_≡_}
 use mathlib.Core.List.{List, [], _∷_, _++_}
-use Prim.Native.Nat.{ℕ, _+_, _*_, _≤_, _<_}
+use Prim.Native.Nat.{ℕ, _+_, _*_, _^_, _≤_, _<_}
 use lib.ListN.{length, getD, take, drop}
+use Rattle.names.specs.Limits.{streams, sources}
 use Rattle.words.specs.Words.{Below}
 use Rattle.plan.specs.declared.Sheet.{Sheet}
 use Rattle.plan.specs.Plan.{Plan, planOf}
@@ -10,8 +11,15 @@ use Rattle.fields.specs.Layout as layout
 use Rattle.fields.specs.Fields.{fields}
 use Rattle.fields.specs.Claims.{fieldAt}
 use Rattle.checks.specs.declared.Checked.the-variants.{Fine}
+use Rattle.checks.specs.Checks.{judge, lines}
 use Rattle.file.specs.declared.Written.the-variants.{Bytes}
-use Rattle.file.specs.File.{contents, words, sheetOf, readOf, writeOf}
+use Rattle.file.specs.File.{contents, words, fileOf, sheetOf, readAs, readOf, writeOf}
+
+-- the file of any plan of at most 64 streams and 8 gaps, whose words fit 32 bits, is answered as the plan's values are, with the same place
+abbrev pub ReadsAsItsValues : Type 0
+ReadsAsItsValues =
+    (p : Plan) → length (p .streams) ≤ streams → length (p .gaps) ≤ sources → Below (2 ^ 32) (words p)
+    → readOf (fileOf p) ≡ readAs (judge (lines (length (p .streams)) (length (p .gaps)) p)) p
 
 -- reading what was written gives the same plan, for every sheet that is not refused
 abbrev pub ReadsWhatWasWritten : Type 0

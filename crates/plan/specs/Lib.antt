@@ -1,2 +1,3 @@
 pub mod Plan
 pub mod Rules
+pub mod Claims

@@ -15,13 +15,13 @@ use Rattle.bound.specs.declared.Verdict.{Verdict}
 use Rattle.bound.specs.declared.Verdict.the-variants.{Met, Missed, None}
 use Rattle.bound.specs.Terms.{Share, Terms}
 use Rattle.bound.specs.Bound.{busy, bound, verdict, answer, answerOf}
-use Rattle.bound.specs.Claims.{Sound}
 use Rattle.cover.specs.Cover.{Partnered, NoHeavier, NoShorter, Covers}
 use Rattle.cover.proofs.Cover.{covered-keeps}
 use Rattle.plan.specs.declared.Timing.{Timing}
 use Rattle.plan.specs.declared.Stream.{Stream}
 use Rattle.plan.specs.Plan.{Plan, blank, StreamWithin}
 use Rattle.plan.specs.Rules as rule
+use Rattle.plan.proofs.Rules.{terms-sound}
 use Rattle.checks.specs.Claims.{Right}
 use Rattle.promise.specs.Lighter.{at, Namesakes, NoGreater, Eased, Lighter, NotRefused, Kept, LighterKeeps}
 use Rattle.promise.proofs.Partners.{All, Split, Apart, all-index, split-index, those-split, all-those, apart-those, apart-index, by-name, map-partners, largest-partners, partners-have}
@@ -33,12 +33,6 @@ V-le old new n = omega (arith, n .f, n .e, n .tfcs, n .swx, n .h)
 U-le : (old new : Timing) → NoGreater old new → rule.U new ≤ rule.U old
 U-le old new n =
     omega (arith, n .g, n .etg, n .lag, mul-le-mul {n₁ = new .h + new .g} {m₁ = new .nb - 1} {n₂ = old .h + old .g} {m₂ = old .nb - 1} (omega (arith, n .h, n .g)) (omega (arith, n .nb)))
-
--- ---- a stream's terms, where its fields are within the limits
-terms-sound : (p : Plan) (i : Stream) → StreamWithin (p .timing .nb) i → Sound (rule.terms p i)
-unfolding rule.terms
-terms-sound p i s =
-    record { period = s .some-period; late = omega (arith, s .some-payload); ends = omega (arith, s .some-payload); last = le-refl _ }
 
 -- "met" says that there is a bound, and that it is at most D
 met-says : (p : Plan) (s : Stream) → rule.rowAnswer p s .verdict ≡ Met → (L : ℕ) × (busy (rule.terms p s) ≡ At L) × (bound (rule.terms p s) L ≤ s .deadline)
