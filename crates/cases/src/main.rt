@@ -2,6 +2,7 @@
 //
 // Standard input names the cases, one a line: the case NAME is the file NAME.plan, and NAME.out is what must be shown of it. A
 // case that differs is printed by its name, and the last line counts. This program must not know of plans.
+use console::print_first;
 use libc::STDIN_FILENO;
 use libc::STDOUT_FILENO;
 use text::Put;
@@ -95,12 +96,6 @@ fn holds(name: Path) -> bool {
     match desk::show(&file[..n], &mut out) {
         Put::At(k) => first_are(&out, k, &must[..m]),
         Put::Full => false,
-    }
-}
-
-fn print_first(bytes: &[u8], k: usize) {
-    if k <= bytes.len() {
-        io::write_all(STDOUT_FILENO, &bytes[..k]);
     }
 }
 

@@ -2,15 +2,9 @@
 //
 // A thin program: the crate desk fixes each byte that is printed. What is read and written is io's to say. A file longer
 // than the buffer is longer than any plan file, and so is the part of it that is shown to the desk.
+use console::print_first;
 use libc::STDIN_FILENO;
-use libc::STDOUT_FILENO;
 use text::Put;
-
-fn print_first(bytes: &[u8], k: usize) {
-    if k <= bytes.len() {
-        io::write_all(STDOUT_FILENO, &bytes[..k]);
-    }
-}
 
 fn main() {
     let mut file = io::buffer();
@@ -19,6 +13,7 @@ fn main() {
     let shown = desk::show(&file[..n], &mut out);
     match shown {
         Put::At(k) => print_first(&out, k),
+        // 4,096 bytes hold every listing (ListingFits, in desk's claims) and the line of every refusal.
         Put::Full => {}
     }
 }

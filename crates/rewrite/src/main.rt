@@ -1,17 +1,11 @@
 // Reads a plan file from standard input and writes the plan in it to standard output, or nothing if it is refused.
 //
 // A thin program over the reader and the writer: it promises nothing of its own. What comes out is byte for byte what went in.
+use console::print_first;
 use file::Written;
 use libc::STDIN_FILENO;
-use libc::STDOUT_FILENO;
 use reader::read;
 use writer::write;
-
-fn print_first(bytes: &[u8], k: usize) {
-    if k <= bytes.len() {
-        io::write_all(STDOUT_FILENO, &bytes[..k]);
-    }
-}
 
 fn main() {
     let mut buffer = io::buffer();

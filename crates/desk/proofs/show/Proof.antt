@@ -30,7 +30,7 @@ same-length : tie.Need-same-length
 same-length c = search needs
 
 returns : tie.Need-returns
-returns c = 
+returns c =
     let r = c .before .before in
     let a = r .before .before .before in
     let f = a .before .before .before in
@@ -42,14 +42,14 @@ same-length-2 : tie.Need-same-length-2
 same-length-2 c = search needs
 
 returns-2 : tie.Need-returns-2
-returns-2 c = 
+returns-2 c =
     let l = c .before .before in
     let a = l .before .before .before in
     let t = a .before in
     let f = t .before .before .before in
     let s = f .before .before .before in
     let e = rows-shown (now (s .args .bytes)) (f .read .result) (f .read .ensures) (a .answer-all .result) (t .enum-told .given .1) (a .answer-all .ensures)
-        ∙ sym (shown-is (now (s .args .bytes)) (f .read .result) (f .read .ensures) _ (t .enum-told .given .1)) in
+    ∙ sym (shown-is (now (s .args .bytes)) (f .read .result) (f .read .ensures) _ (t .enum-told .given .1)) in
     (l .listing .ensures .0 ∙ ap (λ t. put (now (s .args .out)) 0 t .0) e, l .listing .ensures .1 ∙ ap (λ t. put (now (s .args .out)) 0 t .1) e)
 
 pub show-spec : {M : Type 1} → statement M

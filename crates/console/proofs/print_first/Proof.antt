@@ -2,8 +2,8 @@
 use mathlib.Core.Path.{sym}
 use borrow.Author.Needs.{needs}
 use lib.Seq.{length-take-le}
-use Rattle.listing.proofs.print_first.Statement.{statement}
-use Rattle.listing.proofs.print_first.Tie as tie
+use Rattle.console.proofs.print_first.Statement.{statement}
+use Rattle.console.proofs.print_first.Tie as tie
 
 slice-aggregate-write-all : tie.Need-slice-aggregate-write-all
 slice-aggregate-write-all c = sym (length-take-le _ _ (c .before .if1 .taken))
