@@ -1,0 +1,55 @@
+// Answers a plan file from standard input into lent words, and prints all of them.
+//
+// Every lent word is 7 before the call, so that what stays as it was is seen. The answers are proved in the crate answers; here
+// they are run and compared.
+use checks::Checked;
+use libc::STDIN_FILENO;
+use libc::STDOUT_FILENO;
+
+// The words of 64 rows, and two more.
+const LENT: usize = 130;
+
+fn print(bytes: &[u8]) {
+    io::write_all(STDOUT_FILENO, bytes);
+}
+
+fn number(n: u64) {
+    io::print_decimal(STDOUT_FILENO, n);
+}
+
+fn answer(a: Checked) {
+    match a {
+        Checked::Fine => print(b"fine:"),
+        Checked::Refused(r) => {
+            print(b"refused ");
+            number(r.number as u64);
+            print(b" at ");
+            number(r.place as u64);
+            print(b":");
+        }
+    }
+}
+
+fn word(w: u64) {
+    print(b" ");
+    number(w);
+}
+
+fn words(out: [u64; LENT]) {
+    for k in 0..LENT {
+        word(out[k]);
+    }
+}
+
+fn of_file(file: &[u8]) {
+    let mut out = [7u64; LENT];
+    answer(answers::answer_file(file, &mut out));
+    words(out);
+    print(b"\n");
+}
+
+fn main() {
+    let mut file = io::buffer();
+    let n = io::read_full(STDIN_FILENO, &mut file);
+    of_file(&file[..n]);
+}
