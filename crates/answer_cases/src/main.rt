@@ -3,28 +3,19 @@
 // Every lent word is 7 before the call, so that what stays as it was is seen. The answers are proved in the crate answers; here
 // they are run and compared.
 use checks::Checked;
+use console::print;
+use console::print_number;
+use console::print_refusal;
 use libc::STDIN_FILENO;
-use libc::STDOUT_FILENO;
 
 // The words of 64 rows, and two more.
 const LENT: usize = 130;
-
-fn print(bytes: &[u8]) {
-    io::write_all(STDOUT_FILENO, bytes);
-}
-
-fn number(n: u64) {
-    io::print_decimal(STDOUT_FILENO, n);
-}
 
 fn answer(a: Checked) {
     match a {
         Checked::Fine => print(b"fine:"),
         Checked::Refused(r) => {
-            print(b"refused ");
-            number(r.number as u64);
-            print(b" at ");
-            number(r.place as u64);
+            print_refusal(r);
             print(b":");
         }
     }
@@ -32,7 +23,7 @@ fn answer(a: Checked) {
 
 fn word(w: u64) {
     print(b" ");
-    number(w);
+    print_number(w);
 }
 
 fn words(out: [u64; LENT]) {

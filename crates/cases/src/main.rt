@@ -2,9 +2,10 @@
 //
 // Standard input names the cases, one a line: the case NAME is the file NAME.plan, and NAME.out is what must be shown of it. A
 // case that differs is printed by its name, and the last line counts. This program must not know of plans.
+use console::print;
 use console::print_first;
+use console::print_number;
 use libc::STDIN_FILENO;
-use libc::STDOUT_FILENO;
 use text::Put;
 
 // The longest path of a file.
@@ -101,9 +102,9 @@ fn holds(name: Path) -> bool {
 
 fn print_name(path: Path) {
     let bytes = path.bytes;
-    io::write_all(STDOUT_FILENO, b"differs: ");
+    print(b"differs: ");
     print_first(&bytes, path.length);
-    io::write_all(STDOUT_FILENO, b"\n");
+    print(b"\n");
 }
 
 // The name is complete: its case is run and counted.
@@ -151,8 +152,8 @@ fn main() {
     let mut names = io::large_buffer();
     let n = io::read_full(STDIN_FILENO, &mut names);
     let t = all(&names[..n]);
-    io::print_decimal(STDOUT_FILENO, t.same);
-    io::write_all(STDOUT_FILENO, b" the same, ");
-    io::print_decimal(STDOUT_FILENO, t.different);
-    io::write_all(STDOUT_FILENO, b" different\n");
+    print_number(t.same);
+    print(b" the same, ");
+    print_number(t.different);
+    print(b" different\n");
 }

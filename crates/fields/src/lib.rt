@@ -3,6 +3,7 @@
 // Every function answers for every value that it is given, and its contract determines the answer. Nothing is assumed. This
 // crate knows of names, laws and a plan's values; it must not know of bytes, of lent memory or of the other refusals.
 use laws::Found;
+use laws::smaller;
 use names::BITS;
 use names::CONSTANT;
 use names::PAYLOAD;
@@ -14,7 +15,7 @@ use plan::Stream;
 use plan::Timing;
 ghost use mathlib.Core.Path.{_≡_};
 ghost use mathlib.Core.List.{map, flatMap};
-ghost use Prim.Native.Nat.{_+_, _-_, _^_, _*_, min, _≤_};
+ghost use Prim.Native.Nat.{_+_, _-_, _^_, _*_, _≤_};
 ghost use lib.ListN.{length, take};
 ghost use Rattle.names.specs.Limits as limit;
 ghost use Rattle.laws.specs.declared.Found.the-variants.{At};
@@ -144,12 +145,6 @@ fn gaps_outside(gaps: [u32; SOURCES], m: usize, n: usize) -> Found
         &most[..m],
         CONTENTS + TIMING + STREAM * n,
     )
-}
-
-fn smaller(a: usize, b: usize) -> usize
-    ensures { λ r. ⌜ r ≡ min a b ⌝ }
-{
-    if a < b { a } else { b }
 }
 
 // The byte offset of the lowest field of a sheet's plan that is outside its limits. No number is raised to the power NB

@@ -3,3 +3,4 @@ pub mod Lists
 pub mod Search
 pub mod Chain
 pub mod Signed
+pub mod Unique

@@ -61,10 +61,6 @@ those-no t l a e = those-snoc t l a ∙ ap (λ b. those t l ++ cond b (a ∷ [])
     append-nil (x ∷ m) = ap (λ z. x ∷ z) (append-nil m)
 
 -- ---- a loop over rows, one row a turn
-pub sum-more : {A : Type 0} (g : A → ℕ) (f : ℕ → A) (k s r : ℕ) → s ≡ sumOf g (rows k f) → r ≡ g (f k) → s + r ≡ sumOf g (rows (k + 1) f)
-unfolding rows
-sum-more g f k s r e d = rw add-one (omega (arith, sum-snoc g (rows k f) (f k)))
-
 pub largest-more : {A : Type 0} (g : A → ℕ) (f : ℕ → A) (k s r n : ℕ) → s ≡ largestOf g (rows k f) → r ≡ g (f k) → n ≡ max s r → n ≡ largestOf g (rows (k + 1) f)
 unfolding rows
 largest-more g f k s r n e d h = rw add-one (omega (arith, largest-snoc g (rows k f) (f k)))
@@ -86,10 +82,6 @@ pub rows-take : {A : Type 0} (l : List A) (d : A) (n : ℕ) → n ≤ length l �
 unfolding rows
 rows-take l d zero h = refl
 rows-take l d (suc n) h = ap (λ m. m ++ (getD l n d ∷ [])) (rows-take l d n (omega arith)) ∙ sym (take-suc l n d (omega arith))
-
-pub rows-none : {A : Type 0} (f : ℕ → A) → rows 0 f ≡ []
-unfolding rows
-rows-none f = refl
 
 pub rows-more : {A : Type 0} (f : ℕ → A) (k : ℕ) → rows (k + 1) f ≡ rows k f ++ (f k ∷ [])
 unfolding rows

@@ -13,7 +13,7 @@ fn main() {
     let shown = desk::show(&file[..n], &mut out);
     match shown {
         Put::At(k) => print_first(&out, k),
-        // 4,096 bytes hold every listing (ListingFits, in desk's claims) and the line of every refusal.
+        // 4,096 bytes hold every listing (ListingFits, in desk's claims) and every refusal (LargestRefusal, in text's).
         Put::Full => {}
     }
 }

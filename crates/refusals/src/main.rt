@@ -3,18 +3,10 @@
 // A thin program over the reader: it promises nothing of its own, and what is read and printed is io's to say. A file that is
 // longer than the buffer is longer than any plan file, and so is the part of it that the reader sees.
 use checks::Checked;
+use console::print;
+use console::print_refusal;
 use libc::STDIN_FILENO;
-use libc::STDOUT_FILENO;
-use names::Refusal;
 use reader::read;
-
-fn print_refusal(r: Refusal) {
-    io::write_all(STDOUT_FILENO, b"refused ");
-    io::print_decimal(STDOUT_FILENO, r.number as u64);
-    io::write_all(STDOUT_FILENO, b" at ");
-    io::print_decimal(STDOUT_FILENO, r.place as u64);
-    io::write_all(STDOUT_FILENO, b"\n");
-}
 
 fn main() {
     let mut buffer = io::buffer();
@@ -23,8 +15,11 @@ fn main() {
     let answer = plan.answer;
     match answer {
         Checked::Fine => {
-            io::write_all(STDOUT_FILENO, b"fine\n");
+            print(b"fine\n");
         }
-        Checked::Refused(r) => print_refusal(r),
+        Checked::Refused(r) => {
+            print_refusal(r);
+            print(b"\n");
+        }
     }
 }

@@ -1,7 +1,9 @@
 // The lines that a person reads.
 use crate::read;
 use crate::read::Reader;
-use libc::STDOUT_FILENO;
+use console::print;
+use console::print_number;
+use console::print_refusal;
 use names::CONTENDERS;
 use names::Refusal;
 use tournament::Carrier;
@@ -9,22 +11,14 @@ use tournament_state::Answer;
 use tournament_state::Phase;
 use tournament_state::Tournament;
 
-fn text(bytes: &[u8]) {
-    io::write_all(STDOUT_FILENO, bytes);
-}
-
 pub fn line(bytes: &[u8]) {
-    text(bytes);
-    text(b"\n");
-}
-
-fn number(n: u64) {
-    io::print_decimal(STDOUT_FILENO, n);
+    print(bytes);
+    print(b"\n");
 }
 
 fn row(i: usize) {
-    text(b" ");
-    number(i as u64);
+    print(b" ");
+    print_number(i as u64);
 }
 
 // The rows that are in `these` and not in `those`, or that there are none.
@@ -37,14 +31,14 @@ fn rows(these: [bool; CONTENDERS], those: [bool; CONTENDERS]) {
         }
     }
     if !some {
-        text(b" none");
+        print(b" none");
     }
 }
 
 fn carrier(t: Tournament) {
     match tournament::listen(t) {
-        Carrier::Heard => text(b"carrier heard"),
-        Carrier::NotHeard => text(b"no carrier"),
+        Carrier::Heard => print(b"carrier heard"),
+        Carrier::NotHeard => print(b"no carrier"),
         Carrier::Refused(no) => refused(no),
     }
 }
@@ -53,22 +47,19 @@ fn carrier(t: Tournament) {
 fn bit(k: u64, before: Tournament, after: Tournament) {
     let were = before.marks;
     let are = after.marks;
-    text(b"bit ");
-    number(k);
-    text(b": ");
+    print(b"bit ");
+    print_number(k);
+    print(b": ");
     carrier(before);
-    text(b"; goes silent:");
+    print(b"; goes silent:");
     rows(were, are);
-    text(b"; still in:");
+    print(b"; still in:");
     rows(are, [false; CONTENDERS]);
     line(b"");
 }
 
 fn refused(no: Refusal) {
-    text(b"refused ");
-    number(no.number as u64);
-    text(b" at ");
-    number(no.place as u64);
+    print_refusal(no);
     line(b"");
 }
 
@@ -80,10 +71,10 @@ fn winner(t: Tournament) {
             let r = w.0;
             if r < CONTENDERS {
                 let p = t.priorities[r];
-                text(b"row");
+                print(b"row");
                 row(r);
-                text(b" wins with priority ");
-                number(p.0 as u64);
+                print(b" wins with priority ");
+                print_number(p.0 as u64);
                 line(b"");
             }
         }
@@ -110,8 +101,8 @@ pub fn tournament(r: Reader) {
         return;
     }
     if r.wrong != 0 {
-        text(b"word ");
-        number(r.wrong as u64);
+        print(b"word ");
+        print_number(r.wrong as u64);
         line(b" is no whole number from 0 to 4294967295");
         return;
     }

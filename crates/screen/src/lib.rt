@@ -5,7 +5,7 @@
 // refused 2. Nothing is assumed. Its code must not know of files or text, and it makes no check and no bound
 // of its own; specs/Claims.antt holds it against the file.
 ghost use mathlib.Core.Path.{_≡_};
-ghost use Prim.Native.Nat.{_<_, min};
+ghost use Prim.Native.Nat.{_<_};
 ghost use lib.ListN.{length, getD, set, replicate};
 ghost use Rattle.names.specs.Limits.{streams as most, sources};
 ghost use Rattle.plan.specs.Plan.{blank};
@@ -14,6 +14,7 @@ ghost use Rattle.screen.specs.Screen.{placed, sheetFor};
 ghost use Rattle.screen.specs.Private.{lotOf, sheetOf};
 use answers::answer_values;
 use checks::Checked;
+use laws::smaller;
 use names::Label;
 use names::Priority;
 use names::SOURCES;
@@ -26,12 +27,6 @@ use plan::Timing;
 struct Lot {
     rows: [Stream; STREAMS],
     count: usize,
-}
-
-fn least(a: usize, b: usize) -> usize
-    ensures { λ r. ⌜ r ≡ min a b ⌝ }
-{
-    if a < b { a } else { b }
 }
 
 fn empty(n: usize) -> Lot
@@ -73,7 +68,7 @@ fn gathered(streams: &[Stream]) -> Lot
     ensures { λ r. ⌜ r ≡ lotOf (now (streams .entry)) ⌝ }
 {
     let count = streams.len();
-    let n = least(count, STREAMS);
+    let n = smaller(count, STREAMS);
     let mut lot = empty(count);
     let mut i = 0;
     while i < n {
@@ -86,7 +81,7 @@ fn gathered(streams: &[Stream]) -> Lot
 fn copied(gaps: &[u32]) -> [u32; SOURCES]
     ensures { λ r. ⌜ r ≡ placed sources 0 (now (gaps .entry)) ⌝ }
 {
-    let n = least(gaps.len(), SOURCES);
+    let n = smaller(gaps.len(), SOURCES);
     let mut out = [0; SOURCES];
     for k in 0..n {
         out[k] = gaps[k];

@@ -13,8 +13,8 @@ use Rattle.plan.specs.declared.Stream.{Stream}
 use Rattle.plan.specs.Plan.{blank}
 use Rattle.decimal.proofs.Decimal.{few-digits}
 use Rattle.text.specs.declared.Put.the-variants.{At}
-use Rattle.text.specs.Listing.{boundText, verdictText, header, row, rows, listingOf}
-use Rattle.text.specs.Claims.{Printed, LargestListing, LargestOfBounds, NeverFull}
+use Rattle.text.specs.Listing.{boundText, verdictText, header, row, rows, listingOf, refusedOf}
+use Rattle.text.specs.Claims.{Printed, LargestListing, LargestOfBounds, NeverFull, LargestRefusal}
 
 -- ---- the fields
 bound-size : (w : ℕ) (v : Verdict) (b : ℕ) → 1 ≤ w → b < 10 ^ w → length (boundText v b) ≤ w
@@ -74,3 +74,9 @@ largest-of-bounds p answers l = largest-listing 10 p answers (omega arith) l
 pub never-full : NeverFull
 never-full p answers buffer l h =
     rw (le-leb (0 + length (listingOf p answers)) (length buffer) (omega (arith, largest-listing 20 p answers (omega arith) l))) (ap At (zero-add _))
+
+-- ---- the line of a refusal
+pub largest-refusal : LargestRefusal
+unfolding refusedOf
+largest-refusal r n p =
+    simp length-append (omega (arith, few-digits 10 (r .number) (omega arith) (omega arith), few-digits 20 (r .place) (omega arith) (omega arith)))

@@ -1,14 +1,15 @@
--- What is proved of the listing's size; the proofs are in proofs/Size.antt.
+-- What is proved of the sizes of the listing and of a refusal's line; the proofs are in proofs/Size.antt.
 use mathlib.Core.Path.{_≡_}
 use mathlib.Core.List.{List, map}
 use Prim.Native.Nat.{ℕ, _+_, _*_, _^_, _≤_, _<_}
 use lib.ListN.{length, getD}
 use Rattle.names.specs.Limits.{streams, ticks}
+use Rattle.names.specs.declared.Refusal.{Refusal}
 use Rattle.bound.specs.declared.Answer.{Answer}
 use Rattle.plan.specs.declared.Stream.{Stream}
 use Rattle.plan.specs.Plan.{Plan, blank}
 use Rattle.text.specs.declared.Put.the-variants.{At}
-use Rattle.text.specs.Listing.{listingOf}
+use Rattle.text.specs.Listing.{listingOf, refusedOf}
 use Rattle.text.specs.Put.{put}
 
 -- what is printed of a stream is a word of 32 bits
@@ -40,3 +41,7 @@ abbrev pub NeverFull : Type 0
 NeverFull =
     (p : Plan) (answers : List Answer) (buffer : List ℕ) → Listed 20 p answers → 4006 ≤ length buffer
     → put buffer 0 (listingOf p answers) .0 ≡ At (length (listingOf p answers))
+
+-- the line of a refusal, whose number has 32 bits and whose place has 64, has 43 bytes at most
+abbrev pub LargestRefusal : Type 0
+LargestRefusal = (r : Refusal) → r .number ≤ ticks → r .place < 2 ^ 64 → length (refusedOf r) ≤ 43

@@ -5,9 +5,7 @@
 // or of how an answer comes about.
 ghost use mathlib.Core.Path.{_≡_};
 ghost use mathlib.Core.List.{[], _∷_};
-ghost use Prim.Native.Nat.{min};
 ghost use lib.ListN.{length};
-ghost use Rattle.names.specs.Limits.{streams};
 ghost use Rattle.decimal.specs.Decimal.{digits};
 ghost use Rattle.plan.specs.Plan.{planOf};
 ghost use Rattle.text.specs.Listing as text;
@@ -15,6 +13,7 @@ ghost use Rattle.text.specs.Put.{Puts};
 ghost use Rattle.text.specs.Private.{Laid, Countable, ofNumber, ofLabel, ofVerdict, ofRow, ofHeader, ofListing, ofRefusal};
 use bound::Answer;
 use bound::Verdict;
+use laws::smaller;
 use names::Label;
 use names::Refusal;
 use names::STREAMS;
@@ -123,18 +122,11 @@ fn lay_header(out: &mut [u8], at: usize) -> usize
     lay_text(out, at, b"label priority bound deadline verdict\n")
 }
 
-// How many streams a sheet has: as many as it counts, but no more than its places.
-fn stream_count(count: usize) -> usize
-    ensures { λ r. ⌜ r ≡ min count streams ⌝ }
-{
-    if count < STREAMS { count } else { STREAMS }
-}
-
 fn lay_listing(out: &mut [u8], at: usize, sheet: Sheet, rows: [Answer; STREAMS]) -> usize
     requires { ⌜ Countable at ofListing ⌝ }
     ensures { λ r. ⌜ Laid ofListing (now (out .entry)) at (text.listingOf (planOf sheet) rows) r (now (out .exit)) ⌝ }
 {
-    let n = stream_count(sheet.count);
+    let n = smaller(sheet.count, STREAMS);
     let mut next = lay_header(out, at);
     let mut k: usize = 0;
     while k < n {

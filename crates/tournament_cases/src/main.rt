@@ -2,10 +2,11 @@
 //
 // The answers are proved in the crate tournament; here they are run and compared. This program must not know the
 // rule of the tournament.
-use libc::STDOUT_FILENO;
+use console::print;
+use console::print_number;
+use console::print_refusal;
 use names::CONTENDERS;
 use names::Priority;
-use names::Refusal;
 use names::Row;
 use tournament::Outcome;
 use tournament::Parting;
@@ -13,36 +14,21 @@ use tournament_state::Answer;
 use tournament_state::Phase;
 use tournament_state::Tournament;
 
-fn text(bytes: &[u8]) {
-    io::write_all(STDOUT_FILENO, bytes);
-}
-
-fn number(n: u64) {
-    io::print_decimal(STDOUT_FILENO, n);
-}
-
-fn refused(no: Refusal) {
-    text(b"refused ");
-    number(no.number as u64);
-    text(b" at ");
-    number(no.place as u64);
-}
-
 fn parting(bits: u32, a: u32, b: u32) {
-    number(a as u64);
-    text(b" and ");
-    number(b as u64);
-    text(b" in ");
-    number(bits as u64);
-    text(b" bits: ");
+    print_number(a as u64);
+    print(b" and ");
+    print_number(b as u64);
+    print(b" in ");
+    print_number(bits as u64);
+    print(b" bits: ");
     match tournament::parting_bit(bits, Priority(a), Priority(b)) {
         Parting::At(k) => {
-            text(b"part at bit ");
-            number(k as u64);
+            print(b"part at bit ");
+            print_number(k as u64);
         }
-        Parting::Refused(no) => refused(no),
+        Parting::Refused(no) => print_refusal(no),
     }
-    text(b"\n");
+    print(b"\n");
 }
 
 // Priorities 5, 3 and 7 in 4 bits, all in. The unused places are in as well, with a priority that repeats and is too large.
@@ -63,41 +49,41 @@ fn state(phase: Phase) -> Tournament {
 
 fn mark(is_in: bool) {
     if is_in {
-        text(b" in");
+        print(b" in");
     } else {
-        text(b" out");
+        print(b" out");
     }
 }
 
 // The answer, the phase, and the marks of the first four places.
 fn shown(call: &[u8], o: Outcome) {
-    text(call);
-    text(b": ");
+    print(call);
+    print(b": ");
     let answer = o.answer;
     match answer {
-        Answer::Done => text(b"done"),
-        Answer::Refused(no) => refused(no),
+        Answer::Done => print(b"done"),
+        Answer::Refused(no) => print_refusal(no),
     }
     let t = o.tournament;
     let phase = t.phase;
     match phase {
         Phase::AtBit(k) => {
-            text(b", at bit ");
-            number(k as u64);
+            print(b", at bit ");
+            print_number(k as u64);
         }
         Phase::Finished(row) => {
-            text(b", row ");
-            number(row.0 as u64);
-            text(b" won");
+            print(b", row ");
+            print_number(row.0 as u64);
+            print(b" won");
         }
-        Phase::NoWinner => text(b", no winner"),
+        Phase::NoWinner => print(b", no winner"),
     }
-    text(b", marks");
+    print(b", marks");
     mark(t.marks[0]);
     mark(t.marks[1]);
     mark(t.marks[2]);
     mark(t.marks[3]);
-    text(b"\n");
+    print(b"\n");
 }
 
 fn partings() {

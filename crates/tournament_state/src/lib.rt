@@ -3,6 +3,7 @@
 // `verdict` answers for every state that a caller makes up, and `pair_verdict` for two priorities alone;
 // their contracts determine the answers. No function here has a `requires`, and nothing is assumed. This crate
 // must not know how a bit is played.
+use laws::smaller;
 use names::BITS;
 use names::CONTENDERS;
 use names::Priority;
@@ -11,9 +12,7 @@ use names::Row;
 use repeats::Repeat;
 ghost use mathlib.Core.Path.{_≡_};
 ghost use mathlib.Core.List.{map};
-ghost use Prim.Native.Nat.{min};
 ghost use lib.ListN.{take};
-ghost use Rattle.names.specs.Limits.{contenders as Limits·contenders};
 ghost use Rattle.tournament_state.specs.Refusals.{refused as Refusals·refused, _then_, oneTo, number, fitsIn};
 ghost use Rattle.tournament_state.specs.Refusals.{seven as Refusals·seven, eightBits, eightPriorities, eightPhase, nine as Refusals·nine};
 ghost use Rattle.tournament_state.specs.Refusals.{verdictOf, pairVerdictOf};
@@ -90,21 +89,10 @@ fn fits_in(bits: u32, p: Priority) -> bool
     p.0 >> bits == 0
 }
 
-// As many of the places as there are contenders.
-fn taken(count: usize) -> usize
-    ensures { λ r. ⌜ r ≡ min count Limits·contenders ⌝ }
-{
-    if count < CONTENDERS {
-        count
-    } else {
-        CONTENDERS
-    }
-}
-
 fn eight_priorities(bits: u32, priorities: [Priority; CONTENDERS], count: usize) -> Answer
     ensures { λ r. ⌜ r ≡ eightPriorities bits (take count priorities) ⌝ }
 {
-    let n = taken(count);
+    let n = smaller(count, CONTENDERS);
     for i in 0..n {
         let p = priorities[i];
         if !fits_in(bits, p) {
@@ -144,7 +132,7 @@ fn numbers(priorities: [Priority; CONTENDERS]) -> [u32; CONTENDERS]
 fn nine(priorities: [Priority; CONTENDERS], count: usize) -> Answer
     ensures { λ r. ⌜ r ≡ Refusals·nine (take count priorities) ⌝ }
 {
-    let n = taken(count);
+    let n = smaller(count, CONTENDERS);
     let values = numbers(priorities);
     match repeats::first_repeat(&values[..n]) {
         Repeat::At(row) => refused(9, row.0),

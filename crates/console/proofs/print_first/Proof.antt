@@ -5,11 +5,11 @@ use lib.Seq.{length-take-le}
 use Rattle.console.proofs.print_first.Statement.{statement}
 use Rattle.console.proofs.print_first.Tie as tie
 
-slice-aggregate-write-all : tie.Need-slice-aggregate-write-all
-slice-aggregate-write-all c = sym (length-take-le _ _ (c .before .if1 .taken))
+slice-aggregate-print : tie.Need-slice-aggregate-print
+slice-aggregate-print c = sym (length-take-le _ _ (c .before .if1 .taken))
 
-write-all-requires : tie.Need-write-all-requires
-write-all-requires c κs = search needs
+print-requires : tie.Need-print-requires
+print-requires c κs = search needs
 
 returns : tie.Need-returns
 returns c = search needs
@@ -18,4 +18,4 @@ returns-2 : tie.Need-returns-2
 returns-2 c = search needs
 
 pub print-first-spec : {M : Type 1} → statement M
-print-first-spec = tie.close (tie.spec slice-aggregate-write-all write-all-requires returns returns-2)
+print-first-spec = tie.close (tie.spec slice-aggregate-print print-requires returns returns-2)

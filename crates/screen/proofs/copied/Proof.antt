@@ -15,8 +15,8 @@ Inv-loop gaps n out₀ k₀ out k = (k ≤ n) × (out ≡ placedTo 8 0 gaps k)
 abbrev μ-loop : tie.MeasureT-loop
 μ-loop gaps n out₀ k₀ out k = n - k
 
-least-requires : tie.Need-least-requires Inv-loop μ-loop
-least-requires c κs = search needs
+smaller-requires : tie.Need-smaller-requires Inv-loop μ-loop
+smaller-requires c κs = search needs
 
 loop-holds : tie.Need-loop-holds Inv-loop μ-loop
 loop-holds c = (omega arith, refl)
@@ -43,14 +43,14 @@ loop-again : tie.Need-loop-again Inv-loop μ-loop
 loop-again c =
     let l = c .before .before .loop in
     let a = c .before .before .before in
-    let e = a .least .ensures in
+    let e = a .smaller .ensures in
     (omega arith, placed-more 8 0 (now (a .before .before .args .gaps)) (l .k) (l .out) (omega arith) (omega arith) (l .inv .1))
 
 returns : tie.Need-returns Inv-loop μ-loop
 returns c =
     let l = c .before .loop in
     let a = c .before .before in
-    let e : l .k ≡ min (length (now (a .before .before .args .gaps))) 8 = omega (arith, a .least .ensures) in
+    let e : l .k ≡ min (length (now (a .before .before .args .gaps))) 8 = omega (arith, a .smaller .ensures) in
     l .inv .1 ∙ ap (placedTo 8 0 (now (a .before .before .args .gaps))) e ∙ placed-all 8 0 (now (a .before .before .args .gaps))
 
 pub copied-spec : {M : Type 1} → statement M
@@ -59,7 +59,7 @@ copied-spec =
     (tie.spec
     Inv-loop
     μ-loop
-    least-requires
+    smaller-requires
     loop-holds
     mul-out
     shared-slice-read-out

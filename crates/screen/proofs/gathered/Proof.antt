@@ -56,10 +56,10 @@ use Rattle.screen.proofs.empty as empty
 use Rattle.screen.proofs.empty.Symbol as empty-def
 use Rattle.screen.proofs.empty.Symbol.{name as #screen·empty}
 use Rattle.screen.proofs.empty.Met as empty-thm
-use Rattle.screen.proofs.least as least
-use Rattle.screen.proofs.least.Symbol as least-def
-use Rattle.screen.proofs.least.Symbol.{name as #screen·least}
-use Rattle.screen.proofs.least.Met as least-thm
+use Rattle.laws.proofs.smaller as smaller
+use Rattle.laws.proofs.smaller.Symbol as smaller-def
+use Rattle.laws.proofs.smaller.Symbol.{name as #laws·smaller}
+use Rattle.laws.proofs.smaller.Met as smaller-thm
 use Rattle.screen.proofs.put as put
 use Rattle.screen.proofs.put.Symbol as put-def
 use Rattle.screen.proofs.put.Symbol.{name as #screen·put}
@@ -117,8 +117,8 @@ module _ {M : Type 1} (𝓤 : URA M) (H : Heap 𝓤) (A : Atoms 𝓤) (mem : Mem
   abbrev Empty : Contract 𝓤
   Empty = tripleOf 𝓤 H A empty.signature (empty.spec 𝓤 H A mem run)
 
-  abbrev Least : Contract 𝓤
-  Least = tripleOf 𝓤 H A least.signature (least.spec 𝓤 H A mem run)
+  abbrev Smaller : Contract 𝓤
+  Smaller = tripleOf 𝓤 H A smaller.signature (smaller.spec 𝓤 H A mem run)
 
   abbrev Put : Contract 𝓤
   Put = tripleOf 𝓤 H A put.signature (put.spec 𝓤 H A mem run)
@@ -151,16 +151,16 @@ module _ {M : Type 1} (𝓤 : URA M) (H : Heap 𝓤) (A : Atoms 𝓤) (W : Given
   tok = ‵ (flft κ q) ⊛ ‵ ftrue
 
   -- ---- the calls: what each is passed, what it asks, and what is known of its result
-  abbrev to-least : Least 𝓤 H A mem run .Ghost
-  to-least = ((tt, tt, tt, (n, (64, tt)), (vint w64 n ∷ [], (vint w64 64 ∷ [], tt))), tt)
+  abbrev to-smaller : Smaller 𝓤 H A mem run .Ghost
+  to-smaller = ((tt, tt, tt, (n, (64, tt)), (vint w64 n ∷ [], (vint w64 64 ∷ [], tt))), tt)
 
-  goes-least : ent 𝓤 (sem 𝓤 H A (usize .own n (vint w64 n ∷ []))) (Least 𝓤 H A mem run .pre to-least)
-  goes-least =
+  goes-smaller : ent 𝓤 (sem 𝓤 H A (usize .own n (vint w64 n ∷ []))) (Smaller 𝓤 H A mem run .pre to-smaller)
+  goes-smaller =
       qed W (‵ (usize .own n (vint w64 n ∷ [])) ∷ []) ∵ nothing ! $ owned ! usize (Is usize) (uint-makes 𝓤 H A W w64) 64 (vint w64 64 ∷ []) (refl, lit< tt) $ fjoin ! $ move ! (1 ∷ 0 ∷ []) $ fjoin ! $
       nothing ! $ join ! $ frame ! $ done !
 
-  least-said : (r : ℕ) → ent 𝓤 (ensured 𝓤 H A least.ended (least.clauses 𝓤 H A mem run) tt (n, (64, tt)) tt r) (fact 𝓤 (r ≡ m))
-  least-said r = exE 𝓤 _ (λ ws. snd∗ 𝓤 (sem 𝓤 H A (lasts least.ended tt (n, (64, tt)) ws)) (fact 𝓤 (r ≡ m)))
+  smaller-said : (r : ℕ) → ent 𝓤 (ensured 𝓤 H A smaller.ended (smaller.clauses 𝓤 H A mem run) tt (n, (64, tt)) tt r) (fact 𝓤 (r ≡ m))
+  smaller-said r = exE 𝓤 _ (λ ws. snd∗ 𝓤 (sem 𝓤 H A (lasts smaller.ended tt (n, (64, tt)) ws)) (fact 𝓤 (r ≡ m)))
 
   abbrev to-empty : Empty 𝓤 H A mem run .Ghost
   to-empty = ((tt, tt, tt, (n, tt), (vint w64 n ∷ [], tt)), tt)
@@ -299,18 +299,18 @@ module _ {M : Type 1} (𝓤 : URA M) (H : Heap 𝓤) (A : Atoms 𝓤) (W : Given
     loop-on : (t : State) → Sq W (At t) (runs C Λ En text.t-5 (atRet En Post))
     loop-on t = first ! $ blocks ! $ loops ! 𝓣 Nearer Nearer-wf At turns t
 
-  walk : (𝓣 : Tables 𝓤 H) → FmC 𝓤 H (W .laws) (𝓣 .C) → Triple 𝓤 (𝓣 .C #screen·least) (Least 𝓤 H A mem run) → Triple 𝓤 (𝓣 .C #screen·empty) (Empty 𝓤 H A mem run)
+  walk : (𝓣 : Tables 𝓤 H) → FmC 𝓤 H (W .laws) (𝓣 .C) → Triple 𝓤 (𝓣 .C #laws·smaller) (Smaller 𝓤 H A mem run) → Triple 𝓤 (𝓣 .C #screen·empty) (Empty 𝓤 H A mem run)
       → Triple 𝓤 (𝓣 .C #screen·put) (Put 𝓤 H A mem run) → Triple 𝓤 (𝓣 .C #screen·stream-at) (StreamAt 𝓤 H A mem run)
       → Is (ShrSlice (named 0) κ R) s (v ∷ []) → ent 𝓤 (onEntry 𝓤 H A gathered.signature (κ, tt) (q, tt) (s, tt) (v ∷ [], tt)) (WpFn 𝓤 H (𝓣 .C) (𝓣 .Λ) code.function (v ∷ []) Post)
-  walk 𝓣 fm known-least known-empty known-put known-at p =
+  walk 𝓣 fm known-smaller known-empty known-put known-at p =
       qed W (tok ∷ ‵ (owns (ShrSlice (named 0) κ R ∷ []) (s, tt) (v ∷ [], tt)) ∷ []) ∵ enter ! (𝓣 .C) (𝓣 .Λ) code.function (v ∷ []) _ $
       alloc1 ! (λ l₀. alloc1 ! (λ l₁. alloc1 ! (λ l₂. alloc1 ! (λ l₃. alloc1 ! (λ l₄. alloc1 ! (λ l₅. alloc1 ! (λ l₆. alloc1 ! (λ l₇. alloc0 ! $ params1 ! $
       pass1 ! (init ! 12 refl (shr-slice-lawful 𝓤 H A W (named 0) κ R .typed s (v ∷ []) p .0)) $ pass0 ! $
       assigns ! (of-opd ! (load ! (from ! (fld ! refl (stop !))) (look-in ! 12 (sub ! 1 refl (whole !))))) (from ! (stop !)) (init ! 10 refl (tt, record { fits = gn })) $
-      owned ! usize (Is usize) (uint-makes 𝓤 H A W w64) n (vint w64 n ∷ []) (refl, gn) $ use1 W (raw (Least 𝓤 H A mem run .pre to-least)) goes-least $
-      calls-at ! fm (Least 𝓤 H A mem run) known-least to-least (and-then ! (load ! (from ! (stop !)) (look ! 11 refl)) (and-then ! (lit ! tt) (no-more !))) (λ w.
-      use1 W (later (some (λ (r : ℕ). (‵ ftrue ⊛ ‵ (usize .own r (w ∷ []))) ⊛ raw (ensured 𝓤 H A least.ended (least.clauses 𝓤 H A mem run) tt (n, (64, tt)) tt r)))) (id⊢ 𝓤 _) $ await ! tt $ pick ! (λ k.
-      split ! $ move ! (1 ∷ []) $ use1 W (raw (fact 𝓤 (k ≡ m))) (least-said k) $ heard ! (k ≡ m) (λ ek. split ! $ drop ! $ rewrite ! 0 (λ (j : ℕ). ‵ (usize .own j (w ∷ []))) ek refl $
+      owned ! usize (Is usize) (uint-makes 𝓤 H A W w64) n (vint w64 n ∷ []) (refl, gn) $ use1 W (raw (Smaller 𝓤 H A mem run .pre to-smaller)) goes-smaller $
+      calls-at ! fm (Smaller 𝓤 H A mem run) known-smaller to-smaller (and-then ! (load ! (from ! (stop !)) (look ! 11 refl)) (and-then ! (lit ! tt) (no-more !))) (λ w.
+      use1 W (later (some (λ (r : ℕ). (‵ ftrue ⊛ ‵ (usize .own r (w ∷ []))) ⊛ raw (ensured 𝓤 H A smaller.ended (smaller.clauses 𝓤 H A mem run) tt (n, (64, tt)) tt r)))) (id⊢ 𝓤 _) $ await ! tt $ pick ! (λ k.
+      split ! $ move ! (1 ∷ []) $ use1 W (raw (fact 𝓤 (k ≡ m))) (smaller-said k) $ heard ! (k ≡ m) (λ ek. split ! $ drop ! $ rewrite ! 0 (λ (j : ℕ). ‵ (usize .own j (w ∷ []))) ek refl $
       peeks ! usize (Is usize) (shows 𝓤 H A usize) m (w ∷ []) (λ isk.
       land ! (from ! (stop !)) (init ! 9 refl (uint-lawful 𝓤 H A W w64 .typed m _ isk .0)) $ drop ! $ rewrite ! 8 (λ (z : Val). ‵ (fat fullShare word l₃ 0 z)) (ap only (isk .0)) refl $
       owned ! usize (Is usize) (uint-makes 𝓤 H A W w64) n (vint w64 n ∷ []) (refl, gn) $ use1 W (raw (Empty 𝓤 H A mem run .pre to-empty)) goes-empty $
@@ -326,13 +326,13 @@ module _ {M : Type 1} (𝓤 : URA M) (H : Heap 𝓤) (A : Atoms 𝓤) (W : Given
       (0, zero-le, u, subst (λ (l : Lot). Is L l (u ∷ [])) (e ∙ lot-none xs) is)))))))))))))))))
 
 module _ {M : Type 1} (𝓤 : URA M) (H : Heap 𝓤) (A : Atoms 𝓤) (W : Given 𝓤 H A) (mem : Memory → SProp 𝓤) (run : Routine → Fun 𝓤) (𝓣 : Tables 𝓤 H)
-    (known-least : Triple 𝓤 (𝓣 .C #screen·least) (Least 𝓤 H A mem run)) (known-empty : Triple 𝓤 (𝓣 .C #screen·empty) (Empty 𝓤 H A mem run))
+    (known-smaller : Triple 𝓤 (𝓣 .C #laws·smaller) (Smaller 𝓤 H A mem run)) (known-empty : Triple 𝓤 (𝓣 .C #screen·empty) (Empty 𝓤 H A mem run))
     (known-put : Triple 𝓤 (𝓣 .C #screen·put) (Put 𝓤 H A mem run)) (known-at : Triple 𝓤 (𝓣 .C #screen·stream-at) (StreamAt 𝓤 H A mem run)) where
   walks : Walks 𝓤 H A gathered.ended stayed (WpFn 𝓤 H (𝓣 .C) (𝓣 .Λ) code.function) (gathered.clauses 𝓤 H A mem run)
   walks = walked 𝓤 H A gathered.ended stayed (gathered.clauses 𝓤 H A mem run) (WpFn 𝓤 H (𝓣 .C) (𝓣 .Λ) code.function)
       (λ κs. (slice-vals, tt)) (λ κs. (shr-slice-tells (named 0) (κs .0) R, tt))
       (λ κs qs bounds a g are. via 𝓤 _ (fst∗ 𝓤 _ (emp 𝓤))
-      (walk 𝓤 H A W mem run (κs .0) (qs .0) (a .0) (are .0 .0 .1 .0) 𝓣 (fmOf 𝓤 H (W .laws) 𝓣) known-least known-empty known-put known-at (are .0)))
+      (walk 𝓤 H A W mem run (κs .0) (qs .0) (a .0) (are .0 .0 .1 .0) 𝓣 (fmOf 𝓤 H (W .laws) 𝓣) known-smaller known-empty known-put known-at (are .0)))
 
   meets : Meets 𝓤 H A gathered.signature (WpFn 𝓤 H (𝓣 .C) (𝓣 .Λ) code.function) (gathered.spec 𝓤 H A mem run)
   meets = walk-meets 𝓤 H A gathered.ended stayed W (goes-none-slice 𝓤 H A W 1 (0 ∷ []) tt (plain (λ _. R)) yes, tt)
@@ -344,7 +344,7 @@ gathered-spec 𝓤 H 𝓜 𝓖 𝓡 =
     entered 𝓤 H (tripleOf 𝓤 H (𝓖 .A) gathered.signature (gathered.spec 𝓤 H (𝓖 .A) (𝓜 .mem) (𝓡 .run)))
     (tables 𝓤 H 𝓜 𝓡 code.env .C) (tables 𝓤 H 𝓜 𝓡 code.env .Λ) #screen·gathered code.function (code.unfolded 𝓤 H 𝓜 𝓡)
     (meets 𝓤 H (𝓖 .A) (givenOf 𝓤 H 𝓜 𝓖) (𝓜 .mem) (𝓡 .run) (tablesOf 𝓤 H 𝓜 (tables 𝓤 H 𝓜 𝓡 code.env))
-    (cited 𝓤 H (Least 𝓤 H (𝓖 .A) (𝓜 .mem) (𝓡 .run)) 𝓜 𝓡 code.env #screen·least least-def.routine code.calls-screen·least (least-thm.met 𝓤 H 𝓜 𝓖 𝓡))
+    (cited 𝓤 H (Smaller 𝓤 H (𝓖 .A) (𝓜 .mem) (𝓡 .run)) 𝓜 𝓡 code.env #laws·smaller smaller-def.routine code.calls-laws·smaller (smaller-thm.met 𝓤 H 𝓜 𝓖 𝓡))
     (cited 𝓤 H (Empty 𝓤 H (𝓖 .A) (𝓜 .mem) (𝓡 .run)) 𝓜 𝓡 code.env #screen·empty empty-def.routine code.calls-screen·empty (empty-thm.met 𝓤 H 𝓜 𝓖 𝓡))
     (cited 𝓤 H (Put 𝓤 H (𝓖 .A) (𝓜 .mem) (𝓡 .run)) 𝓜 𝓡 code.env #screen·put put-def.routine code.calls-screen·put (put-thm.met 𝓤 H 𝓜 𝓖 𝓡))
     (cited 𝓤 H (StreamAt 𝓤 H (𝓖 .A) (𝓜 .mem) (𝓡 .run)) 𝓜 𝓡 code.env #screen·stream-at stream-at-def.routine code.calls-screen·stream-at (stream-at-thm.met 𝓤 H 𝓜 𝓖 𝓡)))

@@ -26,8 +26,8 @@ abbrev μ-loop : tie.MeasureT-loop
 places : (c : tie.Start Inv-loop μ-loop) → length (c .args .t3 .streams) ≡ streams
 places c = sym (length-map (c .args .t3 .streams) (stream.the-field .into)) ∙ c .good .1 .1 .0 .1 .1 .1 .0 .1 .0 .1
 
-stream-count-requires : tie.Need-stream-count-requires Inv-loop μ-loop
-stream-count-requires c κs = search needs
+smaller-requires : tie.Need-smaller-requires Inv-loop μ-loop
+smaller-requires c κs = search needs
 
 lay-header-requires : tie.Need-lay-header-requires Inv-loop μ-loop
 lay-header-requires c κs = search needs
@@ -52,7 +52,7 @@ lay-row-requires : tie.Need-lay-row-requires Inv-loop μ-loop
 lay-row-requires c κs =
     let l = c .before .before .before .before in
     let h = l .before .before .before in
-    omega (arith, l .loop .inv .0, l .loop .inv .1 .small, c .before .before .before .loop-test .taken, h .before .before .stream-count .ensures, h .lay-header .ensures .small, h .before .before .before .before .pre)
+    omega (arith, l .loop .inv .0, l .loop .inv .1 .small, c .before .before .before .loop-test .taken, h .before .before .smaller .ensures, h .lay-header .ensures .small, h .before .before .before .before .pre)
 
 add-k : tie.Need-add-k Inv-loop μ-loop
 add-k c = search needs
@@ -68,7 +68,7 @@ loop-again c =
     let s = h .before .before .before .before in
     let g : length (s .args .t4) ≡ streams = search needs in (
       omega arith,
-      is (rows-more (l .k) (s .args .t3 .streams) (s .args .t4) blank _ (omega (arith, places s, d .loop-test .taken, h .before .before .stream-count .ensures)) (omega (arith, d .loop-test .taken, h .before .before .stream-count .ensures))) (within _ (omega arith) (then (l .inv .1) (c .before .before .lay-row .ensures))),
+      is (rows-more (l .k) (s .args .t3 .streams) (s .args .t4) blank _ (omega (arith, places s, d .loop-test .taken, h .before .before .smaller .ensures)) (omega (arith, d .loop-test .taken, h .before .before .smaller .ensures))) (within _ (omega arith) (then (l .inv .1) (c .before .before .lay-row .ensures))),
     )
 
 returns : tie.Need-returns Inv-loop μ-loop
@@ -77,7 +77,7 @@ returns c =
     let h = c .before .before .before .before in
     let s = h .before .before .before .before in
     let ss = s .args .t3 .streams in
-    let n : c .before .loop .k ≡ min (s .args .t3 .count) streams = omega (arith, c .before .loop .inv .0, c .loop-test .left, h .before .before .stream-count .ensures) in
+    let n : c .before .loop .k ≡ min (s .args .t3 .count) streams = omega (arith, c .before .loop .inv .0, c .loop-test .left, h .before .before .smaller .ensures) in
     let m : length ss ≤ streams = omega (arith, places s) in
     let e : take (c .before .loop .k) ss ≡ take (s .args .t3 .count) ss = ap (λ k. take k ss) n ∙ take-min (s .args .t3 .count) streams ss m in
     is (ap (λ t. header ++ t) (rows-all (c .before .loop .k) ss (s .args .t4) ∙ ap (λ t. rows t (s .args .t4)) e))
@@ -92,7 +92,7 @@ lay-listing-spec =
     (tie.spec
     Inv-loop
     μ-loop
-    stream-count-requires
+    smaller-requires
     lay-header-requires
     loop-holds
     mul-stream

@@ -24,22 +24,22 @@ abbrev μ-loop : tie.MeasureT-loop
 μ-loop bits count priorities n i₀ i = n - i
 
 -- so many rows are looked at
-counted : (c : tie.After-taken Inv-loop μ-loop)
-    → let a = c .before .args in (length (take (a .count) (a .t2)) ≡ c .taken .result) × (c .taken .result ≤ a .count) × (c .taken .result ≤ 128)
+counted : (c : tie.After-smaller Inv-loop μ-loop)
+    → let a = c .before .args in (length (take (a .count) (a .t2)) ≡ c .smaller .result) × (c .smaller .result ≤ a .count) × (c .smaller .result ≤ 128)
 counted c =
     let a = c .before .args in
     let long : length (a .t2) ≡ 128 = search needs in
-    let e = c .taken .ensures in
+    let e = c .smaller .ensures in
     omega (arith, length-take (a .count) (a .t2), e)
 
-row-unfit : (c : tie.After-taken Inv-loop μ-loop) (i : ℕ) → i < c .taken .result
+row-unfit : (c : tie.After-smaller Inv-loop μ-loop) (i : ℕ) → i < c .smaller .result
     → let a = c .before .args in unfit (a .bits) (take (a .count) (a .t2)) i ≡ not (fitsIn (a .bits) (getD (a .t2) i none))
 row-unfit c i h =
     let a = c .before .args in
     ap (λ (p : Priority). not (fitsIn (a .bits) p)) (getD-take (a .count) (a .t2) i none (omega (arith, counted c)))
 
-taken-requires : tie.Need-taken-requires Inv-loop μ-loop
-taken-requires c κs = search needs
+smaller-requires : tie.Need-smaller-requires Inv-loop μ-loop
+smaller-requires c κs = search needs
 
 loop-holds : tie.Need-loop-holds Inv-loop μ-loop
 loop-holds c = (search needs, none-yet _)
@@ -93,7 +93,7 @@ eight-priorities-spec =
     (tie.spec
     Inv-loop
     μ-loop
-    taken-requires
+    smaller-requires
     loop-holds
     mul-p
     array-copy-out-p

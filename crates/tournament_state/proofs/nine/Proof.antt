@@ -18,13 +18,13 @@ repeated c =
     let t = c .before .before .before in
     let a = t .before .args in
     let long : length (a .priorities) ≡ 128 = search needs in
-    let same : map number (take (a .count) (a .priorities)) ≡ take (t .taken .result) (c .before .before .numbers .result) =
+    let same : map number (take (a .count) (a .priorities)) ≡ take (t .smaller .result) (c .before .before .numbers .result) =
     ap (map number) (sym (take-min (a .count) 128 (a .priorities) long)) ∙ map-take number (min (a .count) 128) (a .priorities)
-    ∙ ap₂ take (sym (t .taken .ensures)) (sym (c .before .before .numbers .ensures)) in
+    ∙ ap₂ take (sym (t .smaller .ensures)) (sym (c .before .before .numbers .ensures)) in
     ap (λ l. repeatedAt (firstRepeat l)) same ∙ ap repeatedAt (sym (c .first-repeat .ensures))
 
-taken-requires : tie.Need-taken-requires
-taken-requires c κs = search needs
+smaller-requires : tie.Need-smaller-requires
+smaller-requires c κs = search needs
 
 numbers-requires : tie.Need-numbers-requires
 numbers-requires c κs = search needs
@@ -37,7 +37,7 @@ slice-aggregate-first-repeat c =
     let t = c .before .before in
     let a = t .before .args in
     let long : length (a .priorities) ≡ 128 = search needs in
-    omega (arith, length-take (t .taken .result) (c .before .numbers .result), ap length (c .before .numbers .ensures) ∙ length-map (a .priorities) number, t .taken .ensures)
+    omega (arith, length-take (t .smaller .result) (c .before .numbers .result), ap length (c .before .numbers .ensures) ∙ length-map (a .priorities) number, t .smaller .ensures)
 
 first-repeat-requires : tie.Need-first-repeat-requires
 first-repeat-requires c κs = search needs
@@ -63,7 +63,7 @@ pub nine-spec : {M : Type 1} → statement M
 nine-spec =
     tie.close
     (tie.spec
-    taken-requires
+    smaller-requires
     numbers-requires
     array-share-prefix-values
     slice-aggregate-first-repeat

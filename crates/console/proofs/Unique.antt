@@ -1,0 +1,23 @@
+-- The functions return nothing and lend nothing to be changed, so any two outcomes are equal. Assumes nothing.
+use mathlib.Core.Path.{refl}
+use Rattle.laws.specs.Determined.{OneOutcome}
+use Rattle.console.proofs.print.Kinds as print-kinds
+use Rattle.console.proofs.print.Reads as print
+use Rattle.console.proofs.print_first.Kinds as print-first-kinds
+use Rattle.console.proofs.print_first.Reads as print-first
+use Rattle.console.proofs.print_number.Kinds as print-number-kinds
+use Rattle.console.proofs.print_number.Reads as print-number
+use Rattle.console.proofs.print_refusal.Kinds as print-refusal-kinds
+use Rattle.console.proofs.print_refusal.Reads as print-refusal
+
+pub print-one : OneOutcome 1 print-kinds.ps print-kinds.r print.Post
+print-one κs a x y ws us p q = (refl, refl)
+
+pub print-first-one : OneOutcome 1 print-first-kinds.ps print-first-kinds.r print-first.Post
+print-first-one κs a x y ws us p q = (refl, refl)
+
+pub print-number-one : OneOutcome 0 print-number-kinds.ps print-number-kinds.r print-number.Post
+print-number-one κs a x y ws us p q = (refl, refl)
+
+pub print-refusal-one : OneOutcome 0 print-refusal-kinds.ps print-refusal-kinds.r print-refusal.Post
+print-refusal-one κs a x y ws us p q = (refl, refl)
