@@ -2,6 +2,7 @@
 use mathlib.Core.Path.{_≡_, refl, sym}
 use mathlib.Core.Bool.{Bool, true, false, _&&_, true≢false}
 use mathlib.Core.List.{map}
+use Prim.Native.Nat.{ℕ}
 use native.Mathlib.Omega.{arith}
 use borrow.Author.Tests.{leb-true, eqb-true}
 use lib.Dec.{leb, eqb}
@@ -11,7 +12,7 @@ use Rattle.laws.specs.declared.Found.the-variants.{Nothing}
 use Rattle.repeats.specs.declared.Repeat.{Repeat}
 use Rattle.repeats.specs.declared.Repeat.the-variants.{At as Repeat·At, Nothing as Repeat·Nothing}
 use Rattle.repeats.proofs.Repeats.{nothing-if-distinct}
-use Rattle.plan.specs.Plan.{planOf}
+use Rattle.plan.specs.Plan.{Plan, planOf}
 use Rattle.fields.specs.Layout as layout
 use Rattle.fields.specs.Fields.{fields}
 use Rattle.fields.proofs.Inside.{nothing-if-inside}
@@ -77,6 +78,11 @@ fine-if-right n m p = (right, fine)
         (inside-if-fields-within p .1 (record { timing = w .timing; stream = w .stream; label = r .label; gap = w .gap })))
         (nothing-if-distinct (map (λ s. s .priority .0) (p .streams)) .1 (r .priorities))
         (nothing-if-distinct (map (λ s. s .label .0) (p .streams)) .1 (r .labels))
+
+-- a right plan has as many streams and gaps as it has
+pub own-counts : (n m : ℕ) (p : Plan) → Right n m p → Right (length (p .streams)) (length (p .gaps)) p
+own-counts n m p r =
+    record { within = r .within; count = refl; sources = refl; label = r .label; priorities = r .priorities; labels = r .labels }
 
 pub fine-within : FineWithin
 unfolding checkedOf

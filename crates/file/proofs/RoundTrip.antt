@@ -23,7 +23,7 @@ use Rattle.checks.specs.declared.Checked.the-variants.{Fine, Refused}
 use Rattle.checks.specs.Checks.{judge, lines, checkedOf}
 use Rattle.checks.specs.Claims.{Right}
 use Rattle.checks.proofs.Judge.{fine-parts}
-use Rattle.checks.proofs.Fine.{fine-if-right}
+use Rattle.checks.proofs.Fine.{fine-if-right, own-counts}
 use Rattle.file.specs.declared.ReadPlan.{ReadPlan}
 use Rattle.file.specs.declared.Written.{Written}
 use Rattle.file.specs.declared.Written.the-variants.{Bytes}
@@ -106,10 +106,6 @@ pub read-file : (p : Plan) → Right (length (p .streams)) (length (p .gaps)) p 
 read-file p w =
     reads-as-its-values p (w .within .count) (w .within .sources) (words-fit p w)
     ∙ ap (λ c. readAs c p) (fine-if-right (length (p .streams)) (length (p .gaps)) p .1 w)
-
-own-counts : (n m : ℕ) (p : Plan) → Right n m p → Right (length (p .streams)) (length (p .gaps)) p
-own-counts n m p r =
-    record { within = r .within; count = refl; sources = refl; label = r .label; priorities = r .priorities; labels = r .labels }
 
 same-count : (a b : ℕ) → _≡_ {A = Written} (Bytes a) (Bytes b) → a ≡ b
 same-count a b e = cc

@@ -3,13 +3,14 @@ use mathlib.Core.Path.{_≡_, refl, sym, ap, ap₂, _∙_, subst}
 use mathlib.Core.Bool.{Bool, true, false, cond, _&&_}
 use mathlib.Core.Logic.{⊎-elim}
 use mathlib.Core.List.{List, [], _∷_, _++_, map, map-append, append-assoc}
-use Prim.Native.Nat.{ℕ, zero, suc, _+_, _-_, _*_, max, _≤_, _<_}
-use native.Mathlib.Nat.{le-refl, add-le-add, zero-mul, add-mul, suc-mul, add-zero, add-suc, sub-zero, suc-inj, eq-or-lt-of-le}
+use Prim.Native.Nat.{ℕ, zero, suc, _+_, _-_, _*_, max, min, _≤_, _<_}
+use native.Mathlib.Nat.{le-refl, add-le-add, zero-mul, add-mul, suc-mul, add-zero, add-suc, sub-zero, suc-inj, eq-or-lt-of-le, lt-of-not-le}
+use native.Mathlib.Decide.{decLe}
 use native.Mathlib.Numerals.{add-one}
 use native.Mathlib.Omega.{arith}
 use lib.Dec.{T}
 use lib.ListN.{length, getD, set, take, replicate, length-append}
-use lib.Seq.{take-suc, set-at}
+use lib.Seq.{take-suc, take-all, set-at, getD-at}
 use Rattle.laws.specs.Lists.{sumOf, largestOf, those, rows, sumTo, every}
 
 -- ---- is it more where each is more?
@@ -91,6 +92,27 @@ pub length-rows : {A : Type 0} (n : ℕ) (f : ℕ → A) → length (rows n f) �
 unfolding rows
 length-rows zero f = refl
 length-rows (suc n) f = length-append (rows n f) _ ∙ omega (arith, length-rows n f)
+
+-- no more is taken than there is
+pub take-min : {A : Type 0} (n m : ℕ) (l : List A) → length l ≤ m → take (min n m) l ≡ take n l
+take-min n m l h =
+    elim (decLe n m) [
+      | yes p ↦ let e : min n m ≡ n = omega arith in ap (λ k. take k l) e
+      | no p ↦
+          let g = lt-of-not-le p in
+          take-all (min n m) l (omega arith) ∙ sym (take-all n l (omega arith))
+    ]
+
+-- row i, whatever stands behind the rows
+pub rows-front : {A : Type 0} (f : ℕ → A) (rest : List A) (d : A) (n i : ℕ) → i < n → getD (rows n f ++ rest) i d ≡ f i
+unfolding rows
+rows-front f rest d zero i h = absurd (omega arith)
+rows-front f rest d (suc n) i h =
+    ap (λ l. getD l i d) (append-assoc (rows n f) (f n ∷ []) rest)
+    ∙ ⊎-elim
+    (λ (e : i ≡ n). rw e (getD-at (rows n f) (f n) rest d n (length-rows n f)))
+    (λ l. rows-front f (f n ∷ rest) d n i l)
+    (eq-or-lt-of-le {n = i} {m = n} (omega arith))
 
 -- rows that agree below n
 pub rows-same : {A : Type 0} (n : ℕ) (f g : ℕ → A) → ((k : ℕ) → k < n → f k ≡ g k) → rows n f ≡ rows n g

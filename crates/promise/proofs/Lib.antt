@@ -1,2 +1,3 @@
 pub mod Partners
 pub mod Promise
+pub mod Fewer

@@ -1,5 +1,7 @@
--- When a second plan, `new`, is lighter than a first, `old`, and what that promises; proved in proofs/Promise.antt.
+-- When a second plan, `new`, is lighter than a first, `old`, and what that promises; proved in proofs/Promise.antt, and for fewer rows in
+-- proofs/Fewer.antt.
 use mathlib.Core.Path.{_≡_}
+use mathlib.Core.List.{List, _∷_, _++_}
 use Prim.Native.Nat.{ℕ, _≤_, _<_}
 use lib.ListN.{length, getD}
 use Rattle.laws.specs.declared.Found.the-variants.{At}
@@ -69,3 +71,33 @@ pub record Kept (old new : Plan) (k r : ℕ) : Type 0 where
 abbrev pub LighterKeeps : Type 0
 LighterKeeps =
     (old new : Plan) → NotRefused old → NotRefused new → (l : Lighter old new) (k : ℕ) (h : k < length (new .streams)) → Kept old new k (l .row k h)
+
+-- ---- fewer rows
+
+-- the same constants and noise, and each stream of the second is one of the first, with nothing changed
+pub record Fewer (old new : Plan) : Type 0 where
+  pub timing : new .timing ≡ old .timing
+  pub gaps : new .gaps ≡ old .gaps
+  pub row : (k : ℕ) → k < length (new .streams) → ℕ
+  pub among : (k : ℕ) (h : k < length (new .streams)) → row k h < length (old .streams)
+  pub same : (k : ℕ) (h : k < length (new .streams)) → at new k ≡ at old (row k h)
+
+abbrev pub FewerKeeps : Type 0
+FewerKeeps =
+    (old new : Plan) → NotRefused old → NotRefused new → (f : Fewer old new) (k : ℕ) (h : k < length (new .streams)) → Kept old new k (f .row k h)
+
+-- one stream of a plan is pulled, and some are left: those in the rows before it and behind it
+pub record Pulled (p : Plan) : Type 0 where
+  pub before : List Stream
+  pub stream : Stream
+  pub behind : List Stream
+  pub rows : p .streams ≡ before ++ stream ∷ behind
+  pub left : 1 ≤ length (before ++ behind)
+
+-- the plan without it
+abbrev pub without : (p : Plan) → Pulled p → Plan
+without p q = record { timing = p .timing; streams = q .before ++ q .behind; gaps = p .gaps }
+
+-- it is not refused either, and has fewer rows, so that each stream that is left keeps its promise
+abbrev pub PulledKeeps : Type 0
+PulledKeeps = (p : Plan) → NotRefused p → (q : Pulled p) → NotRefused (without p q) × Fewer p (without p q)

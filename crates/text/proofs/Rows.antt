@@ -33,14 +33,3 @@ rows-all zero ss answers = refl
 rows-all (suc k) [] answers = refl
 rows-all (suc k) (s ∷ ss) [] = refl
 rows-all (suc k) (s ∷ ss) (a ∷ answers) = ap (λ t. row s a ++ t) (rows-all k ss answers)
-
--- no more than there are
-pub take-min : {A : Type 0} (n m : ℕ) (l : List A) → length l ≤ m → take (min n m) l ≡ take n l
-take-min n m l h =
-    elim (decLe n m) [
-      | yes p ↦ let e : min n m ≡ n = omega arith in ap (λ k. take k l) e
-      | no p ↦
-          let g = lt-of-not-le p in
-          let e : min n m ≡ m = omega arith in
-          ap (λ k. take k l) e ∙ take-all m l h ∙ sym (take-all n l (omega arith))
-    ]

@@ -1,32 +1,21 @@
 -- What stands in a place: of rows laid over a list, and of a list that was lengthened. Assumes nothing.
 use mathlib.Core.Path.{_≡_, refl, ap, _∙_}
 use mathlib.Core.List.{List, [], _∷_, _++_}
-use mathlib.Core.Logic.{⊎-elim}
 use Prim.Native.Nat.{ℕ, zero, suc, _+_, _-_, _≤_, _<_}
-use native.Mathlib.Nat.{eq-or-lt-of-le}
 use native.Mathlib.Omega.{arith}
-use lib.ListN.{length, getD, drop, replicate, List·getD-append}
-use lib.Seq.{getD-append-add, getD-drop, getD-at}
+use lib.ListN.{length, getD, drop, replicate}
+use lib.Seq.{getD-append-add, getD-drop}
 use Rattle.laws.specs.Lists.{rows}
-use Rattle.laws.proofs.Lists.{length-rows}
+use Rattle.laws.proofs.Lists.{length-rows, rows-front}
 
 module _ {A : Type 0} where
-  rows-at : (f : ℕ → A) (d : A) (n i : ℕ) → i < n → getD (rows n f) i d ≡ f i
-  unfolding rows
-  rows-at f d zero i h = absurd (omega arith)
-  rows-at f d (suc n) i h =
-      ⊎-elim
-      (λ (e : i ≡ n). rw e (getD-at (rows n f) (f n) [] d n (length-rows n f)))
-      (λ l. List·getD-append (rows n f) (f n ∷ []) d i (omega (arith, length-rows n f)) ∙ rows-at f d n i l)
-      (eq-or-lt-of-le {n = i} {m = n} (omega arith))
-
   -- past a list of n elements
   pub past : (p q : List A) (d : A) (n i : ℕ) → length p ≡ n → n ≤ i → getD (p ++ q) i d ≡ getD q (i - n) d
   past p q d n i e h = let s : i ≡ length p + (i - n) = omega arith in rw s (getD-append-add p q (i - n) d ∙ ap (λ k. getD q k d) (omega arith))
 
   -- rows laid over a list: the rows in front, and past them what stood there
   pub laid-front : (f : ℕ → A) (base : List A) (d : A) (n i : ℕ) → i < n → getD (rows n f ++ drop n base) i d ≡ f i
-  laid-front f base d n i h = List·getD-append (rows n f) (drop n base) d i (omega (arith, length-rows n f)) ∙ rows-at f d n i h
+  laid-front f base d n i h = rows-front f (drop n base) d n i h
 
   pub laid-past : (f : ℕ → A) (base : List A) (d : A) (n i : ℕ) → n ≤ i → getD (rows n f ++ drop n base) i d ≡ getD base i d
   laid-past f base d n i h =

@@ -42,13 +42,3 @@ pub map-take : {A B : Type 0} (f : A → B) (n : ℕ) (xs : List A) → map f (t
 map-take f zero xs = refl
 map-take f (suc n) [] = refl
 map-take f (suc n) (x ∷ xs) = ap (λ l. f x ∷ l) (map-take f n xs)
-
--- no more is taken than there is
-pub take-min : {A : Type 0} (n m : ℕ) (xs : List A) → length xs ≡ m → take (min n m) xs ≡ take n xs
-take-min n m xs e =
-    elim (decLe n m) [
-      | yes h ↦ let z : min n m ≡ n = omega arith in rw z refl
-      | no h ↦
-          let g = lt-of-not-le h in
-          take-all (min n m) xs (omega arith) ∙ sym (take-all n xs (omega arith))
-    ]

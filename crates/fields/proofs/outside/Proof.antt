@@ -1,41 +1,25 @@
 -- The timing comes first, then the streams, then the gaps; a count past the places of a sheet takes all of them. Assumes nothing.
-use mathlib.Core.Path.{_≡_, refl, sym, ap, _∙_}
-use mathlib.Core.List.{List, [], _∷_, map, flatMap}
-use Prim.Native.Nat.{ℕ, zero, suc, min}
-use native.Mathlib.Nat.{zero-min, min-zero, suc-min-suc}
+use mathlib.Core.Path.{_≡_, sym, ap, _∙_}
+use mathlib.Core.List.{map, flatMap}
 use native.Mathlib.Omega.{arith}
 use borrow.Author.Needs.{needs}
-use lib.ListN.{length, take, length-take}
+use lib.ListN.{length, take}
 use Rattle.laws.specs.declared.Found.the-variants.{Nothing}
 use Rattle.plan.specs.Plan.{planOf}
 use Rattle.fields.specs.Layout as layout
 use Rattle.fields.specs.Fields.{timingFields, streamFields, gapField, lowest}
 use Rattle.fields.proofs.Lowest.{timing-here, streams-here, gaps-left}
-use Rattle.fields.proofs.Places.{stream-places, gap-places}
+use Rattle.fields.proofs.Places.{streams-taken, gaps-taken}
 use Rattle.fields.proofs.Inside.{inside-if-within, nothing-if-inside}
 use Rattle.fields.proofs.outside.Statement.{statement}
 use Rattle.fields.proofs.outside.Tie as tie
 
-take-least : {A : Type 0} (n : ℕ) (l : List A) → take (min n (length l)) l ≡ take n l
-take-least zero l = rw zero-min refl
-take-least (suc n) [] = rw min-zero refl
-take-least (suc n) (x ∷ l) = rw suc-min-suc (ap (λ r. x ∷ r) (take-least n l))
+-- the counts are those of the plan
+rows-are : (c : tie.After-smaller) → let s = c .before .args .sheet in (c .smaller .result ≡ length (planOf s .streams)) × (take (c .smaller .result) (s .streams) ≡ planOf s .streams)
+rows-are c = streams-taken (c .before .args .sheet) (_, c .before .good .0 .1 .1) _ (c .smaller .ensures)
 
--- a sheet has 64 places for streams and 8 for gaps
-streams-taken : (c : tie.After-smaller) → let s = c .before .args .sheet in
-    (c .smaller .result ≡ length (take (s .count) (s .streams))) × (take (c .smaller .result) (s .streams) ≡ take (s .count) (s .streams))
-streams-taken c =
-    let s = c .before .args .sheet in
-    let places = stream-places s (_, c .before .good .0 .1 .1) in
-    let e : c .smaller .result ≡ min (s .count) (length (s .streams)) = c .smaller .ensures ∙ ap (min (s .count)) (sym places) in
-    (e ∙ sym (length-take (s .count) (s .streams)), ap (λ n. take n (s .streams)) e ∙ take-least (s .count) (s .streams))
-
-gaps-taken : (c : tie.After-smaller2) → let s = c .before .before .args .sheet in take (c .smaller2 .result) (s .gaps) ≡ take (s .sources) (s .gaps)
-gaps-taken c =
-    let s = c .before .before .args .sheet in
-    let places = gap-places s (_, c .before .before .good .0 .1 .1) in
-    let e : c .smaller2 .result ≡ min (s .sources) (length (s .gaps)) = c .smaller2 .ensures ∙ ap (min (s .sources)) (sym places) in
-    ap (λ n. take n (s .gaps)) e ∙ take-least (s .sources) (s .gaps)
+gaps-are : (c : tie.After-smaller2) → let s = c .before .before .args .sheet in take (c .smaller2 .result) (s .gaps) ≡ planOf s .gaps
+gaps-are c = gaps-taken (c .before .before .args .sheet) (_, c .before .before .good .0 .1 .1) _ (c .smaller2 .ensures) .1
 
 timing-inside : (c : tie.After-enum-told) → lowest layout.contents (timingFields (c .before .before .before .before .before .before .args .sheet .timing)) ≡ Nothing
 timing-inside c = sym (c .before .before .timing-outside .ensures) ∙ c .enum-told .given .1
@@ -77,7 +61,7 @@ returns-2 c =
     let t = q .before .before in
     let b = t .before .before .before .before in
     let s = b .before .before .args .sheet in
-    let e = ap (λ l. lowest (layout.streamAt 0) (flatMap (streamFields (s .timing .nb)) l)) (sym (streams-taken (b .before) .1)) in
+    let e = ap (λ l. lowest (layout.streamAt 0) (flatMap (streamFields (s .timing .nb)) l)) (sym (rows-are (b .before) .1)) in
     sym (streams-here (planOf s) (timing-inside t) _ (e ∙ sym (q .streams-outside .ensures) ∙ c .before .p2 .given .1))
 
 enum-told-2 : tie.Need-enum-told-2
@@ -95,10 +79,10 @@ returns-3 c =
     let t = q .before .before in
     let b = t .before .before .before .before in
     let s = b .before .before .args .sheet in
-    let e = ap (λ l. lowest (layout.streamAt 0) (flatMap (streamFields (s .timing .nb)) l)) (sym (streams-taken (b .before) .1)) in
+    let e = ap (λ l. lowest (layout.streamAt 0) (flatMap (streamFields (s .timing .nb)) l)) (sym (rows-are (b .before) .1)) in
     c .gaps-outside .ensures
-    ∙ ap (λ l. lowest (layout.streamAt (b .before .smaller .result)) (map gapField l)) (gaps-taken b)
-    ∙ ap (λ n. lowest (layout.streamAt n) (map gapField (take (s .sources) (s .gaps)))) (streams-taken (b .before) .0)
+    ∙ ap (λ l. lowest (layout.streamAt (b .before .smaller .result)) (map gapField l)) (gaps-are b)
+    ∙ ap (λ n. lowest (layout.streamAt n) (map gapField (take (s .sources) (s .gaps)))) (rows-are (b .before) .0)
     ∙ sym (gaps-left (planOf s) (timing-inside t) (e ∙ sym (q .streams-outside .ensures) ∙ u .enum-told2 .given .1))
 
 pub outside-spec : {M : Type 1} → statement M

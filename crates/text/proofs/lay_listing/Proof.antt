@@ -6,12 +6,13 @@ use native.Mathlib.Omega.{arith}
 use borrow.Author.Needs.{needs}
 use lib.ListN.{length, take, length-map}
 use Rattle.names.specs.Limits.{streams}
+use Rattle.laws.proofs.Lists.{take-min}
 use Rattle.plan.specs.Plan.{blank}
 use Rattle.plan.proofs.Stream as stream
 use Rattle.text.specs.Listing.{header, rows, listingOf}
 use Rattle.text.specs.Private.{Laid, ofRow, ofListing}
 use Rattle.text.proofs.Laying.{none, then, is, within, same}
-use Rattle.text.proofs.Rows.{rows-more, rows-all, take-min}
+use Rattle.text.proofs.Rows.{rows-more, rows-all}
 use Rattle.text.proofs.lay_listing.Statement.{statement}
 use Rattle.text.proofs.lay_listing.Tie as tie
 

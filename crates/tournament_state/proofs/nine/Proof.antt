@@ -4,9 +4,10 @@ use mathlib.Core.List.{map}
 use Prim.Native.Nat.{min}
 use native.Mathlib.Omega.{arith}
 use lib.ListN.{length, take, length-take, length-map}
+use Rattle.laws.proofs.Lists.{take-min}
 use Rattle.repeats.specs.Repeats.{firstRepeat}
 use Rattle.tournament_state.specs.Refusals.{number, repeatedAt, nine}
-use Rattle.tournament_state.proofs.Places.{map-take, take-min}
+use Rattle.tournament_state.proofs.Places.{map-take}
 use borrow.Author.Needs.{needs}
 use Rattle.tournament_state.proofs.nine.Statement.{statement}
 use Rattle.tournament_state.proofs.nine.Tie as tie
@@ -19,7 +20,7 @@ repeated c =
     let a = t .before .args in
     let long : length (a .priorities) ≡ 128 = search needs in
     let same : map number (take (a .count) (a .priorities)) ≡ take (t .smaller .result) (c .before .before .numbers .result) =
-    ap (map number) (sym (take-min (a .count) 128 (a .priorities) long)) ∙ map-take number (min (a .count) 128) (a .priorities)
+    ap (map number) (sym (take-min (a .count) 128 (a .priorities) (omega arith))) ∙ map-take number (min (a .count) 128) (a .priorities)
     ∙ ap₂ take (sym (t .smaller .ensures)) (sym (c .before .before .numbers .ensures)) in
     ap (λ l. repeatedAt (firstRepeat l)) same ∙ ap repeatedAt (sym (c .first-repeat .ensures))
 

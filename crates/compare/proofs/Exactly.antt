@@ -1,0 +1,214 @@
+-- The test is exact: of two plans that are not refused no condition is broken exactly if the second is lighter. Labels are distinct in the first,
+-- so the row that the test finds under a label is the row that a stream stands in. Assumes nothing.
+use mathlib.Core.Path.{_≡_, refl, sym, ap, _∙_}
+use mathlib.Core.Bool.{Bool, true, false, not, _&&_, true≢false}
+use mathlib.Core.List.{map}
+use Prim.Native.Nat.{ℕ, _≤_, _<_}
+use native.Mathlib.Omega.{arith}
+use borrow.Author.Tests.{ltb-true, leb-true, eqb-true, lt-ltb, le-leb, eq-eqb, ne-eqb, not-true}
+use lib.Dec.{leb, ltb}
+use lib.ListN.{length, getD, length-map, List·getD-map}
+use Rattle.names.specs.declared.Label.{Label}
+use Rattle.laws.specs.declared.Found.{Found}
+use Rattle.laws.specs.declared.Found.the-variants.{At as Found·At, Nothing as Found·Nothing}
+use Rattle.repeats.specs.Rows.{some}
+use Rattle.repeats.proofs.Rows.{is-false, some-passes, some-at, finds-lowest}
+use Rattle.plan.specs.declared.Timing.{Timing}
+use Rattle.plan.specs.declared.Stream.{Stream}
+use Rattle.plan.specs.Plan.{Plan, blank}
+use Rattle.promise.specs.Lighter.{at, NoGreater, Eased, Lighter, NotRefused}
+use Rattle.compare.specs.declared.Change.{Change}
+use Rattle.compare.specs.declared.Change.the-variants.{Nothing}
+use Rattle.compare.specs.declared.Reason.{Reason}
+use Rattle.compare.specs.Changes.{unless, _or_, firstGiven, constantsOfV, constantsOfU, constants, rowOf, eased, inRow, stream, numberIn, number, overtakes, urgency, noise, changes}
+use Rattle.compare.specs.Claims.{LighterExactly}
+use Rattle.compare.proofs.First.{given-not-nothing, or-nothing, both-nothing, unless-nothing, unless-true, nothing-if-none}
+use Rattle.compare.proofs.OneByOne.{none-of-v, none-of-u, all-eased}
+use Rattle.compare.proofs.Gaps.{by-order, counts-of-partners, partners-of-counts}
+
+-- ---- one test, and one before others
+passes : (a b : ℕ) (r : Reason) → unless (leb a b) r ≡ Nothing → a ≤ b
+passes a b r e = leb-true a b (unless-nothing (leb a b) r e)
+
+passes-then : (a b : ℕ) (r : Reason) (c : Change) → unless (leb a b) r or c ≡ Nothing → (a ≤ b) × (c ≡ Nothing)
+passes-then a b r c e = let (h, d) = or-nothing (unless (leb a b) r) c e in (passes a b r h, d)
+
+no-reason : (a b : ℕ) (r : Reason) → a ≤ b → unless (leb a b) r ≡ Nothing
+no-reason a b r h = unless-true (leb a b) r (le-leb a b h)
+
+-- ---- the constants
+no-greater : (old new : Timing) → constants old new ≡ Nothing → NoGreater old new
+unfolding constantsOfV constantsOfU
+no-greater old new d =
+    let (v, u) = or-nothing (constantsOfV old new) (constantsOfU old new) d in
+    let (f, v₁) = passes-then _ _ _ _ v in
+    let (e, v₂) = passes-then _ _ _ _ v₁ in
+    let (tfcs, v₃) = passes-then _ _ _ _ v₂ in
+    let (h, u₁) = passes-then _ _ _ _ u in
+    let (g, u₂) = passes-then _ _ _ _ u₁ in
+    let (etg, u₃) = passes-then _ _ _ _ u₂ in
+    let (lag, u₄) = passes-then _ _ _ _ u₃ in
+    record { f = f; e = e; tfcs = tfcs; swx = passes _ _ _ v₃; h = h; g = g; etg = etg; lag = lag; nb = passes _ _ _ u₄ }
+
+constants-nothing : (old new : Timing) → NoGreater old new → constants old new ≡ Nothing
+constants-nothing old new n =
+    both-nothing (constantsOfV old new) (constantsOfU old new)
+    (sym (none-of-v old new (n .f) (n .e) (n .tfcs) (n .swx)))
+    (sym (none-of-u old new (n .h) (n .g) (n .etg) (n .lag) (n .nb)))
+
+-- ---- a stream beside the one that it stands in
+eases : (old new : Stream) → eased old new ≡ Nothing → Eased old new
+unfolding eased
+eases old new e =
+    let (period, e₀) = passes-then _ _ _ _ e in
+    let (jitter, e₁) = passes-then _ _ _ _ e₀ in
+    let (payload, e₂) = passes-then _ _ _ _ e₁ in
+    record { period = period; deadline = passes _ _ _ e₂; jitter = jitter; payload = payload }
+
+eased-nothing : (old new : Stream) → Eased old new → eased old new ≡ Nothing
+eased-nothing old new h = sym (all-eased old new (h .period) (h .jitter) (h .payload) (h .deadline))
+
+-- ---- the row that is under a label
+pub found-row : (p : Plan) (l : Label) (r : ℕ) → rowOf p l ≡ Found·At r → (r < length (p .streams)) × (at p r .label .0 ≡ l .0)
+unfolding rowOf
+found-row p l r e = let w = finds-lowest _ 0 _ r .0 e in (omega (arith, w .below), eqb-true _ _ (w .passes))
+
+pub one-row : (p : Plan) → NotRefused p → (i j : ℕ) → i < length (p .streams) → j < length (p .streams) → at p i .label .0 ≡ at p j .label .0 → i ≡ j
+one-row p a i j h g e = a .labels i j (omega (arith, same)) (omega (arith, same)) (name i ∙ e ∙ sym (name j))
+  where
+    label : Stream → ℕ
+    label s = s .label .0
+
+    same : length (map label (p .streams)) ≡ length (p .streams)
+    same = length-map (p .streams) label
+
+    name : (k : ℕ) → getD (map label (p .streams)) k 0 ≡ at p k .label .0
+    name k = List·getD-map label (p .streams) k blank
+
+pub row-under : (p : Plan) → NotRefused p → (l : Label) (r : ℕ) → r < length (p .streams) → l .0 ≡ at p r .label .0 → rowOf p l ≡ Found·At r
+unfolding rowOf
+row-under p a l r h e =
+    finds-lowest _ 0 _ r .1
+    (record {
+      above = omega arith;
+      below = omega arith;
+      passes = eq-eqb _ _ (sym e);
+      lowest = λ y b c. ne-eqb _ _ (λ d. let q : y ≡ r = one-row p a y r (omega arith) h (d ∙ e) in omega arith);
+    })
+
+-- ---- all the conditions
+record Unbroken (old new : Plan) : Type 0 where
+  constants : constants (old .timing) (new .timing) ≡ Nothing
+  streams : (k : ℕ) → k < length (new .streams) → stream old (at new k) ≡ Nothing
+  order : (k : ℕ) → k < length (new .streams) → urgency old new k ≡ Nothing
+  gaps : (k : ℕ) → k < length (new .gaps) → noise old new (getD (new .gaps) k 0) ≡ Nothing
+
+module _ (old new : Plan) where
+  abbrev by-constants : Change
+  by-constants = constants (old .timing) (new .timing)
+
+  abbrev by-stream : ℕ → Change
+  by-stream k = stream old (at new k)
+
+  abbrev by-gap : ℕ → Change
+  by-gap k = noise old new (getD (new .gaps) k 0)
+
+  abbrev in-streams : (ℕ → Change) → Change
+  in-streams f = firstGiven f (length (new .streams))
+
+  abbrev in-gaps : Change
+  in-gaps = firstGiven by-gap (length (new .gaps))
+
+  unbroken : changes old new ≡ Nothing → Unbroken old new
+  unfolding changes
+  unbroken e =
+      let (c, e₁) = or-nothing by-constants (in-streams by-stream or in-streams (urgency old new) or in-gaps) e in
+      let (s, e₂) = or-nothing (in-streams by-stream) (in-streams (urgency old new) or in-gaps) e₁ in
+      let (o, g) = or-nothing (in-streams (urgency old new)) in-gaps e₂ in
+      record {
+        constants = c;
+        streams = nothing-if-none by-stream (length (new .streams)) .0 s;
+        order = nothing-if-none (urgency old new) (length (new .streams)) .0 o;
+        gaps = nothing-if-none by-gap (length (new .gaps)) .0 g;
+      }
+
+  no-changes : Unbroken old new → changes old new ≡ Nothing
+  unfolding changes
+  no-changes u =
+      both-nothing by-constants (in-streams by-stream or in-streams (urgency old new) or in-gaps) (u .constants)
+      (both-nothing (in-streams by-stream) (in-streams (urgency old new) or in-gaps)
+      (nothing-if-none by-stream (length (new .streams)) .1 (u .streams))
+      (both-nothing (in-streams (urgency old new)) in-gaps
+      (nothing-if-none (urgency old new) (length (new .streams)) .1 (u .order))
+      (nothing-if-none by-gap (length (new .gaps)) .1 (u .gaps))))
+
+-- ---- from the test to a lighter plan
+stands-in : (old : Plan) (s : Stream) → stream old s ≡ Nothing → (r : ℕ) × (rowOf old (s .label) ≡ Found·At r) × Eased (at old r) s
+stands-in old s e = go (rowOf old (s .label)) refl e
+  where
+    go : (f : Found) → rowOf old (s .label) ≡ f → inRow old s f ≡ Nothing → (r : ℕ) × (rowOf old (s .label) ≡ Found·At r) × Eased (at old r) s
+    go (Found·At r) d e = (r, d, eases (at old r) s e)
+    go Found·Nothing d e = absurd (given-not-nothing e)
+
+not-overtaken : (old new : Plan) (j k : ℕ) → urgency old new k ≡ Nothing → j < length (new .streams) → at new j .priority .0 < at new k .priority .0
+    → number old (at new j .label) < number old (at new k .label)
+not-overtaken old new j k e h l = by-order (number old (at new k .label)) (number old (at new j .label)) (λ m. absurd (never m)) (λ m. m)
+  where
+    never : number old (at new k .label) ≤ number old (at new j .label) → ⊥
+    never m =
+        let t : overtakes old new k j ≡ true = rw (lt-ltb _ _ l, le-leb _ _ m) refl in
+        true≢false (sym (some-at (overtakes old new k) (length (new .streams)) j h t) ∙ not-true _ (unless-nothing _ _ e))
+
+lighter-if : (old new : Plan) → Unbroken old new → Lighter old new
+lighter-if old new u =
+    record {
+      timing = no-greater (old .timing) (new .timing) (u .constants);
+      row = λ k h. found k h .0;
+      stands = λ k h.
+          let (r, d, e) = found k h in
+          let (among, label) = found-row old (at new k .label) r d in
+          record { among = among; label = sym label; eased = e };
+      order = λ j k h i l. rw (← number-is j h, ← number-is k i) (not-overtaken old new j k (u .order k i) h l);
+      gaps = partners-of-counts (new .gaps) (old .gaps) (λ k h. passes _ _ _ (u .gaps k h));
+    }
+  where
+    found : (k : ℕ) → k < length (new .streams) → (r : ℕ) × (rowOf old (at new k .label) ≡ Found·At r) × Eased (at old r) (at new k)
+    found k h = stands-in old (at new k) (u .streams k h)
+
+    number-is : (k : ℕ) (h : k < length (new .streams)) → number old (at new k .label) ≡ at old (found k h .0) .priority .0
+    number-is k h = ap (numberIn old) (found k h .1)
+
+-- ---- and back
+both-true : (a b : Bool) → (a && b) ≡ true → (a ≡ true) × (b ≡ true)
+both-true true b e = (refl, e)
+both-true false b e = absurd (true≢false (sym e))
+
+overtaking : (old new : Plan) (k j : ℕ) → overtakes old new k j ≡ true
+    → (at new j .priority .0 < at new k .priority .0) × (number old (at new k .label) ≤ number old (at new j .label))
+overtaking old new k j e =
+    let (a, b) = both-true (ltb (at new j .priority .0) (at new k .priority .0)) (leb (number old (at new k .label)) (number old (at new j .label))) e in
+    (ltb-true _ _ a, leb-true _ _ b)
+
+if-lighter : (old new : Plan) → NotRefused old → Lighter old new → Unbroken old new
+if-lighter old new a l =
+    record {
+      constants = constants-nothing (old .timing) (new .timing) (l .timing);
+      streams = λ k h. ap (inRow old (at new k)) (row-is k h) ∙ eased-nothing (at old (l .row k h)) (at new k) (l .stands k h .eased);
+      order = λ k h. unless-true _ _ (ap not (is-false (some (overtakes old new k) (length (new .streams))) (overtaken k h)));
+      gaps = λ k h. no-reason _ _ _ (counts-of-partners (new .gaps) (old .gaps) (l .gaps) (getD (new .gaps) k 0));
+    }
+  where
+    row-is : (k : ℕ) (h : k < length (new .streams)) → rowOf old (at new k .label) ≡ Found·At (l .row k h)
+    row-is k h = let s = l .stands k h in row-under old a (at new k .label) (l .row k h) (s .among) (s .label)
+
+    number-is : (k : ℕ) (h : k < length (new .streams)) → number old (at new k .label) ≡ at old (l .row k h) .priority .0
+    number-is k h = ap (numberIn old) (row-is k h)
+
+    overtaken : (k : ℕ) → k < length (new .streams) → some (overtakes old new k) (length (new .streams)) ≡ true → ⊥
+    overtaken k h e =
+        let (j, i, t) = some-passes (overtakes old new k) (length (new .streams)) .0 e in
+        let (b, c) = overtaking old new k j t in
+        omega (arith, c, l .order j k i h b, number-is j i, number-is k h)
+
+pub lighter-exactly : LighterExactly
+lighter-exactly old new a b = (λ e. lighter-if old new (unbroken old new e), λ l. no-changes old new (if-lighter old new a l))

@@ -1,0 +1,85 @@
+-- Each return is a line of the table of answers. Assumes nothing.
+use mathlib.Core.Path.{_≡_, sym, _∙_}
+use borrow.Author.Needs.{needs}
+use Rattle.names.specs.declared.Refusal.{Refusal}
+use Rattle.checks.specs.declared.Checked.{Checked}
+use Rattle.checks.specs.declared.Checked.the-variants.{Fine, Refused}
+use Rattle.compare.specs.declared.Change.{Change}
+use Rattle.compare.specs.declared.Change.the-variants.{Of, Nothing}
+use Rattle.compare.specs.declared.Reason.{Reason}
+use Rattle.compare.specs.declared.Compared.the-variants.{FirstRefused, SecondRefused, Lighter, RunAgain}
+use Rattle.compare.specs.Compared.{comparedAs}
+use Rattle.compare.proofs.outcome.Statement.{statement}
+use Rattle.compare.proofs.outcome.Tie as tie
+
+module _ (a b : Checked) (c : Change) where
+  first-refused : (r : Refusal) → a ≡ Refused r → FirstRefused r ≡ comparedAs a b c
+  first-refused r e = sym (λ i. comparedAs (e i) b c)
+
+  module _ (f : a ≡ Fine) where
+    second-refused : (r : Refusal) → b ≡ Refused r → SecondRefused r ≡ comparedAs a b c
+    second-refused r e = sym (λ i. comparedAs (f i) (e i) c)
+
+    module _ (g : b ≡ Fine) where
+      run-again : (r : Reason) → c ≡ Of r → RunAgain r ≡ comparedAs a b c
+      run-again r e = sym (λ i. comparedAs (f i) (g i) (e i))
+
+      is-lighter : c ≡ Nothing → Lighter ≡ comparedAs a b c
+      is-lighter e = sym (λ i. comparedAs (f i) (g i) (e i))
+
+enum-known-first : tie.Need-enum-known-first
+enum-known-first c = search needs
+
+returns : tie.Need-returns
+returns c = let a = c .before .before .before .args in first-refused (a .first) _ _ _ (c .before .first .given .1)
+
+enum-told : tie.Need-enum-told
+enum-told c = search needs
+
+enum-known-second : tie.Need-enum-known-second
+enum-known-second c = search needs
+
+returns-2 : tie.Need-returns-2
+returns-2 c =
+    let t = c .before .before .before in
+    second-refused _ (t .before .before .args .second) _ (t .enum-told .given .1) _ (c .before .second .given .1)
+
+enum-told-2 : tie.Need-enum-told-2
+enum-told-2 c = search needs
+
+changes-requires : tie.Need-changes-requires
+changes-requires c κs = search needs
+
+enum-known-r : tie.Need-enum-known-r
+enum-known-r c = search needs
+
+enum-told-3 : tie.Need-enum-told-3
+enum-told-3 c = search needs
+
+returns-3 : tie.Need-returns-3
+returns-3 c =
+    let t = c .before .before .before in
+    let g = t .before in
+    run-again _ _ _ (g .before .before .enum-told .given .1) (g .enum-told2 .given .1) _ (sym (t .changes .ensures) ∙ c .before .r .given .1)
+
+returns-4 : tie.Need-returns-4
+returns-4 c =
+    let t = c .before .before in
+    let g = t .before in
+    is-lighter _ _ _ (g .before .before .enum-told .given .1) (g .enum-told2 .given .1) (sym (t .changes .ensures) ∙ c .enum-told3 .given .1)
+
+pub outcome-spec : {M : Type 1} → statement M
+outcome-spec =
+    tie.close
+    (tie.spec
+    enum-known-first
+    returns
+    enum-told
+    enum-known-second
+    returns-2
+    enum-told-2
+    changes-requires
+    enum-known-r
+    enum-told-3
+    returns-3
+    returns-4)

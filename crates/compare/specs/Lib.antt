@@ -1,0 +1,4 @@
+pub mod Changes
+pub mod Compared
+pub mod Claims
+pub mod Private

@@ -1,0 +1,144 @@
+-- What is said of two files is what is said of their plans, and a row of the answer words is the row's answer, so that a second file that is
+-- called lighter keeps the promise in the words. Assumes nothing.
+use mathlib.Core.Path.{_≡_, refl, sym, ap, _∙_, subst}
+use mathlib.Core.Bool.{Bool, true, false, cond}
+use mathlib.Core.List.{List, _++_}
+use Prim.Native.Nat.{ℕ, _+_, _*_, _<_}
+use native.Mathlib.Nat.{add-zero}
+use native.Mathlib.Omega.{arith}
+use lib.Dec.{leb}
+use lib.ListN.{length, getD, drop, length-map, List·getD-append, List·getD-map}
+use Rattle.laws.specs.declared.Found.{Found}
+use Rattle.laws.specs.declared.Found.the-variants.{At, Nothing}
+use Rattle.words.specs.Words.{wordsOf}
+use Rattle.bound.specs.declared.Verdict.{Verdict}
+use Rattle.bound.specs.declared.Verdict.the-variants.{Met, Missed, None}
+use Rattle.bound.specs.Terms.{Terms}
+use Rattle.bound.specs.Bound.{busy, bound, answerOf as answerFrom, answer, verdictNumber}
+use Rattle.plan.specs.declared.Sheet.{Sheet}
+use Rattle.plan.specs.Plan.{Plan, planOf, blank}
+use Rattle.plan.specs.Rules.{terms, rowAnswer, answers}
+use Rattle.checks.specs.declared.Checked.{Checked}
+use Rattle.checks.specs.declared.Checked.the-variants.{Fine, Refused}
+use Rattle.checks.specs.Checks.{judge, lines}
+use Rattle.promise.specs.Lighter.{at, NotRefused, Kept}
+use Rattle.file.specs.declared.ReadPlan.{ReadPlan}
+use Rattle.file.specs.File as file
+use Rattle.file.proofs.Rows.{length-flat, in-piece}
+use Rattle.file.proofs.Reading.{fine-read, one-sheet}
+use Rattle.answers.specs.Words.{words, rowWords, answerWords, tooFew, answerAs, answerOf, answerRead, answerFileOf}
+use Rattle.compare.proofs.Exactly.{one-row}
+use Rattle.compare.proofs.Said.{said-exactly, said-kept, fine-not-refused}
+use Rattle.compare_files.specs.Files.{planFrom, comparedFiles}
+use Rattle.compare_files.specs.Claims.{SaidOfFiles, LabelsStand, verdictAt, boundAt, KeptWords, WordsKept}
+
+-- ---- two files
+file-not-refused : (bs : List ℕ) → file.readOf bs .answer ≡ Fine → NotRefused (planFrom bs)
+file-not-refused bs e =
+    let f = fine-read bs e in
+    let p = file.planIn (f .n) (f .m) (wordsOf bs) in
+    let same : planFrom bs ≡ p = ap (λ (r : ReadPlan). planOf (r .sheet)) (f .read) ∙ one-sheet p in
+    subst NotRefused (sym same) (fine-not-refused (f .n) (f .m) p (f .values))
+
+pub said-of-files : (old new : List ℕ) → SaidOfFiles old new (comparedFiles old new)
+unfolding comparedFiles
+said-of-files old new =
+    let a = file-not-refused old in
+    let b = file-not-refused new in
+    record {
+      is = refl;
+      exactly = said-exactly (planFrom old) (planFrom new) (file.readOf old .answer) (file.readOf new .answer) a b;
+      kept = said-kept (planFrom old) (planFrom new) (file.readOf old .answer) (file.readOf new .answer) a b;
+    }
+
+-- ---- the words of a row
+-- the lent words begin with the plan's, where the answer is fine
+as-words : (c : Checked) (n : ℕ) (p : Plan) (out : List ℕ) → answerAs c n p out .0 ≡ Fine → answerAs c n p out .1 ≡ answerWords p ++ drop (words * n) out
+as-words Fine n p out e = refl
+as-words (Refused r) n p out e = absurd (let z : _≡_ {A = ℕ} 0 1 = cc in omega arith)
+
+read-words : (c : Checked) (s : Sheet) (out : List ℕ) → answerRead c s out .0 ≡ Fine
+    → answerRead c s out .1 ≡ answerWords (planOf s) ++ drop (words * s .count) out
+unfolding answerOf
+read-words Fine s out e = as-words (judge (lines (s .count) (s .sources) (planOf s) ++ tooFew (s .count) out)) (s .count) (planOf s) out e
+read-words (Refused r) s out e = absurd (let z : _≡_ {A = ℕ} 0 1 = cc in omega arith)
+
+-- word j of row r
+row-word : (p : Plan) (rest : List ℕ) (r j : ℕ) → r < length (p .streams) → j < words
+    → getD (answerWords p ++ rest) (words * r + j) 0 ≡ getD (rowWords (rowAnswer p (at p r))) j 0
+row-word p rest r j h k =
+    let n : length (answers p) ≡ length (p .streams) = length-map (p .streams) (rowAnswer p) in
+    let i : words * r + j < length (answerWords p) = omega (arith, length-flat words rowWords (λ a. refl) (answers p)) in
+    List·getD-append (answerWords p) rest 0 (words * r + j) i
+    ∙ in-piece words rowWords (λ a. refl) (answers p) r j (rowAnswer p blank) 0 (omega arith) k
+    ∙ ap (λ a. getD (rowWords a) j 0) (List·getD-map (rowAnswer p) (p .streams) r blank)
+
+-- the words of row r are the answer to its stream
+record RowSays (p : Plan) (out : List ℕ) (r : ℕ) : Type 0 where
+  verdict : verdictAt out r ≡ verdictNumber (rowAnswer p (at p r) .verdict)
+  bound : boundAt out r ≡ rowAnswer p (at p r) .bound
+
+row-says : (bs out : List ℕ) (r : ℕ) → answerFileOf bs out .0 ≡ Fine → r < length (planFrom bs .streams) → RowSays (planFrom bs) (answerFileOf bs out .1) r
+unfolding answerFileOf
+row-says bs out r e h =
+    let p = planFrom bs in
+    let rest = drop (words * file.readOf bs .sheet .count) out in
+    let all = read-words (file.readOf bs .answer) (file.readOf bs .sheet) out e in
+    record {
+      verdict =
+          ap (λ ws. getD ws (words * r) 0) all
+          ∙ ap (λ i. getD (answerWords p ++ rest) i 0) (sym (add-zero (words * r)))
+          ∙ row-word p rest r 0 h (omega arith);
+      bound = ap (λ ws. getD ws (words * r + 1) 0) all ∙ row-word p rest r 1 h (omega arith);
+    }
+
+-- ---- what the words of an answer say
+met-number : (v : Verdict) → verdictNumber v ≡ 0 → v ≡ Met
+met-number Met e = refl
+met-number Missed e = absurd (omega arith)
+met-number None e = absurd (omega arith)
+
+not-none : (t : Bool) → verdictNumber (cond t Met Missed) ≡ 2 → ⊥
+not-none true e = omega arith
+not-none false e = omega arith
+
+-- an answer that is not "none" has a busy period, and its bound
+bound-said : (t : Terms) (D : ℕ) → (verdictNumber (answer t D .verdict) ≡ 2 → ⊥) → (L : ℕ) × (busy t ≡ At L) × (answer t D .bound ≡ bound t L)
+unfolding answer
+bound-said t D = go (busy t)
+  where
+    go : (f : Found) → (verdictNumber (answerFrom t D f .verdict) ≡ 2 → ⊥) → (L : ℕ) × (f ≡ At L) × (answerFrom t D f .bound ≡ bound t L)
+    go (At L) n = (L, refl, refl)
+    go Nothing n = absurd (n refl)
+
+-- .. and one that has a busy period is not "none"
+says-bound : (t : Terms) (D L : ℕ) → busy t ≡ At L → (verdictNumber (answer t D .verdict) ≡ 2 → ⊥) × (answer t D .bound ≡ bound t L)
+unfolding answer
+says-bound t D L e = rw e (not-none (leb (bound t L) D), refl)
+
+-- ---- a promise that is kept is kept in the words
+kept-words : (old new : Plan) (before after : List ℕ) (k r : ℕ) → Kept old new k r → RowSays old before r → RowSays new after k → KeptWords before r after k
+kept-words old new before after k r kept b a =
+    record {
+      bound = λ some.
+          let (L, e, x) = bound-said (terms old (at old r)) (at old r .deadline) (λ n. some (b .verdict ∙ n)) in
+          let (K, d, less) = kept .bound L e in
+          let (still, y) = says-bound (terms new (at new k)) (at new k .deadline) K d in
+          (λ n. still (sym (a .verdict) ∙ n), omega (arith, b .bound, a .bound));
+      met = λ m. a .verdict ∙ ap verdictNumber (kept .met (met-number _ (sym (b .verdict) ∙ m)));
+    }
+
+pub labels-stand : LabelsStand
+labels-stand old new e k h =
+    let (f, g, l) = said-of-files old new .exactly .0 e in
+    let s = l .stands k h in
+    (l .row k h, s .among, s .label)
+
+pub words-kept : WordsKept
+words-kept old new out out′ e x y k r h i d =
+    let s = said-of-files old new in
+    let (f, g, l) = s .exactly .0 e in
+    let q = l .stands k h in
+    let same : l .row k h ≡ r = one-row (planFrom old) (file-not-refused old f) (l .row k h) r (q .among) i (sym (q .label) ∙ d) in
+    kept-words (planFrom old) (planFrom new) (answerFileOf old out .1) (answerFileOf new out′ .1) k r
+    (rw same at (s .kept e l k h)) (row-says old out r x i) (row-says new out′ k y h)

@@ -1,0 +1,40 @@
+-- The claims of SaidOfFiles are those of the answer that the table gives. Assumes nothing.
+use mathlib.Core.Path.{_≡_, ap₂, _∙_}
+use mathlib.Core.List.{List}
+use Prim.Native.Nat.{ℕ}
+use borrow.Author.Needs.{needs}
+use Rattle.plan.specs.Plan.{planOf}
+use Rattle.file.specs.declared.ReadPlan.{ReadPlan}
+use Rattle.compare.specs.declared.Compared.{Compared}
+use Rattle.compare.specs.Changes.{changes}
+use Rattle.compare.specs.Compared.{comparedAs}
+use Rattle.compare_files.specs.Files.{comparedFiles}
+use Rattle.compare_files.specs.Claims.{SaidOfFiles}
+use Rattle.compare_files.proofs.Kept.{said-of-files}
+use Rattle.compare_files.proofs.lighter_files.Statement.{statement}
+use Rattle.compare_files.proofs.lighter_files.Tie as tie
+
+as-said : (old new : List ℕ) (r : Compared) → r ≡ comparedFiles old new → SaidOfFiles old new r
+as-said old new r e = rw e (said-of-files old new)
+
+-- the answer to two readings
+abbrev of : ReadPlan → ReadPlan → Compared
+of a b = comparedAs (a .answer) (b .answer) (changes (planOf (a .sheet)) (planOf (b .sheet)))
+
+read-requires : tie.Need-read-requires
+read-requires c κs = search needs
+
+read-requires-2 : tie.Need-read-requires-2
+read-requires-2 c κs = search needs
+
+outcome-requires : tie.Need-outcome-requires
+outcome-requires c κs = search needs
+
+returns : tie.Need-returns
+unfolding comparedFiles
+returns c =
+    let t = c .before .before .before in
+    as-said _ _ _ (c .outcome .ensures ∙ ap₂ of (t .before .read .ensures) (t .read2 .ensures))
+
+pub lighter-files-spec : {M : Type 1} → statement M
+lighter-files-spec = tie.close (tie.spec read-requires read-requires-2 outcome-requires returns)

@@ -1,0 +1,176 @@
+-- None of the 16 conditions of the lighter plan is idle: a table with two plans for each, `old` and `new`, that break this condition alone,
+-- and a stream loses its promise. Proved in proofs/Needed.antt.
+use mathlib.Core.Path.{_≡_}
+use mathlib.Core.Bool.{Bool, true, false, not}
+use mathlib.Core.List.{List, [], _∷_}
+use Prim.Native.Nat.{ℕ, _+_, _*_, _<_}
+use lib.Dec.{leb}
+use lib.ListN.{length, getD}
+use Rattle.laws.specs.declared.Found.{Found}
+use Rattle.laws.specs.declared.Found.the-variants.{At, Nothing}
+use Rattle.laws.specs.Lists.{every}
+use Rattle.repeats.specs.Rows.{some}
+use Rattle.plan.specs.declared.Timing.{Timing}
+use Rattle.plan.specs.declared.Stream.{Stream}
+use Rattle.plan.specs.Plan.{Plan}
+use Rattle.promise.specs.Lighter.{at, Namesakes, Lighter, NotRefused, Kept}
+use Rattle.compare.specs.Changes.{rowOf, overtakes, atMost}
+
+-- ---- the conditions
+
+-- every stream of the second plan, beside the row of its label in the first, passes a test
+abbrev eachBeside : (Stream → Found → Bool) → Plan → Plan → Bool
+eachBeside t old new = every (length (new .streams)) (λ k. t (at new k) (rowOf old (at new k .label)))
+
+-- the label stands in the first plan
+abbrev stands : Stream → Found → Bool
+stands s (At r) = true
+stands s Nothing = false
+
+-- if it does, the stream under it there, a, and this one, b, pass a test
+abbrev holds : (Stream → Stream → Bool) → Plan → Stream → Found → Bool
+holds t old s (At r) = t (at old r) s
+holds t old s Nothing = true
+
+unfoldable pub conditions : Plan → Plan → List Bool
+conditions old new =
+    -- 0 to 8: no constant is greater
+    leb (new .timing .f) (old .timing .f)
+    ∷ leb (new .timing .e) (old .timing .e)
+    ∷ leb (new .timing .tfcs) (old .timing .tfcs)
+    ∷ leb (new .timing .swx) (old .timing .swx)
+    ∷ leb (new .timing .h) (old .timing .h)
+    ∷ leb (new .timing .g) (old .timing .g)
+    ∷ leb (new .timing .etg) (old .timing .etg)
+    ∷ leb (new .timing .lag) (old .timing .lag)
+    ∷ leb (new .timing .nb) (old .timing .nb)
+    -- 9: each label stands in the first plan
+    ∷ eachBeside stands old new
+    -- 10 to 13, where it does: the period is no shorter, jitter and payload no longer, the deadline no shorter
+    ∷ eachBeside (holds (λ a b. leb (a .period) (b .period)) old) old new
+    ∷ eachBeside (holds (λ a b. leb (b .jitter) (a .jitter)) old) old new
+    ∷ eachBeside (holds (λ a b. leb (b .payload) (a .payload)) old) old new
+    ∷ eachBeside (holds (λ a b. leb (a .deadline) (b .deadline)) old) old new
+    -- 14: no row overtakes another
+    ∷ every (length (new .streams)) (λ k. not (some (overtakes old new k) (length (new .streams))))
+    -- 15: each noise source has its own partner
+    ∷ every (length (new .gaps)) (λ k. leb (atMost (getD (new .gaps) k 0) (new .gaps)) (atMost (getD (new .gaps) k 0) (old .gaps)))
+    ∷ []
+
+-- how many there are
+abbrev pub count : ℕ
+count = 16
+
+-- ---- the pairs
+
+pub record Pair : Type 0 where
+  pub old : Plan
+  pub new : Plan
+
+infix 20 _then_
+abbrev _then_ : Plan → Plan → Pair
+old then new = record { old = old; new = new }
+
+-- F, E, TFCS, SWX, H, G, ETG, LAG, NB
+abbrev constants : ℕ → ℕ → ℕ → ℕ → ℕ → ℕ → ℕ → ℕ → ℕ → Timing
+constants f e tfcs swx h g etg lag nb = record { f = f; e = e; tfcs = tfcs; swx = swx; h = h; g = g; etg = etg; lag = lag; nb = nb }
+
+-- document 01's base constants: V = 8 and U = 10, so C'' = C + 18
+abbrev base : Timing
+base = constants 4 1 1 2 1 1 2 1 4
+
+-- a stream with the label g.n and its priority, T, J, C and D
+abbrev stream : ℕ → ℕ → ℕ → ℕ → ℕ → ℕ → ℕ → Stream
+stream g n p t j c d =
+    record {
+      label = record { 0 = g * 65536 + n };
+      priority = record { 0 = p };
+      period = t;
+      jitter = j;
+      payload = c;
+      deadline = d;
+    }
+
+abbrev plan : Timing → List Stream → List ℕ → Plan
+plan t ss ns = record { timing = t; streams = ss; gaps = ns }
+
+-- one stream, 10.1: under the base constants its bound is C'' = 23, its deadline
+abbrev alone : Timing → Plan
+alone t = plan t (stream 10 1 1 100 0 5 23 ∷ []) []
+
+-- two streams under the base constants, 10.1 with T, J and D as given: with T 100 and J 0 the bound of 10.1 is 14 + 23 = 37, and that of 10.10
+-- is 23 + 23 = 46, its deadline
+abbrev two : ℕ → ℕ → ℕ → Plan
+two t j d = plan base (stream 10 1 1 t j 5 d ∷ stream 10 10 2 100 0 5 46 ∷ []) []
+
+-- pair i breaks condition i alone
+abbrev pub table : List Pair
+table =
+    -- F grows from 4 to 5: V grows from 8 to 9, and the bound of 10.1 from 23 to 24, past its deadline of 23
+    (alone base then alone (constants 5 1 1 2 1 1 2 1 4))
+    -- E grows from 1 to 2: the same
+    ∷ (alone base then alone (constants 4 2 1 2 1 1 2 1 4))
+    -- TFCS grows from 1 to 3, past SWX, which is 2: the same
+    ∷ (alone base then alone (constants 4 1 3 2 1 1 2 1 4))
+    -- SWX grows from 2 to 3: the same
+    ∷ (alone base then alone (constants 4 1 1 3 1 1 2 1 4))
+    -- H grows from 1 to 2: V grows from 8 to 9, U from 10 to 13, and the bound of 10.1 from 23 to 27
+    ∷ (alone base then alone (constants 4 1 1 2 2 1 2 1 4))
+    -- G grows from 1 to 2: U grows from 10 to 14, and the bound of 10.1 from 23 to 27
+    ∷ (alone base then alone (constants 4 1 1 2 1 2 2 1 4))
+    -- ETG grows from 2 to 3: U grows from 10 to 11, and the bound of 10.1 from 23 to 24
+    ∷ (alone base then alone (constants 4 1 1 2 1 1 3 1 4))
+    -- LAG grows from 1 to 2: the same
+    ∷ (alone base then alone (constants 4 1 1 2 1 1 2 2 4))
+    -- NB grows from 4 to 5: U grows from 10 to 12, and the bound of 10.1 from 23 to 25
+    ∷ (alone base then alone (constants 4 1 1 2 1 1 2 1 5))
+    -- the label 10.10 is new, and more urgent: the bound of 10.1 grows from 23 to 46, past its deadline of 23
+    ∷ (plan base (stream 10 1 2 100 0 5 23 ∷ []) [] then plan base (stream 10 10 1 100 0 5 60 ∷ stream 10 1 2 100 0 5 23 ∷ []) [])
+    -- T of 10.1 falls from 100 to 30: 10.10 waits for two of its messages, and the bound of 10.10 grows from 46 to 69, past its deadline of 46
+    ∷ (two 100 0 37 then two 30 0 37)
+    -- J of 10.1 grows from 0 to 90: the same
+    ∷ (two 100 0 200 then two 100 90 200)
+    -- C of 10.1 grows from 5 to 6: its bound grows from 23 to 24, past its deadline of 23
+    ∷ (alone base then plan base (stream 10 1 1 100 0 6 23 ∷ []) [])
+    -- D of 10.1 falls from 23 to 22: its bound is still 23
+    ∷ (alone base then plan base (stream 10 1 1 100 0 5 22 ∷ []) [])
+    -- 10.1 and 10.10 swap their priorities: the bound of 10.1 grows from 37 to 46, past its deadline of 37
+    ∷ (two 100 0 37 then plan base (stream 10 1 2 100 0 5 37 ∷ stream 10 10 1 100 0 5 46 ∷ []) [])
+    -- a second noise source would have to share the partner of the first: the bound of 10.1 grows from 46 to 69, past its deadline of 46
+    ∷ (plan base (stream 10 1 1 100 0 5 46 ∷ []) (1000 ∷ []) then plan base (stream 10 1 1 100 0 5 46 ∷ []) (1000 ∷ 1000 ∷ []))
+    ∷ []
+
+abbrev pub pair : ℕ → Pair
+pair i = getD table i (alone base then alone base)
+
+-- ---- the claims
+
+-- condition i does not hold, and all others do
+pub record Broken (i : ℕ) (old new : Plan) : Type 0 where
+  pub fails : getD (conditions old new) i true ≡ false
+  pub others : (j : ℕ) → j < count → (j ≡ i → ⊥) → getD (conditions old new) j false ≡ true
+
+-- a stream of the second plan does not keep what its namesake in the first had
+pub record Lost (old new : Plan) : Type 0 where
+  pub k : ℕ
+  pub among : k < length (new .streams)
+  pub r : ℕ
+  pub among-old : r < length (old .streams)
+  pub label : Namesakes (at new k) (at old r)
+  pub lost : Kept old new k r → ⊥
+
+abbrev pub EachNeeded : Type 0
+EachNeeded =
+    (i : ℕ) → i < count
+    → NotRefused (pair i .old) × NotRefused (pair i .new) × Broken i (pair i .old) (pair i .new) × Lost (pair i .old) (pair i .new)
+
+-- And they can all hold with something eased in each: constants smaller, T and D longer, J and C shorter, a stream fewer, rows in another
+-- order, other priority numbers in the same order, gaps longer, fewer and in another order. The bound of 10.1 falls from 198 to 80, and that
+-- of 11.2 from 252 to 89.
+abbrev pub easier : Pair
+easier =
+    plan (constants 5 2 2 3 2 2 3 2 5) (stream 10 1 7 400 5 6 200 ∷ stream 10 10 13 600 10 7 300 ∷ stream 11 2 20 800 5 3 400 ∷ []) (500 ∷ 900 ∷ 500 ∷ [])
+    then plan base (stream 11 2 5 900 0 2 450 ∷ stream 10 1 2 500 0 5 250 ∷ []) (950 ∷ 600 ∷ [])
+
+abbrev pub NotEmpty : Type 0
+NotEmpty = NotRefused (easier .old) × NotRefused (easier .new) × Lighter (easier .old) (easier .new)
