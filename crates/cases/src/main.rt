@@ -6,38 +6,15 @@ use console::print;
 use console::print_first;
 use console::print_number;
 use libc::STDIN_FILENO;
+use paths::Path;
+use paths::empty;
+use paths::with_byte;
 use text::Put;
-
-// The longest path of a file.
-const PATH: usize = 80;
-
-struct Path {
-    bytes: [u8; PATH],
-    length: usize,
-}
 
 struct Tally {
     path: Path,
     same: u64,
     different: u64,
-}
-
-fn empty() -> Path {
-    Path {
-        bytes: [0; PATH],
-        length: 0,
-    }
-}
-
-// A name that is too long is cut, and so names no file.
-fn with_byte(path: Path, c: u8) -> Path {
-    let mut next = path;
-    let k = next.length;
-    if k < PATH {
-        next.bytes[k] = c;
-        next.length = k + 1;
-    }
-    next
 }
 
 fn plan_of(name: Path) -> Path {

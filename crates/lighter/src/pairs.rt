@@ -1,26 +1,14 @@
 // Pairs of file names in a text, one pair a line: OLD, a space, NEW.
 use crate::files;
-
-// The longest name.
-const NAME: usize = 80;
-
-struct Name {
-    bytes: [u8; NAME],
-    length: usize,
-}
+use paths::Path;
+use paths::empty;
+use paths::with_byte;
 
 // The pair that is being read, and whether its first name is complete.
 struct Pair {
-    old: Name,
-    new: Name,
+    old: Path,
+    new: Path,
     second: bool,
-}
-
-fn empty() -> Name {
-    Name {
-        bytes: [0; NAME],
-        length: 0,
-    }
 }
 
 fn none() -> Pair {
@@ -29,17 +17,6 @@ fn none() -> Pair {
         new: empty(),
         second: false,
     }
-}
-
-// A name that is too long is cut, and so names no file.
-fn with_byte(name: Name, c: u8) -> Name {
-    let mut next = name;
-    let k = next.length;
-    if k < NAME {
-        next.bytes[k] = c;
-        next.length = k + 1;
-    }
-    next
 }
 
 fn first_bytes(old: &[u8], n: usize, new: &[u8], m: usize) {
