@@ -37,7 +37,7 @@ no-reason : (a b : ℕ) (r : Reason) → a ≤ b → unless (leb a b) r ≡ Noth
 no-reason a b r h = unless-true (leb a b) r (le-leb a b h)
 
 -- ---- the constants
-no-greater : (old new : Timing) → constants old new ≡ Nothing → NoGreater old new
+pub no-greater : (old new : Timing) → constants old new ≡ Nothing → NoGreater old new
 unfolding constantsOfV constantsOfU
 no-greater old new d =
     let (v, u) = or-nothing (constantsOfV old new) (constantsOfU old new) d in
@@ -50,14 +50,14 @@ no-greater old new d =
     let (lag, u₄) = passes-then _ _ _ _ u₃ in
     record { f = f; e = e; tfcs = tfcs; swx = passes _ _ _ v₃; h = h; g = g; etg = etg; lag = lag; nb = passes _ _ _ u₄ }
 
-constants-nothing : (old new : Timing) → NoGreater old new → constants old new ≡ Nothing
+pub constants-nothing : (old new : Timing) → NoGreater old new → constants old new ≡ Nothing
 constants-nothing old new n =
     both-nothing (constantsOfV old new) (constantsOfU old new)
     (sym (none-of-v old new (n .f) (n .e) (n .tfcs) (n .swx)))
     (sym (none-of-u old new (n .h) (n .g) (n .etg) (n .lag) (n .nb)))
 
 -- ---- a stream beside the one that it stands in
-eases : (old new : Stream) → eased old new ≡ Nothing → Eased old new
+pub eases : (old new : Stream) → eased old new ≡ Nothing → Eased old new
 unfolding eased
 eases old new e =
     let (period, e₀) = passes-then _ _ _ _ e in
@@ -65,7 +65,7 @@ eases old new e =
     let (payload, e₂) = passes-then _ _ _ _ e₁ in
     record { period = period; deadline = passes _ _ _ e₂; jitter = jitter; payload = payload }
 
-eased-nothing : (old new : Stream) → Eased old new → eased old new ≡ Nothing
+pub eased-nothing : (old new : Stream) → Eased old new → eased old new ≡ Nothing
 eased-nothing old new h = sym (all-eased old new (h .period) (h .jitter) (h .payload) (h .deadline))
 
 -- ---- the row that is under a label
@@ -97,11 +97,11 @@ row-under p a l r h e =
     })
 
 -- ---- all the conditions
-record Unbroken (old new : Plan) : Type 0 where
-  constants : constants (old .timing) (new .timing) ≡ Nothing
-  streams : (k : ℕ) → k < length (new .streams) → stream old (at new k) ≡ Nothing
-  order : (k : ℕ) → k < length (new .streams) → urgency old new k ≡ Nothing
-  gaps : (k : ℕ) → k < length (new .gaps) → noise old new (getD (new .gaps) k 0) ≡ Nothing
+pub record Unbroken (old new : Plan) : Type 0 where
+  pub constants : constants (old .timing) (new .timing) ≡ Nothing
+  pub streams : (k : ℕ) → k < length (new .streams) → stream old (at new k) ≡ Nothing
+  pub order : (k : ℕ) → k < length (new .streams) → urgency old new k ≡ Nothing
+  pub gaps : (k : ℕ) → k < length (new .gaps) → noise old new (getD (new .gaps) k 0) ≡ Nothing
 
 module _ (old new : Plan) where
   abbrev by-constants : Change
@@ -119,7 +119,7 @@ module _ (old new : Plan) where
   abbrev in-gaps : Change
   in-gaps = firstGiven by-gap (length (new .gaps))
 
-  unbroken : changes old new ≡ Nothing → Unbroken old new
+  pub unbroken : changes old new ≡ Nothing → Unbroken old new
   unfolding changes
   unbroken e =
       let (c, e₁) = or-nothing by-constants (in-streams by-stream or in-streams (urgency old new) or in-gaps) e in
@@ -132,7 +132,7 @@ module _ (old new : Plan) where
         gaps = nothing-if-none by-gap (length (new .gaps)) .0 g;
       }
 
-  no-changes : Unbroken old new → changes old new ≡ Nothing
+  pub no-changes : Unbroken old new → changes old new ≡ Nothing
   unfolding changes
   no-changes u =
       both-nothing by-constants (in-streams by-stream or in-streams (urgency old new) or in-gaps) (u .constants)

@@ -1,4 +1,4 @@
--- What is proved of the test; the proofs are in proofs/Exactly.antt.
+-- What is proved of the test; the proofs are in proofs/First.antt, Exactly.antt and Said.antt.
 use mathlib.Core.Path.{_≡_}
 use mathlib.Core.Logic.{_↔_}
 use Prim.Native.Nat.{ℕ, _<_}

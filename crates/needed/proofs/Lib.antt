@@ -1,1 +1,2 @@
 pub mod Needed
+pub mod Rule

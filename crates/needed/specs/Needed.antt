@@ -1,36 +1,38 @@
 -- None of the 16 conditions of the lighter plan is idle: a table with two plans for each, `old` and `new`, that break this condition alone,
--- and a stream loses its promise. Proved in proofs/Needed.antt.
+-- and a stream loses its promise. Proved in proofs/Needed.antt. That the conditions are the rule is proved in proofs/Rule.antt.
 use mathlib.Core.Path.{_≡_}
 use mathlib.Core.Bool.{Bool, true, false, not}
+use mathlib.Core.Logic.{_↔_}
 use mathlib.Core.List.{List, [], _∷_}
 use Prim.Native.Nat.{ℕ, _+_, _*_, _<_}
 use lib.Dec.{leb}
 use lib.ListN.{length, getD}
 use Rattle.laws.specs.declared.Found.{Found}
-use Rattle.laws.specs.declared.Found.the-variants.{At, Nothing}
+use Rattle.laws.specs.declared.Found.the-variants.{At as Found·At, Nothing as Found·Nothing}
 use Rattle.laws.specs.Lists.{every}
 use Rattle.repeats.specs.Rows.{some}
 use Rattle.plan.specs.declared.Timing.{Timing}
 use Rattle.plan.specs.declared.Stream.{Stream}
 use Rattle.plan.specs.Plan.{Plan}
 use Rattle.promise.specs.Lighter.{at, Namesakes, Lighter, NotRefused, Kept}
-use Rattle.compare.specs.Changes.{rowOf, overtakes, atMost}
+use Rattle.compare.specs.declared.Change.the-variants.{Nothing}
+use Rattle.compare.specs.Changes.{rowOf, overtakes, atMost, changes}
 
 -- ---- the conditions
 
 -- every stream of the second plan, beside the row of its label in the first, passes a test
-abbrev eachBeside : (Stream → Found → Bool) → Plan → Plan → Bool
+abbrev pub eachBeside : (Stream → Found → Bool) → Plan → Plan → Bool
 eachBeside t old new = every (length (new .streams)) (λ k. t (at new k) (rowOf old (at new k .label)))
 
 -- the label stands in the first plan
-abbrev stands : Stream → Found → Bool
-stands s (At r) = true
-stands s Nothing = false
+abbrev pub stands : Stream → Found → Bool
+stands s (Found·At r) = true
+stands s Found·Nothing = false
 
 -- if it does, the stream under it there, a, and this one, b, pass a test
-abbrev holds : (Stream → Stream → Bool) → Plan → Stream → Found → Bool
-holds t old s (At r) = t (at old r) s
-holds t old s Nothing = true
+abbrev pub holds : (Stream → Stream → Bool) → Plan → Stream → Found → Bool
+holds t old s (Found·At r) = t (at old r) s
+holds t old s Found·Nothing = true
 
 unfoldable pub conditions : Plan → Plan → List Bool
 conditions old new =
@@ -144,6 +146,10 @@ abbrev pub pair : ℕ → Pair
 pair i = getD table i (alone base then alone base)
 
 -- ---- the claims
+
+-- the 16 conditions are the rule: all hold exactly if the test of two plans finds no change
+abbrev pub AllHoldExactly : Type 0
+AllHoldExactly = (old new : Plan) → ((j : ℕ) → j < count → getD (conditions old new) j false ≡ true) ↔ (changes old new ≡ Nothing)
 
 -- condition i does not hold, and all others do
 pub record Broken (i : ℕ) (old new : Plan) : Type 0 where
