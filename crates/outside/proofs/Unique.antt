@@ -1,0 +1,25 @@
+-- The contracts determine the outcomes: each equates the result, and what lent memory ends with, with one value. Assumes nothing.
+use mathlib.Core.Path.{refl, sym, ap, _∙_}
+use mathlib.Core.List.{List}
+use Prim.Native.Nat.{ℕ}
+use Rattle.laws.specs.Determined.{OneOutcome}
+use Rattle.outside.proofs.livnakesh_answers.Kinds as answers-kinds
+use Rattle.outside.proofs.livnakesh_answers.Reads as answers
+use Rattle.outside.proofs.livnakesh_rewrite.Kinds as rewrite-kinds
+use Rattle.outside.proofs.livnakesh_rewrite.Reads as rewrite
+use Rattle.outside.proofs.livnakesh_parting.Kinds as parting-kinds
+use Rattle.outside.proofs.livnakesh_parting.Reads as parting
+use Rattle.outside.proofs.livnakesh_lighter.Kinds as lighter-kinds
+use Rattle.outside.proofs.livnakesh_lighter.Reads as lighter
+
+pub livnakesh-answers-one : OneOutcome 2 answers-kinds.ps answers-kinds.r answers.Post
+livnakesh-answers-one κs a x y ws us p q = (p .0 ∙ sym (q .0), ap (λ (l : List ℕ). (tt, (l, tt))) (p .1 ∙ sym (q .1)))
+
+pub livnakesh-rewrite-one : OneOutcome 2 rewrite-kinds.ps rewrite-kinds.r rewrite.Post
+livnakesh-rewrite-one κs a x y ws us p q = (p .0 ∙ sym (q .0), ap (λ (l : List ℕ). (tt, (l, tt))) (p .1 ∙ sym (q .1)))
+
+pub livnakesh-parting-one : OneOutcome 0 parting-kinds.ps parting-kinds.r parting.Post
+livnakesh-parting-one κs a x y ws us p q = (p ∙ sym q, refl)
+
+pub livnakesh-lighter-one : OneOutcome 2 lighter-kinds.ps lighter-kinds.r lighter.Post
+livnakesh-lighter-one κs a x y ws us p q = (p ∙ sym q, refl)

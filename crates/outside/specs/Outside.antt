@@ -1,0 +1,78 @@
+-- What is handed to a caller in another language: numbers, with 0 for "not refused" and document 01's numbers else.
+use mathlib.Core.List.{List}
+use Prim.Native.Nat.{ℕ}
+use Rattle.names.specs.declared.Label.{Label}
+use Rattle.names.specs.declared.Refusal.{Refusal}
+use Rattle.checks.specs.declared.Checked.{Checked}
+use Rattle.checks.specs.declared.Checked.the-variants.{Fine, Refused}
+use Rattle.file.specs.declared.Written.{Written}
+use Rattle.file.specs.declared.Written.the-variants.{Bytes, Refused as Written·Refused}
+use Rattle.file.specs.File.{readOf, writeOf}
+use Rattle.plan.specs.declared.Sheet.{Sheet}
+use Rattle.compare.specs.declared.Reason.{Reason}
+use Rattle.compare.specs.declared.Reason.the-variants.{GreaterConstant, NewLabel, ShorterPeriod, LongerJitter, LongerPayload, ShorterDeadline, LessUrgent, MoreNoise}
+use Rattle.compare.specs.declared.Compared.{Compared}
+use Rattle.compare.specs.declared.Compared.the-variants.{FirstRefused, SecondRefused, Lighter, RunAgain}
+use Rattle.tournament.specs.declared.Parting.{Parting}
+use Rattle.tournament.specs.declared.Parting.the-variants.{At, Refused as Parting·Refused}
+use Rattle.outside.specs.declared.Said.{Said}
+use Rattle.outside.specs.declared.Weighed.{Weighed}
+
+-- a refusal, by its number and its place
+abbrev pub refused : Refusal → Said
+refused r = record { refusal = r .number; value = r .place }
+
+-- what was asked for
+abbrev pub done : ℕ → Said
+done v = record { refusal = 0; value = v }
+
+abbrev pub checked : Checked → Said
+checked Fine = done 0
+checked (Refused r) = refused r
+
+-- how many bytes were written
+abbrev pub written : Written → Said
+written (Bytes n) = done n
+written (Written·Refused r) = refused r
+
+-- the bit
+abbrev pub parting : Parting → Said
+parting (At k) = done k
+parting (Parting·Refused r) = refused r
+
+-- the plan in a file, written again: a refused file is refused, and the lent bytes are as they were
+abbrev pub rewritten : Checked → Sheet → List ℕ → Written × List ℕ
+rewritten Fine s buf = writeOf s buf
+rewritten (Refused r) s buf = (Written·Refused r, buf)
+
+unfoldable pub rewriteOf : List ℕ → List ℕ → Written × List ℕ
+rewriteOf bytes buf = rewritten (readOf bytes .answer) (readOf bytes .sheet) buf
+
+-- the conditions of the lighter plan, numbered from 1 in the order in which they are looked at
+abbrev pub condition : Reason → ℕ
+condition (GreaterConstant k) = 1
+condition (NewLabel l) = 2
+condition (ShorterPeriod l) = 3
+condition (LongerJitter l) = 4
+condition (LongerPayload l) = 5
+condition (ShorterDeadline l) = 6
+condition (LessUrgent l) = 7
+condition (MoreNoise x) = 8
+
+-- and what breaks it: the constant from 0 in file order, the label, or the gap
+abbrev pub breaker : Reason → ℕ
+breaker (GreaterConstant k) = k
+breaker (NewLabel l) = l .0
+breaker (ShorterPeriod l) = l .0
+breaker (LongerJitter l) = l .0
+breaker (LongerPayload l) = l .0
+breaker (ShorterDeadline l) = l .0
+breaker (LessUrgent l) = l .0
+breaker (MoreNoise x) = x
+
+-- 0 lighter, 1 the first plan is refused, 2 the second is, 3 run again
+abbrev pub weighed : Compared → Weighed
+weighed Lighter = record { answer = 0; number = 0; value = 0 }
+weighed (FirstRefused r) = record { answer = 1; number = r .number; value = r .place }
+weighed (SecondRefused r) = record { answer = 2; number = r .number; value = r .place }
+weighed (RunAgain r) = record { answer = 3; number = condition r; value = breaker r }
