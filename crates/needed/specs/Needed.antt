@@ -4,7 +4,7 @@ use mathlib.Core.Path.{_≡_}
 use mathlib.Core.Bool.{Bool, true, false, not}
 use mathlib.Core.Logic.{_↔_}
 use mathlib.Core.List.{List, [], _∷_}
-use Prim.Native.Nat.{ℕ, _+_, _*_, _<_}
+use Prim.Native.Nat.{ℕ, _<_}
 use lib.Dec.{leb}
 use lib.ListN.{length, getD}
 use Rattle.laws.specs.declared.Found.{Found}
@@ -17,6 +17,7 @@ use Rattle.plan.specs.Plan.{Plan}
 use Rattle.promise.specs.Lighter.{at, Namesakes, Lighter, NotRefused, Kept}
 use Rattle.compare.specs.declared.Change.the-variants.{Nothing}
 use Rattle.compare.specs.Changes.{rowOf, overtakes, atMost, changes}
+use Rattle.figures.specs.Plans.{constants, stream, plan, base}
 
 -- ---- the conditions
 
@@ -72,29 +73,6 @@ pub record Pair : Type 0 where
 infix 20 _then_
 abbrev _then_ : Plan → Plan → Pair
 old then new = record { old = old; new = new }
-
--- F, E, TFCS, SWX, H, G, ETG, LAG, NB
-abbrev constants : ℕ → ℕ → ℕ → ℕ → ℕ → ℕ → ℕ → ℕ → ℕ → Timing
-constants f e tfcs swx h g etg lag nb = record { f = f; e = e; tfcs = tfcs; swx = swx; h = h; g = g; etg = etg; lag = lag; nb = nb }
-
--- document 01's base constants: V = 8 and U = 10, so C'' = C + 18
-abbrev base : Timing
-base = constants 4 1 1 2 1 1 2 1 4
-
--- a stream with the label g.n and its priority, T, J, C and D
-abbrev stream : ℕ → ℕ → ℕ → ℕ → ℕ → ℕ → ℕ → Stream
-stream g n p t j c d =
-    record {
-      label = record { 0 = g * 65536 + n };
-      priority = record { 0 = p };
-      period = t;
-      jitter = j;
-      payload = c;
-      deadline = d;
-    }
-
-abbrev plan : Timing → List Stream → List ℕ → Plan
-plan t ss ns = record { timing = t; streams = ss; gaps = ns }
 
 -- one stream, 10.1: under the base constants its bound is C'' = 23, its deadline
 abbrev alone : Timing → Plan

@@ -1,5 +1,4 @@
 pub mod Laying
 pub mod Rows
 pub mod Size
-pub mod Example
 pub mod Unique

@@ -2,5 +2,4 @@ pub mod Words
 pub mod Listing
 pub mod Put
 pub mod Claims
-pub mod Example
 pub mod Private

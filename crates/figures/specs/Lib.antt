@@ -1,0 +1,3 @@
+pub mod Plans
+pub mod Load
+pub mod Figures

@@ -1,0 +1,90 @@
+-- Document 01, "Plans to run": the base constants and P1 to P12. What the document leaves open is chosen here, and the comment says so.
+use mathlib.Core.List.{List, [], _∷_, _++_}
+use Prim.Native.Nat.{ℕ, _+_, _-_, _*_}
+use lib.ListN.{take, replicate}
+use Rattle.names.specs.declared.Priority.{Priority}
+use Rattle.names.specs.Limits.{contenders}
+use Rattle.plan.specs.declared.Timing.{Timing}
+use Rattle.plan.specs.declared.Stream.{Stream}
+use Rattle.plan.specs.Plan.{Plan}
+use Rattle.file.specs.File.{fileOf}
+use Rattle.tournament_state.specs.Refusals.{none}
+
+-- F, E, TFCS, SWX, H, G, ETG, LAG, NB
+abbrev pub constants : ℕ → ℕ → ℕ → ℕ → ℕ → ℕ → ℕ → ℕ → ℕ → Timing
+constants f e tfcs swx h g etg lag nb = record { f = f; e = e; tfcs = tfcs; swx = swx; h = h; g = g; etg = etg; lag = lag; nb = nb }
+
+-- a stream with the label g.n and its priority, T, J, C and D
+abbrev pub stream : ℕ → ℕ → ℕ → ℕ → ℕ → ℕ → ℕ → Stream
+stream g n p t j c d =
+    record {
+      label = record { 0 = g * 65536 + n };
+      priority = record { 0 = p };
+      period = t;
+      jitter = j;
+      payload = c;
+      deadline = d;
+    }
+
+abbrev pub plan : Timing → List Stream → List ℕ → Plan
+plan t ss ns = record { timing = t; streams = ss; gaps = ns }
+
+-- the base constants: F 4, E 1, TFCS 1, SWX 2, H 1, G 1, ETG 2, LAG 1, NB 4
+abbrev pub base : Timing
+base = constants 4 1 1 2 1 1 2 1 4
+
+-- P1: labels 10.1, 10.10, 11.2; priorities 1, 2, 3; T 100, 150, 400; J 0, 10, 0; C 5, 7, 2; D 60, 120, 200
+abbrev pub P1 : Plan
+P1 = plan base (stream 10 1 1 100 0 5 60 ∷ stream 10 10 2 150 10 7 120 ∷ stream 11 2 3 400 0 2 200 ∷ []) []
+
+-- P2: P1 with one source, N = 1,000
+abbrev pub P2 : Plan
+P2 = plan base (P1 .streams) (1000 ∷ [])
+
+-- P3 to P6: one stream, C 5, with T and J; its label 10.1, priority 1 and deadline 1,000 are chosen
+abbrev alone : ℕ → ℕ → Plan
+alone t j = plan base (stream 10 1 1 t j 5 1000 ∷ []) []
+
+-- P3: T 23, J 0
+abbrev pub P3 : Plan
+P3 = alone 23 0
+
+-- P4: T 22
+abbrev pub P4 : Plan
+P4 = alone 22 0
+
+-- P5: T 23, J 23
+abbrev pub P5 : Plan
+P5 = alone 23 23
+
+-- P6: T 30, J 30
+abbrev pub P6 : Plan
+P6 = alone 30 30
+
+-- P7: F to LAG all 0; three streams, C 10, T 25, 35, 35, J 0; NB 4, the labels 10.1, 10.2, 10.3, the priorities 1, 2, 3 and the deadlines
+-- of 1,000 are chosen
+abbrev pub P7 : Plan
+P7 = plan (constants 0 0 0 0 0 0 0 0 4) (stream 10 1 1 25 0 10 1000 ∷ stream 10 2 2 35 0 10 1000 ∷ stream 10 3 3 35 0 10 1000 ∷ []) []
+
+-- P8: P1 with both first priorities 1
+abbrev pub P8 : Plan
+P8 = plan base (stream 10 1 1 100 0 5 60 ∷ stream 10 10 1 150 10 7 120 ∷ stream 11 2 3 400 0 2 200 ∷ []) []
+
+-- P9: and labels equal too
+abbrev pub P9 : Plan
+P9 = plan base (stream 10 1 1 100 0 5 60 ∷ stream 10 1 1 150 10 7 120 ∷ stream 11 2 3 400 0 2 200 ∷ []) []
+
+-- P10: 43 bytes; the first of P1's file are chosen
+abbrev pub P10 : List ℕ
+P10 = take 43 (fileOf P1)
+
+-- P11: P1 with C of row 0 at 0
+abbrev pub P11 : Plan
+P11 = plan base (stream 10 1 1 100 0 0 60 ∷ stream 10 10 2 150 10 7 120 ∷ stream 11 2 3 400 0 2 200 ∷ []) []
+
+-- P12: contenders 5, 3, 6 in 4 bits, in the first of the 128 places that a start is lent; the others are 0
+abbrev priority : ℕ → Priority
+priority p = record { 0 = p }
+
+abbrev pub P12 : List Priority
+P12 = (priority 5 ∷ priority 3 ∷ priority 6 ∷ []) ++ replicate (contenders - 3) none
