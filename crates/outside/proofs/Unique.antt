@@ -11,6 +11,10 @@ use Rattle.outside.proofs.livnakesh_parting.Kinds as parting-kinds
 use Rattle.outside.proofs.livnakesh_parting.Reads as parting
 use Rattle.outside.proofs.livnakesh_lighter.Kinds as lighter-kinds
 use Rattle.outside.proofs.livnakesh_lighter.Reads as lighter
+use Rattle.outside.proofs.livnakesh_start.Kinds as start-kinds
+use Rattle.outside.proofs.livnakesh_start.Reads as start
+use Rattle.outside.proofs.livnakesh_step.Kinds as step-kinds
+use Rattle.outside.proofs.livnakesh_step.Reads as step
 
 pub livnakesh-answers-one : OneOutcome 2 answers-kinds.ps answers-kinds.r answers.Post
 livnakesh-answers-one κs a x y ws us p q = (p .0 ∙ sym (q .0), ap (λ (l : List ℕ). (tt, (l, tt))) (p .1 ∙ sym (q .1)))
@@ -23,3 +27,9 @@ livnakesh-parting-one κs a x y ws us p q = (p ∙ sym q, refl)
 
 pub livnakesh-lighter-one : OneOutcome 2 lighter-kinds.ps lighter-kinds.r lighter.Post
 livnakesh-lighter-one κs a x y ws us p q = (p ∙ sym q, refl)
+
+pub livnakesh-start-one : OneOutcome 2 start-kinds.ps start-kinds.r start.Post
+livnakesh-start-one κs a x y ws us p q = (p .0 ∙ sym (q .0), ap (λ (l : List ℕ). (tt, (tt, (tt, (l, tt))))) (p .1 ∙ sym (q .1)))
+
+pub livnakesh-step-one : OneOutcome 2 step-kinds.ps step-kinds.r step.Post
+livnakesh-step-one κs a x y ws us p q = (p .0 ∙ sym (q .0), ap (λ (l : List ℕ). (tt, (tt, (tt, (tt, (tt, (l, tt))))))) (p .1 ∙ sym (q .1)))

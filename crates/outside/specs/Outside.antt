@@ -1,4 +1,5 @@
 -- What is handed to a caller in another language: numbers, with 0 for "not refused" and document 01's numbers else.
+use mathlib.Core.Bool.{Bool}
 use mathlib.Core.List.{List}
 use Prim.Native.Nat.{ℕ}
 use Rattle.names.specs.declared.Label.{Label}
@@ -15,7 +16,14 @@ use Rattle.compare.specs.declared.Compared.{Compared}
 use Rattle.compare.specs.declared.Compared.the-variants.{FirstRefused, SecondRefused, Lighter, RunAgain}
 use Rattle.tournament.specs.declared.Parting.{Parting}
 use Rattle.tournament.specs.declared.Parting.the-variants.{At, Refused as Parting·Refused}
+use Rattle.tournament.specs.declared.Outcome.{Outcome}
+use Rattle.tournament_state.specs.declared.Phase.{Phase}
+use Rattle.tournament_state.specs.declared.Phase.the-variants.{AtBit, Finished, NoWinner}
+use Rattle.tournament_state.specs.declared.Answer.{Answer}
+use Rattle.tournament_state.specs.declared.Answer.the-variants.{Done, Refused as Answer·Refused}
+use Rattle.states.specs.States.{marksInto}
 use Rattle.outside.specs.declared.Said.{Said}
+use Rattle.outside.specs.declared.Stepped.{Stepped}
 use Rattle.outside.specs.declared.Weighed.{Weighed}
 
 -- a refusal, by its number and its place
@@ -76,3 +84,31 @@ weighed Lighter = record { answer = 0; number = 0; value = 0 }
 weighed (FirstRefused r) = record { answer = 1; number = r .number; value = r .place }
 weighed (SecondRefused r) = record { answer = 2; number = r .number; value = r .place }
 weighed (RunAgain r) = record { answer = 3; number = condition r; value = breaker r }
+
+-- the phase, 0 at a bit, 1 finished, 2 no winner, ..
+abbrev pub phaseNumber : Phase → ℕ
+phaseNumber (AtBit k) = 0
+phaseNumber (Finished row) = 1
+phaseNumber NoWinner = 2
+
+-- .. and what goes with it: the bit's number, the winner's row, or 0
+abbrev pub phaseAt : Phase → ℕ
+phaseAt (AtBit k) = k
+phaseAt (Finished row) = row .0
+phaseAt NoWinner = 0
+
+-- a start or a step: the refusal, and the phase of the state that is handed back
+abbrev pub stepped : Answer → Phase → Stepped
+stepped Done phase = record { refusal = 0; place = 0; phase = phaseNumber phase; at = phaseAt phase }
+stepped (Answer·Refused r) phase = record { refusal = r .number; place = r .place; phase = phaseNumber phase; at = phaseAt phase }
+
+-- the lent marks after it: those of the state, or as they were
+abbrev pub marksUnless : Answer → List Bool → List ℕ → List ℕ
+marksUnless Done marks found = marksInto marks found
+marksUnless (Answer·Refused r) marks found = found
+
+abbrev pub steppedBy : Outcome → Stepped
+steppedBy o = stepped (o .answer) (o .tournament .phase)
+
+abbrev pub marksBy : Outcome → List ℕ → List ℕ
+marksBy o found = marksUnless (o .answer) (o .tournament .marks) found

@@ -5,7 +5,8 @@
 ghost use mathlib.Core.Path.{_≡_};
 ghost use Rattle.answers.specs.Words.{answerFileOf};
 ghost use Rattle.compare_files.specs.Files.{comparedFiles};
-ghost use Rattle.tournament.specs.Answers.{partingOf};
+ghost use Rattle.tournament.specs.Answers.{partingOf, startOf, stepOf};
+ghost use Rattle.states.specs.States.{prioritiesFrom, stateFrom};
 ghost use Rattle.outside.specs.Outside as number;
 use answers::answer_file;
 use checks::Checked;
@@ -17,8 +18,16 @@ use names::Label;
 use names::Priority;
 use names::Refusal;
 use reader::read;
+use states::marks_into;
+use states::priorities_from;
+use states::state_from;
+use tournament::Outcome;
 use tournament::Parting;
 use tournament::parting_bit;
+use tournament::start;
+use tournament::step;
+use tournament_state::Answer;
+use tournament_state::Phase;
 use writer::write;
 
 // 0 and what was asked for, or the number of a refusal and its place.
@@ -34,6 +43,16 @@ pub struct Weighed {
     pub answer: u64,
     pub number: u64,
     pub value: u64,
+}
+
+// A tournament after a call: the refusal and its place, or 0 and 0; then the phase of the state that is handed back, 0 at a bit (with its
+// number), 1 finished (with the winner's row), 2 no winner (with 0).
+#[repr(C)]
+pub struct Stepped {
+    pub refusal: u64,
+    pub place: u64,
+    pub phase: u64,
+    pub at: u64,
 }
 
 fn refused(r: Refusal) -> Said
@@ -146,4 +165,78 @@ pub extern "C" fn livnakesh_lighter(old: &[u8], new: &[u8]) -> Weighed
         Compared::SecondRefused(r) => not_weighed(2, r),
         Compared::RunAgain(reason) => again(reason),
     }
+}
+
+fn at_phase(refusal: u64, place: u64, phase: Phase) -> Stepped
+    ensures { λ s. ⌜ s ≡ record { refusal = refusal; place = place; phase = number.phaseNumber phase; at = number.phaseAt phase } ⌝ }
+{
+    match phase {
+        Phase::AtBit(k) => Stepped {
+            refusal,
+            place,
+            phase: 0,
+            at: k as u64,
+        },
+        Phase::Finished(row) => Stepped {
+            refusal,
+            place,
+            phase: 1,
+            at: row.0 as u64,
+        },
+        Phase::NoWinner => Stepped {
+            refusal,
+            place,
+            phase: 2,
+            at: 0,
+        },
+    }
+}
+
+// The state after the call, its marks in the lent bytes; a refused call leaves them as found.
+fn handed_back(outcome: Outcome, marks: &mut [u8]) -> Stepped
+    ensures { λ s. ⌜ (s ≡ number.steppedBy outcome) × (now (marks .exit) ≡ number.marksBy outcome (now (marks .entry))) ⌝ }
+{
+    let answer = outcome.answer;
+    let tournament = outcome.tournament;
+    let left = tournament.marks;
+    let phase = tournament.phase;
+    match answer {
+        Answer::Done => {
+            marks_into(left, marks);
+            at_phase(0, 0, phase)
+        }
+        Answer::Refused(r) => at_phase(r.number as u64, r.place as u64, phase),
+    }
+}
+
+// The start of a tournament: what stood in the lent marks is not looked at.
+#[no_mangle]
+pub extern "C" fn livnakesh_start(
+    bits: u32,
+    count: usize,
+    priorities: &[u32],
+    marks: &mut [u8],
+) -> Stepped
+    ensures { λ s. ⌜ s ≡ number.steppedBy (startOf bits count (prioritiesFrom (now (priorities .entry)))) ⌝ }
+    ensures { λ _. ⌜ now (marks .exit) ≡ number.marksBy (startOf bits count (prioritiesFrom (now (priorities .entry)))) (now (marks .entry)) ⌝ }
+{
+    let places = priorities_from(priorities);
+    handed_back(start(bits, count, places), marks)
+}
+
+// One step of the tournament that is lent: its marks are copied out before they are written over.
+#[no_mangle]
+pub extern "C" fn livnakesh_step(
+    bits: u32,
+    count: usize,
+    phase: u32,
+    at: u32,
+    priorities: &[u32],
+    marks: &mut [u8],
+) -> Stepped
+    ensures { λ s. ⌜ s ≡ number.steppedBy (stepOf (stateFrom bits count phase at (now (priorities .entry)) (now (marks .entry)))) ⌝ }
+    ensures { λ _. ⌜ now (marks .exit) ≡ number.marksBy (stepOf (stateFrom bits count phase at (now (priorities .entry)) (now (marks .entry)))) (now (marks .entry)) ⌝ }
+{
+    let t = state_from(bits, count, phase, at, priorities, &marks[..]);
+    handed_back(step(t), marks)
 }

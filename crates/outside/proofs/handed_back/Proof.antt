@@ -1,0 +1,59 @@
+-- The marks go into the lent bytes where the call was not refused. Assumes nothing.
+use mathlib.Core.Path.{sym, ap, _∙_}
+use borrow.Author.Needs.{needs}
+use denote.Ref.{now}
+use Rattle.outside.specs.Outside.{stepped, marksUnless}
+use Rattle.outside.proofs.handed_back.Statement.{statement}
+use Rattle.outside.proofs.handed_back.Tie as tie
+
+enum-told : tie.Need-enum-told
+enum-told c = search needs
+
+marks-into-requires : tie.Need-marks-into-requires
+marks-into-requires c κs = search needs
+
+at-phase-requires : tie.Need-at-phase-requires
+at-phase-requires c κs = search needs
+
+enum-known-answer : tie.Need-enum-known-answer
+enum-known-answer c = search needs
+
+cast-at-phase : tie.Need-cast-at-phase
+cast-at-phase c = search needs
+
+at-phase-requires-2 : tie.Need-at-phase-requires-2
+at-phase-requires-2 c κs = search needs
+
+same-length : tie.Need-same-length
+same-length c = search needs
+
+returns : tie.Need-returns
+returns c =
+    let m = c .before .before .before in
+    let t = m .before .before in
+    let a = t .before .before .before .before .before .args in
+    let o = a .outcome in
+    let e = sym (t .enum-told .given .1) in
+    (c .at-phase .ensures ∙ ap (λ k. stepped k (o .tournament .phase)) e, m .marks-into .ensures ∙ ap (λ k. marksUnless k (o .tournament .marks) (now (a .marks))) e)
+
+returns-2 : tie.Need-returns-2
+returns-2 c =
+    let t = c .before .before .before in
+    let a = t .before .before .before .before .before .args in
+    let o = a .outcome in
+    let e = sym (t .answer .given .1) in
+    (c .at-phase2 .ensures ∙ ap (λ k. stepped k (o .tournament .phase)) e, ap (λ k. marksUnless k (o .tournament .marks) (now (a .marks))) e)
+
+pub handed-back-spec : {M : Type 1} → statement M
+handed-back-spec =
+    tie.close
+    (tie.spec
+    enum-told
+    marks-into-requires
+    at-phase-requires
+    enum-known-answer
+    cast-at-phase
+    at-phase-requires-2
+    same-length
+    returns
+    returns-2)

@@ -1,0 +1,74 @@
+-- After i turns the first i lent bytes have the first i marks, and the others are as found. Assumes nothing.
+use mathlib.Core.Path.{_≡_, refl, _∙_}
+use Prim.Native.Nat.{_-_, _≤_}
+use native.Mathlib.Omega.{arith}
+use borrow.Author.Needs.{needs}
+use lib.ListN.{length, length-set}
+use denote.Ref.{now}
+use Rattle.states.proofs.Placed.{writtenTo, written-more, written-all}
+use Rattle.states.proofs.marks_into.Statement.{statement}
+use Rattle.states.proofs.marks_into.Tie as tie
+
+abbrev Inv-loop : tie.InvT-loop
+Inv-loop out₀ marks n i₀ out i = (i ≤ n) × (out ≡ writtenTo marks out₀ i) × (length out ≡ length out₀)
+
+abbrev μ-loop : tie.MeasureT-loop
+μ-loop out₀ marks n i₀ out i = n - i
+
+smaller-requires : tie.Need-smaller-requires Inv-loop μ-loop
+smaller-requires c κs = search needs
+
+loop-holds : tie.Need-loop-holds Inv-loop μ-loop
+loop-holds c = (omega arith, refl, refl)
+
+array-read-byte : tie.Need-array-read-byte Inv-loop μ-loop
+array-read-byte c = search needs
+
+byte-requires : tie.Need-byte-requires Inv-loop μ-loop
+byte-requires c κs = search needs
+
+slice-write-out : tie.Need-slice-write-out Inv-loop μ-loop
+slice-write-out c = search needs
+
+add-i : tie.Need-add-i Inv-loop μ-loop
+add-i c = search needs
+
+loop-less : tie.Need-loop-less Inv-loop μ-loop
+loop-less c = search needs
+
+loop-again : tie.Need-loop-again Inv-loop μ-loop
+loop-again c =
+    let l = c .before .before .loop in
+    let a = c .before .before .before in
+    let s = a .before .before .args in (
+      omega arith,
+      written-more (s .t1) (now (s .out)) (l .i) _ (l .out) (search needs) (omega (arith, a .smaller .ensures)) (l .inv .1) (c .byte .ensures),
+      simp length-set (l .inv .2),
+    )
+
+same-length : tie.Need-same-length Inv-loop μ-loop
+same-length c = c .before .loop .inv .2
+
+returns : tie.Need-returns Inv-loop μ-loop
+returns c =
+    let l = c .before .loop in
+    let a = c .before .before in
+    let s = a .before .before .args in
+    l .inv .1 ∙ written-all (s .t1) (now (s .out)) (l .i) (search needs) (omega (arith, a .smaller .ensures))
+
+pub marks-into-spec : {M : Type 1} → statement M
+marks-into-spec =
+    tie.close
+    (tie.spec
+    Inv-loop
+    μ-loop
+    smaller-requires
+    loop-holds
+    array-read-byte
+    byte-requires
+    slice-write-out
+    add-i
+    loop-less
+    loop-again
+    same-length
+    returns)

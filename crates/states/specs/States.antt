@@ -1,0 +1,48 @@
+-- What a caller in another language lends, as a tournament's state, and its marks back as bytes.
+use mathlib.Core.Bool.{Bool, false, not, cond}
+use mathlib.Core.List.{List, _++_, map}
+use Prim.Native.Nat.{ℕ, zero, suc, _-_}
+use lib.Dec.{eqb}
+use lib.ListN.{length, take, drop, replicate}
+use Rattle.names.specs.declared.Priority.{Priority}
+use Rattle.names.specs.Limits.{contenders}
+use Rattle.tournament_state.specs.declared.Phase.{Phase}
+use Rattle.tournament_state.specs.declared.Phase.the-variants.{AtBit, Finished, NoWinner}
+use Rattle.tournament_state.specs.declared.Tournament.{Tournament}
+use Rattle.tournament_state.specs.Refusals.{none}
+
+-- the first 128 that are lent, each as f says, and d in the places that are not lent
+unfoldable pub placed : {A : Type 0} → (ℕ → A) → A → List ℕ → List A
+placed f d xs = map f (take contenders xs) ++ replicate (contenders - length xs) d
+
+abbrev pub priority : ℕ → Priority
+priority p = record { 0 = p }
+
+abbrev pub prioritiesFrom : List ℕ → List Priority
+prioritiesFrom ps = placed priority none ps
+
+-- in if the byte is not 0
+abbrev pub mark : ℕ → Bool
+mark b = not (eqb b 0)
+
+abbrev pub marksFrom : List ℕ → List Bool
+marksFrom bs = placed mark false bs
+
+-- 0 is at a bit, 1 is finished with a winner's row, and all else has no winner
+abbrev pub phaseFrom : ℕ → ℕ → Phase
+phaseFrom zero at = AtBit at
+phaseFrom (suc zero) at = Finished (record { 0 = at })
+phaseFrom (suc (suc k)) at = NoWinner
+
+-- the bits and the count are as given: a state that is wrong is refused later
+unfoldable pub stateFrom : ℕ → ℕ → ℕ → ℕ → List ℕ → List ℕ → Tournament
+stateFrom NB n phase at ps bs =
+    record { bits = NB; count = n; priorities = prioritiesFrom ps; marks = marksFrom bs; phase = phaseFrom phase at }
+
+-- a mark as a byte
+abbrev pub byte : Bool → ℕ
+byte b = cond b 1 0
+
+-- as many marks as there are lent bytes; the bytes after the 128th are as found
+unfoldable pub marksInto : List Bool → List ℕ → List ℕ
+marksInto marks out = map byte (take (length out) marks) ++ drop contenders out
