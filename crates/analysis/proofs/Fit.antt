@@ -11,6 +11,7 @@ use Rattle.names.specs.Limits.{streams, sources, ticks}
 use Rattle.laws.specs.Lists.{ceil, sumOf, sumTo, rows}
 use Rattle.laws.proofs.Round.{ceil-le}
 use Rattle.laws.proofs.Lists.{sum-rows, sumTo-at-most, every-each, every-all}
+use Rattle.laws.proofs.Tests.{both}
 use Rattle.bound.specs.Terms as Terms
 use Rattle.bound.specs.Bound.{E, demand, sideL}
 use Rattle.bound.specs.Claims.{Sound}
@@ -47,10 +48,6 @@ unfolding sideL
 sideL-parts g x = omega (arith, demand-own (termsOf g .own) (termsOf g .urgent) x)
 
 -- ---- the test of the limits, taken apart
-both : (a b : Bool) → (a && b) ≡ true → (a ≡ true) × (b ≡ true)
-both true b e = (refl, e)
-both false b e = absurd (subst T (sym e) tt)
-
 share-known : (j : Terms.Share) → shareFits j ≡ true → Share (j .C″) (j .T) (j .J)
 share-known j e =
     let (e3, d) = both _ _ e in

@@ -9,6 +9,7 @@ use lib.Dec.{leb, eqb}
 use lib.ListN.{length}
 use Rattle.names.specs.Limits.{streams, sources}
 use Rattle.laws.specs.declared.Found.the-variants.{Nothing}
+use Rattle.laws.proofs.Tests.{apart}
 use Rattle.repeats.specs.declared.Repeat.{Repeat}
 use Rattle.repeats.specs.declared.Repeat.the-variants.{At as Repeat·At, Nothing as Repeat·Nothing}
 use Rattle.repeats.proofs.Repeats.{nothing-if-distinct}
@@ -20,7 +21,7 @@ use Rattle.fields.proofs.Limits.{inside-if-fields-within}
 use Rattle.checks.specs.declared.Checked.the-variants.{Fine}
 use Rattle.checks.specs.Checks.{judge, unless, rowIn, counted, lines, checkedOf}
 use Rattle.checks.specs.Claims.{Right, FineIfRight, FineWithin}
-use Rattle.checks.proofs.Judge.{apart, not-given, right-counts, no-line}
+use Rattle.checks.proofs.Judge.{not-given, right-counts, no-line}
 
 -- ---- a line that is not given
 pub unless-not : (t : Bool) → unless t ≡ Nothing → t ≡ true

@@ -34,9 +34,6 @@ pub nothing-given : judge [] ≡ Fine
 unfolding judge
 nothing-given = refl
 
-pub apart : {p : ℕ} → At p ≡ Nothing → ⊥
-apart e = let z : _≡_ {A = ℕ} 0 1 = cc in omega arith
-
 refused-not-fine : {r : Refusal} → Refused r ≡ Fine → ⊥
 refused-not-fine e = let z : _≡_ {A = ℕ} 0 1 = cc in omega arith
 

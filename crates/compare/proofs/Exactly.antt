@@ -11,6 +11,7 @@ use lib.ListN.{length, getD, length-map, List·getD-map}
 use Rattle.names.specs.declared.Label.{Label}
 use Rattle.laws.specs.declared.Found.{Found}
 use Rattle.laws.specs.declared.Found.the-variants.{At as Found·At, Nothing as Found·Nothing}
+use Rattle.laws.proofs.Tests.{both}
 use Rattle.repeats.specs.Rows.{some}
 use Rattle.repeats.proofs.Rows.{is-false, some-passes, some-at, finds-lowest}
 use Rattle.plan.specs.declared.Timing.{Timing}
@@ -179,14 +180,10 @@ lighter-if old new u =
     number-is k h = ap (numberIn old) (found k h .1)
 
 -- ---- and back
-both-true : (a b : Bool) → (a && b) ≡ true → (a ≡ true) × (b ≡ true)
-both-true true b e = (refl, e)
-both-true false b e = absurd (true≢false (sym e))
-
 overtaking : (old new : Plan) (k j : ℕ) → overtakes old new k j ≡ true
     → (at new j .priority .0 < at new k .priority .0) × (number old (at new k .label) ≤ number old (at new j .label))
 overtaking old new k j e =
-    let (a, b) = both-true (ltb (at new j .priority .0) (at new k .priority .0)) (leb (number old (at new k .label)) (number old (at new j .label))) e in
+    let (a, b) = both (ltb (at new j .priority .0) (at new k .priority .0)) (leb (number old (at new k .label)) (number old (at new j .label))) e in
     (ltb-true _ _ a, leb-true _ _ b)
 
 if-lighter : (old new : Plan) → NotRefused old → Lighter old new → Unbroken old new

@@ -11,14 +11,11 @@ use lib.Dec.{leb}
 use lib.ListN.{length}
 use Rattle.laws.specs.declared.Found.{Found}
 use Rattle.laws.specs.declared.Found.the-variants.{At, Nothing}
+use Rattle.laws.proofs.Tests.{both}
 use Rattle.fields.specs.Layout as layout
 use Rattle.fields.specs.Fields.{Field, inside, lowest}
 use Rattle.fields.specs.Claims.{fieldAt, LowestOutside, AllInside, AtTheLowest, NothingIfInside, InsideIfWithin}
 use Rattle.fields.proofs.Lowest.{within}
-
-pub both : (x y : Bool) → x && y ≡ true → (x ≡ true) × (y ≡ true)
-both true y e = (refl, e)
-both false y e = absurd (true≢false (sym e))
 
 pub inside-if-within : InsideIfWithin
 inside-if-within f = (

@@ -12,6 +12,7 @@ use lib.Dec.{leb}
 use lib.ListN.{length, getD, take, drop, replicate, drop-of-length-le}
 use lib.Seq.{drop-cons}
 use Rattle.laws.specs.declared.Found.the-variants.{At, Nothing}
+use Rattle.laws.proofs.Tests.{apart}
 use Rattle.plan.specs.declared.Stream.{Stream}
 use Rattle.plan.specs.Plan.{Plan}
 use Rattle.fields.specs.Layout as layout
@@ -37,9 +38,6 @@ module _ (w a b : ℕ) where
 pub pass : (k : ℕ) (f : Field) (fs : List Field) → inside f ≡ true → lowest k (f ∷ fs) ≡ lowest (k + 1) fs
 unfolding lowest
 pass k f fs e = rw (lowest, e) refl
-
-pub apart : {p : ℕ} → At p ≡ Nothing → ⊥
-apart e = let z : _≡_ {A = ℕ} 0 1 = cc in omega arith
 
 pub stop : (k : ℕ) (f : Field) (fs : List Field) → inside f ≡ false → lowest k (f ∷ fs) ≡ At (layout.word * k)
 unfolding lowest

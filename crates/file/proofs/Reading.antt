@@ -11,7 +11,7 @@ use Rattle.names.specs.Limits.{streams, sources}
 use Rattle.words.specs.Words.{wordsOf}
 use Rattle.plan.specs.Plan.{Plan, blank}
 use Rattle.fields.specs.Layout as layout
-use Rattle.fields.proofs.Inside.{both}
+use Rattle.laws.proofs.Tests.{both}
 use Rattle.checks.specs.declared.Checked.{Checked}
 use Rattle.checks.specs.declared.Checked.the-variants.{Fine, Refused}
 use Rattle.checks.specs.Checks.{judge, unless, counted, lines, checkedOf}

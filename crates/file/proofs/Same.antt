@@ -8,7 +8,7 @@ use borrow.Author.Tests.{eq-eqb, ne-eqb, eqb-true}
 use lib.Dec.{eqb}
 use lib.ListN.{length, getD, drop, drop-of-length-le}
 use lib.Seq.{drop-cons}
-use Rattle.fields.proofs.Inside.{both}
+use Rattle.laws.proofs.Tests.{both}
 use Rattle.file.specs.File.{same}
 
 pub same-refl : (xs : List ℕ) → same xs xs ≡ true

@@ -1,3 +1,4 @@
+pub mod Tests
 pub mod Round
 pub mod Lists
 pub mod Search

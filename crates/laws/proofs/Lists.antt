@@ -11,6 +11,7 @@ use native.Mathlib.Omega.{arith}
 use lib.Dec.{T}
 use lib.ListN.{length, getD, set, take, replicate, length-append}
 use lib.Seq.{take-suc, take-all, set-at, getD-at}
+use Rattle.laws.proofs.Tests.{both}
 use Rattle.laws.specs.Lists.{sumOf, largestOf, those, rows, sumTo, every}
 
 -- ---- is it more where each is more?
@@ -194,10 +195,6 @@ every-each t zero e k h = absurd (omega arith)
 every-each t (suc n) e k h =
     let (a, b) = both (every n t) (t n) e in
     ⊎-elim (λ (d : suc k ≡ suc n). rw (suc-inj d) b) (λ l. every-each t n a k (omega arith)) (eq-or-lt-of-le h)
-  where
-    both : (a b : Bool) → (a && b) ≡ true → (a ≡ true) × (b ≡ true)
-    both true b e = (refl, e)
-    both false b e = absurd (subst T (sym e) tt)
 
 pub every-all : (t : ℕ → Bool) (n : ℕ) → ((k : ℕ) → k < n → t k ≡ true) → every n t ≡ true
 unfolding every

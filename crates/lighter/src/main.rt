@@ -32,7 +32,7 @@ fn opened(old: &[u8], first: i32, new: &[u8], second: i32) {
 }
 
 // The two files of these names.
-pub fn files(old: &[u8], new: &[u8]) {
+pub(crate) fn files(old: &[u8], new: &[u8]) {
     let first = os::open_read(old);
     if first < 0 {
         return say::unreadable(old);

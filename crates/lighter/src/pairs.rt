@@ -55,7 +55,7 @@ fn byte(p: Pair, c: u8) -> Pair {
     next
 }
 
-pub fn all(text: &[u8]) {
+pub(crate) fn all(text: &[u8]) {
     let mut p = none();
     for i in 0..text.len() {
         let c = text[i];

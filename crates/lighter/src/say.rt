@@ -67,7 +67,7 @@ fn again(r: Reason) {
     reason(r);
 }
 
-pub fn answer(c: Compared) {
+pub(crate) fn answer(c: Compared) {
     match c {
         Compared::FirstRefused(r) => refused(b"first ", r),
         Compared::SecondRefused(r) => refused(b"second ", r),
@@ -77,12 +77,12 @@ pub fn answer(c: Compared) {
     print(b"\n");
 }
 
-pub fn unreadable(name: &[u8]) {
+pub(crate) fn unreadable(name: &[u8]) {
     print(b"lighter: cannot read ");
     print(name);
     print(b"\n");
 }
 
-pub fn usage() {
+pub(crate) fn usage() {
     print(b"lighter: give the names of two plan files, the old one and the new one\n");
 }

@@ -11,6 +11,7 @@ use Rattle.laws.specs.Lists.{sumOf, largestOf, those, every}
 use Rattle.laws.specs.Search.{first}
 use Rattle.laws.specs.Signed.{largestTo}
 use Rattle.laws.proofs.Lists.{every-each}
+use Rattle.laws.proofs.Tests.{both}
 use Rattle.repeats.specs.Rows.{some}
 use Rattle.repeats.specs.Repeats.{firstRepeat}
 use Rattle.repeats.proofs.Rows.{some-passes}
@@ -28,10 +29,6 @@ use Rattle.checks.proofs.Fine.{fine-if-right}
 use Rattle.promise.specs.Lighter.{at, NotRefused, NoGreater, Stands}
 use Rattle.compare.specs.Changes.{rowOf}
 use Rattle.needed.specs.Needed.{conditions, count, Pair, pair, Broken, Lost, EachNeeded, easier, NotEmpty}
-
-both : (a b : Bool) → a && b ≡ true → (a ≡ true) × (b ≡ true)
-both true b e = (refl, e)
-both false b e = absurd (true≢false (sym e))
 
 second : (a b : Bool) → a || b ≡ true → (a ≡ true → ⊥) → b ≡ true
 second true b e n = absurd (n refl)

@@ -19,7 +19,7 @@ pub struct Reader {
     pub ends: u32,
 }
 
-pub fn nothing() -> Reader {
+pub(crate) fn nothing() -> Reader {
     Reader {
         words: 0,
         bits: 0,
@@ -66,7 +66,7 @@ fn closed(mut r: Reader) -> Reader {
     r
 }
 
-pub fn byte(r: Reader, c: u8) -> Reader {
+pub(crate) fn byte(r: Reader, c: u8) -> Reader {
     let mut next = r;
     if b' ' < c {
         let value = next.value;
@@ -86,7 +86,7 @@ pub fn byte(r: Reader, c: u8) -> Reader {
     next
 }
 
-pub fn bytes(r: Reader, text: &[u8]) -> Reader {
+pub(crate) fn bytes(r: Reader, text: &[u8]) -> Reader {
     let mut next = r;
     for i in 0..text.len() {
         let c = text[i];

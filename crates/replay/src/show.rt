@@ -11,7 +11,7 @@ use tournament_state::Answer;
 use tournament_state::Phase;
 use tournament_state::Tournament;
 
-pub fn line(bytes: &[u8]) {
+pub(crate) fn line(bytes: &[u8]) {
     print(bytes);
     print(b"\n");
 }
@@ -94,7 +94,7 @@ fn played(t: Tournament) {
     winner(now);
 }
 
-pub fn tournament(r: Reader) {
+pub(crate) fn tournament(r: Reader) {
     let words = r.words;
     if words == 0 {
         line(b"usage: replay BITS PRIORITY..");
@@ -123,7 +123,7 @@ fn another(r: Reader, shown: bool) {
     tournament(r);
 }
 
-pub fn tournaments(bytes: &[u8]) {
+pub(crate) fn tournaments(bytes: &[u8]) {
     let mut r = read::nothing();
     let mut shown = false;
     for i in 0..bytes.len() {

@@ -18,7 +18,8 @@ use Rattle.tournament_state.specs.declared.Tournament.{Tournament}
 use Rattle.tournament_state.specs.declared.Answer.{Answer}
 use Rattle.tournament_state.specs.declared.Answer.the-variants.{Done, Refused}
 use Rattle.tournament_state.specs.Refusals.{none}
-use Rattle.tournament_state.proofs.Tests.{both, and-both}
+use Rattle.laws.proofs.Tests.{both}
+use Rattle.tournament_state.proofs.Tests.{and-both}
 use Rattle.tournament.specs.Rule.{bitAt, isIn, hasZero, heardAt, silencedAt, marksAfter, lowestMarked, finishedBy, winnerOf, nextAt, next}
 use Rattle.tournament.specs.Answers.{judgedOf, outcome, stepOf}
 use Rattle.tournament_laws.specs.Facts.{Handled, StepHandlesOneBit, FinishedStays, NoneMarkedNoWinner, LowestMarkedWins}

@@ -25,7 +25,8 @@ use Rattle.tournament_state.specs.declared.Answer.{Answer}
 use Rattle.tournament_state.specs.declared.Answer.the-variants.{Done, Refused}
 use Rattle.tournament_state.specs.Refusals.{number, none, refused, unless, _then_, seven, eightBits, fitsIn, unfitAt, eightPriorities, eightPhase, repeatedAt, nine, verdictOf, pairVerdictOf}
 use Rattle.tournament_state.specs.Meaning.{at, Within, Sound, DoneIfSound, PlaceOfEight, PlaceOfNine, SoundPair, DoneIfSoundPair}
-use Rattle.tournament_state.proofs.Tests.{within, both}
+use Rattle.laws.proofs.Tests.{both}
+use Rattle.tournament_state.proofs.Tests.{within}
 
 -- ---- answers
 done-no : {n p : ℕ} → refused n p ≡ Done → ⊥

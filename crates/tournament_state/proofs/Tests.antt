@@ -8,6 +8,7 @@ use native.Mathlib.Omega.{arith}
 use borrow.Author.Tests.{eq-eqb, ne-eqb, ltb-true, ltb-false, le-leb, lt-leb}
 use lib.Pow.{pow-pos}
 use lib.Dec.{eqb, ltb, leb}
+use Rattle.laws.proofs.Tests.{both}
 
 -- a number fits in k bits exactly if nothing is left of it above them
 pub above-bits : (x k : ℕ) → eqb (x / 2 ^ k) 0 ≡ ltb x (2 ^ k)
@@ -30,9 +31,5 @@ pub within : (lo x hi : ℕ) → lo ≤ x → x ≤ hi → leb lo x && leb x hi 
 within lo x hi h k = rw (le-leb lo x h, le-leb x hi k) refl
 
 -- two tests in a row
-pub both : (x y : Bool) → x && y ≡ true → (x ≡ true) × (y ≡ true)
-both true y e = (refl, e)
-both false y e = absurd (true≢false (sym e))
-
 pub and-both : (x y : Bool) → x ≡ true → y ≡ true → x && y ≡ true
 and-both x y e f = rw (e, f) refl
