@@ -5,12 +5,14 @@
 // There is no function here, nothing is assumed, and this crate knows of no other.
 
 // A smaller priority is the more urgent one: bit 0 is dominant.
+#[repr(C)]
 pub struct Priority(pub u32);
 
 // A place in a plan or a tournament, counted from 0.
 pub struct Row(pub usize);
 
 // group * 65,536 + number, painted on the node as group.number.
+#[repr(C)]
 pub struct Label(pub u32);
 
 // Why the answer is no: the number of document 01's table, and the place that its last column names.

@@ -8,8 +8,11 @@ use Rattle.checks.specs.declared.Checked.{Checked}
 use Rattle.checks.specs.declared.Checked.the-variants.{Fine, Refused}
 use Rattle.file.specs.declared.Written.{Written}
 use Rattle.file.specs.declared.Written.the-variants.{Bytes, Refused as Written·Refused}
-use Rattle.file.specs.File.{readOf, writeOf}
+use Rattle.file.specs.File.{timingIn, readOf, writeOf}
+use Rattle.plan.specs.declared.Stream.{Stream}
 use Rattle.plan.specs.declared.Sheet.{Sheet}
+use Rattle.answers.specs.Words.{answerOf}
+use Rattle.screen.specs.Screen.{sheetFor}
 use Rattle.compare.specs.declared.Reason.{Reason}
 use Rattle.compare.specs.declared.Reason.the-variants.{GreaterConstant, NewLabel, ShorterPeriod, LongerJitter, LongerPayload, ShorterDeadline, LessUrgent, MoreNoise}
 use Rattle.compare.specs.declared.Compared.{Compared}
@@ -55,6 +58,10 @@ rewritten (Refused r) s buf = (Written·Refused r, buf)
 
 unfoldable pub rewriteOf : List ℕ → List ℕ → Written × List ℕ
 rewriteOf bytes buf = rewritten (readOf bytes .answer) (readOf bytes .sheet) buf
+
+-- the answer words of lent streams, with the timing that the first nine words are and these noise gaps
+abbrev pub screenOf : List Stream → List ℕ → List ℕ → List ℕ → Checked × List ℕ
+screenOf xs ws gaps out = answerOf (sheetFor xs (timingIn ws 0) gaps) out
 
 -- the conditions of the lighter plan, numbered from 1 in the order in which they are looked at
 abbrev pub condition : Reason → ℕ

@@ -6,7 +6,9 @@ ghost use mathlib.Core.Path.{_≡_};
 ghost use Rattle.answers.specs.Words.{answerFileOf};
 ghost use Rattle.compare_files.specs.Files.{comparedFiles};
 ghost use Rattle.tournament.specs.Answers.{partingOf, startOf, stepOf};
+ghost use Rattle.file.specs.File.{writeOf};
 ghost use Rattle.states.specs.States.{prioritiesFrom, stateFrom};
+ghost use Rattle.values.specs.Values.{sheetFrom};
 ghost use Rattle.outside.specs.Outside as number;
 use answers::answer_file;
 use checks::Checked;
@@ -17,7 +19,9 @@ use file::Written;
 use names::Label;
 use names::Priority;
 use names::Refusal;
+use plan::Stream;
 use reader::read;
+use screen::screen;
 use states::marks_into;
 use states::priorities_from;
 use states::state_from;
@@ -28,6 +32,8 @@ use tournament::start;
 use tournament::step;
 use tournament_state::Answer;
 use tournament_state::Phase;
+use values::sheet_from;
+use values::timing_from;
 use writer::write;
 
 // 0 and what was asked for, or the number of a refusal and its place.
@@ -96,6 +102,39 @@ pub extern "C" fn livnakesh_rewrite(file: &[u8], out: &mut [u8]) -> Said
             Written::Refused(r) => refused(r),
         },
     }
+}
+
+// The file of n streams and m noise gaps whose values are lent as plain words, written into lent bytes.
+#[no_mangle]
+pub extern "C" fn livnakesh_write(n: usize, m: usize, values: &[u32], out: &mut [u8]) -> Said
+    ensures { λ s. ⌜ (s ≡ number.written (writeOf (sheetFrom n m (now (values .entry))) (now (out .entry)) .0)) × (now (out .exit) ≡ writeOf (sheetFrom n m (now (values .entry))) (now (out .entry)) .1) ⌝ }
+{
+    match write(sheet_from(n, m, values), out) {
+        Written::Bytes(bytes) => done(bytes as u64),
+        Written::Refused(r) => refused(r),
+    }
+}
+
+fn checked(answer: Checked) -> Said
+    ensures { λ s. ⌜ s ≡ number.checked answer ⌝ }
+{
+    match answer {
+        Checked::Fine => done(0),
+        Checked::Refused(r) => refused(r),
+    }
+}
+
+// The answer words of lent streams, each of them its six words in file order, under a timing of nine words and these noise gaps.
+#[no_mangle]
+pub extern "C" fn livnakesh_screen(
+    streams: &[Stream],
+    timing: &[u32],
+    gaps: &[u32],
+    out: &mut [u64],
+) -> Said
+    ensures { λ s. ⌜ (let o = number.screenOf (now (streams .entry)) (now (timing .entry)) (now (gaps .entry)) (now (out .entry)) in (s ≡ number.checked (o .0)) × (now (out .exit) ≡ o .1)) ⌝ }
+{
+    checked(screen(streams, timing_from(timing), gaps, out))
 }
 
 // The bit at which two priorities part.

@@ -20,7 +20,8 @@ pub struct Timing {
     pub nb: u32,
 }
 
-// A stream's six words, in the file's order: label, priority, T, J, C, D.
+// A stream's six words, in the file's order: label, priority, T, J, C, D. In C's layout, since other languages lend lists of it.
+#[repr(C)]
 pub struct Stream {
     pub label: Label,
     pub priority: Priority,

@@ -1,0 +1,28 @@
+-- Each return is an answer by its number. Assumes nothing.
+use mathlib.Core.Path.{sym, ap, _∙_}
+use borrow.Author.Needs.{needs}
+use Rattle.outside.specs.Outside as number
+use Rattle.outside.proofs.checked.Statement.{statement}
+use Rattle.outside.proofs.checked.Tie as tie
+
+enum-told : tie.Need-enum-told
+enum-told c = search needs
+
+done-requires : tie.Need-done-requires
+done-requires c κs = search needs
+
+enum-known-answer : tie.Need-enum-known-answer
+enum-known-answer c = search needs
+
+refused-requires : tie.Need-refused-requires
+refused-requires c κs = search needs
+
+returns : tie.Need-returns
+returns c = c .done .ensures ∙ ap number.checked (sym (c .before .enum-told .given .1))
+
+returns-2 : tie.Need-returns-2
+returns-2 c = c .refused .ensures ∙ ap number.checked (sym (c .before .before .answer .given .1))
+
+pub checked-spec : {M : Type 1} → statement M
+checked-spec =
+    tie.close (tie.spec enum-told done-requires enum-known-answer refused-requires returns returns-2)

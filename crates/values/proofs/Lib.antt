@@ -1,0 +1,3 @@
+pub mod Same
+pub mod Counts
+pub mod Unique

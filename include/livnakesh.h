@@ -1,0 +1,58 @@
+/* The planner's functions for other languages. A slice is a pointer and then a length; what is lent stays the caller's.
+ * A refusal hands back document 01's number and place, and leaves lent memory as it was. Rows count from 0. */
+#ifndef LIVNAKESH_H
+#define LIVNAKESH_H
+
+#include <stddef.h>
+#include <stdint.h>
+
+#ifdef __cplusplus
+extern "C" {
+#endif
+
+/* refusal 0: done, and value is what was asked for. Otherwise the refusal's number, and value is its place. */
+struct livnakesh_said {
+    uint64_t refusal;
+    uint64_t value;
+};
+
+/* answer 0: the second plan is lighter; number and value are 0.
+ * answer 1: the first file is refused; answer 2: the second is. number and value are the refusal's number and place.
+ * answer 3: run it again; number is the first condition that is broken, and value what breaks it:
+ *   1 a timing constant is greater            its place, 0 to 8 for F, E, TFCS, SWX, H, G, ETG, LAG, NB
+ *   2 a stream is not in the first plan       its label
+ *   3 its period is shorter                   its label
+ *   4 its jitter is longer                    its label
+ *   5 its payload is longer                   its label
+ *   6 its deadline is shorter                 its label
+ *   7 it comes after a stream that it came before: one of the second plan's streams is more urgent than this one,
+ *     and was not in the first plan         its label
+ *   8 more gaps of the second plan than of the first are this long or less      the gap */
+struct livnakesh_weighed {
+    uint64_t answer;
+    uint64_t number;
+    uint64_t value;
+};
+
+/* The answers of a plan file: two words a row in file order, verdict (0 met, 1 missed, 2 none) and then the bound
+ * (0 for none). Words after 2n stay as found. Refusals 1 to 6; 6 if fewer than 2n words are lent. value is 0. */
+struct livnakesh_said livnakesh_answers(const uint8_t *file, size_t file_length, uint64_t *words, size_t word_count);
+
+/* Reads a plan file and writes its plan's file at the start of the lent buffer; the rest of the buffer is kept.
+ * value is the number of bytes written, 80 + 24n + 4m. Refusals 1 to 6; 6 if fewer bytes than that are lent. */
+struct livnakesh_said livnakesh_rewrite(const uint8_t *file, size_t file_length, uint8_t *buffer, size_t buffer_length);
+
+/* The bit at which two priorities part: the first from the top, counted from 1, at which they differ.
+ * Refusal 8 if the bit count is not 1 to 32 (place 0) or a priority does not fit in it (its row, 0 or 1);
+ * refusal 9 if both are one priority (row 1). */
+struct livnakesh_said livnakesh_parting(uint32_t bits, uint32_t first, uint32_t second);
+
+/* Whether the plan in the second file is lighter than that in the first: every stream of it that has a bound in the first
+ * then has one in the second, no larger, and what was met is met. */
+struct livnakesh_weighed livnakesh_lighter(const uint8_t *first, size_t first_length, const uint8_t *second, size_t second_length);
+
+#ifdef __cplusplus
+}
+#endif
+
+#endif

@@ -1,0 +1,147 @@
+//! The proved library and the plain planner on the same inputs in one process, in turn, the best of several rounds.
+//!
+//! Lent buffers are not cleared between calls: every call writes its whole answer over the last one, and neither side reads
+//! what it finds there. A call goes from the file's bytes to the answer, so it has the reading and all its checks in it.
+
+use livnakesh::plain::{self, Label, Plan, Priority, Stream, Timing};
+use std::hint::black_box;
+use std::time::{Duration, Instant};
+
+const BASE: Timing = [4, 1, 1, 2, 1, 1, 2, 1, 4];
+
+/// As `BASE` with room for 64 priorities: V is 8 and U is 14.
+const BASE_6: Timing = [4, 1, 1, 2, 1, 1, 2, 1, 6];
+
+const ROUNDS: u32 = 60;
+
+/// How long a round of one side should take: long beside the clock's own step, short enough to go through undisturbed.
+const ROUND: Duration = Duration::from_millis(2);
+
+fn stream(row: u32, period: u32, jitter: u32, payload: u32) -> Stream {
+    let (label, priority) = (Label(0xa_0000 + row), Priority(row));
+    Stream { label, priority, period, jitter, payload, deadline: period }
+}
+
+/// 64 streams whose periods lie apart by up to a factor of 16, with a load of so many in 10,000.
+fn full(load: u64, gaps: Vec<u32>) -> Plan {
+    let weight = |row: u32| u64::from(16 - row / 4);
+    let all: u64 = (0..64).map(weight).sum();
+    // Rows stand in no order of priority, as on the desk.
+    let streams = (0..64).map(|k| {
+        let row = k * 37 % 64;
+        let payload = 5 + row % 7;
+        let period = u64::from(22 + payload) * 10_000 * all / (load * weight(row));
+        stream(row, period as u32, 3 * row, payload)
+    });
+    Plan { timing: BASE_6, streams: streams.collect(), gaps }
+}
+
+fn single(period: u32, jitter: u32) -> Plan {
+    Plan { timing: BASE, streams: vec![stream(1, period, jitter, 5)], gaps: vec![] }
+}
+
+fn file(plan: &Plan) -> Vec<u8> {
+    let mut file = vec![0; plain::size(plan.streams.len(), plan.gaps.len())];
+    let wrote = plain::write(plan, &mut file);
+    assert_eq!(wrote, Ok(file.len()), "a plan of the benchmark is right");
+    file
+}
+
+/// Nanoseconds a call, for so many calls.
+fn time(calls: u32, run: &mut dyn FnMut()) -> f64 {
+    let start = Instant::now();
+    for _ in 0..calls {
+        run();
+    }
+    start.elapsed().as_secs_f64() * 1e9 / f64::from(calls)
+}
+
+fn calls_for(run: &mut dyn FnMut()) -> u32 {
+    let mut calls = 1;
+    while time(calls, run) * f64::from(calls) < ROUND.as_nanos() as f64 {
+        calls *= 2;
+    }
+    calls
+}
+
+fn thousands(nanoseconds: f64) -> String {
+    if nanoseconds < 100.0 {
+        return format!("{nanoseconds:.1}");
+    }
+    let digits = format!("{nanoseconds:.0}");
+    let groups: Vec<_> = digits.as_bytes().rchunks(3).rev().map(String::from_utf8_lossy).collect();
+    groups.join(",")
+}
+
+fn row(name: &str, rounds: u32, proved: &mut dyn FnMut(), plain: &mut dyn FnMut()) {
+    let calls = calls_for(proved).min(calls_for(plain));
+    let (mut best_proved, mut best_plain) = (f64::MAX, f64::MAX);
+    for _ in 0..rounds {
+        best_proved = best_proved.min(time(calls, proved));
+        best_plain = best_plain.min(time(calls, plain));
+    }
+    let ratio = best_proved / best_plain;
+    println!("| {name} | {} | {} | {ratio:.2} |", thousands(best_proved), thousands(best_plain));
+}
+
+fn answers_row(name: &str, rounds: u32, plan: &Plan) {
+    let file = file(plan);
+    let (mut proved, mut ours) = ([0; 128], [0; 128]);
+    assert_eq!(livnakesh::answers(&file, &mut proved), plain::answers(&file, &mut ours));
+    assert_eq!(proved, ours);
+    let file = &file[..];
+    row(name, rounds, &mut || _ = black_box(livnakesh::answers(black_box(file), black_box(&mut proved))), &mut || {
+        _ = black_box(plain::answers(black_box(file), black_box(&mut ours)))
+    });
+}
+
+fn rewrite_row(name: &str, file: &[u8]) {
+    let (mut proved, mut ours) = ([0; 1_648], [0; 1_648]);
+    assert_eq!(livnakesh::rewrite(file, &mut proved), plain::rewrite(file, &mut ours));
+    assert_eq!(proved, ours);
+    row(name, ROUNDS, &mut || _ = black_box(livnakesh::rewrite(black_box(file), black_box(&mut proved))), &mut || {
+        _ = black_box(plain::rewrite(black_box(file), black_box(&mut ours)))
+    });
+}
+
+fn lighter_row(name: &str, old: &[u8], new: &[u8]) {
+    assert_eq!(livnakesh::lighter(old, new), livnakesh::Compared::Lighter);
+    assert_eq!(plain::lighter(old, new), livnakesh::Compared::Lighter);
+    row(name, ROUNDS, &mut || _ = black_box(livnakesh::lighter(black_box(old), black_box(new))), &mut || {
+        _ = black_box(plain::lighter(black_box(old), black_box(new)))
+    });
+}
+
+fn parting_row(name: &str) {
+    row(
+        name,
+        ROUNDS,
+        &mut || _ = black_box(livnakesh::parting(black_box(20), black_box(0x5_1234), black_box(0x5_1634))),
+        &mut || _ = black_box(plain::parting(black_box(20), black_box(0x5_1234), black_box(0x5_1634))),
+    );
+}
+
+fn main() {
+    println!("| | proved, ns a call | plain, ns a call | proved / plain |");
+    println!("|---|---|---|---|");
+    answers_row("one stream", ROUNDS, &single(100, 0));
+    answers_row("64 streams, 50 % load", ROUNDS, &full(5_000, vec![]));
+    answers_row("64 streams, 90 % load", ROUNDS, &full(9_000, vec![]));
+    answers_row("64 streams, 99 % load", ROUNDS, &full(9_900, vec![]));
+    let gaps = vec![20_011, 20_023, 20_029, 20_047, 20_051, 20_063, 20_071, 20_089];
+    let noisy = full(9_000, gaps);
+    answers_row("64 streams, 90 % load, 8 noise sources", ROUNDS, &noisy);
+    let long = single(24, 43_480);
+    assert_eq!(plain::Analysis::new(&long).levels().find_map(|level| level.busy_period()), Some(1_000_040));
+    answers_row("one stream, L 1,000,040, 43,480 instances", ROUNDS, &long);
+    answers_row("P5: 186,737,708 evaluations, none", 2, &single(23, 23));
+    rewrite_row("read and write 64 streams, 8 gaps", &file(&noisy));
+    let mut refused = file(&noisy);
+    refused[1_644..].fill(0);
+    rewrite_row("refuse 64 streams for their last gap", &refused);
+    let mut light = noisy.clone();
+    light.streams.reverse();
+    light.gaps.reverse();
+    lighter_row("lighter, two plans of 64 streams, 8 gaps", &file(&noisy), &file(&light));
+    parting_row("parting bit");
+}

@@ -1,0 +1,602 @@
+//! The same planner in plain Rust, written from document 01 alone. The tests compare the proved library with it, and the
+//! benchmark takes it as what ordinary means give.
+
+use crate::{Compared, Reason, Refused};
+
+#[derive(Clone, Copy, Debug, PartialEq, Eq, PartialOrd, Ord)]
+pub struct Label(pub u32);
+
+#[derive(Clone, Copy, Debug, PartialEq, Eq, PartialOrd, Ord)]
+pub struct Priority(pub u32);
+
+#[derive(Clone, Copy, Debug, PartialEq, Eq)]
+pub struct Stream {
+    pub label: Label,
+    pub priority: Priority,
+    pub period: u32,
+    pub jitter: u32,
+    pub payload: u32,
+    pub deadline: u32,
+}
+
+/// F, E, TFCS, SWX, H, G, ETG, LAG and then NB, as in the file.
+pub type Timing = [u32; 9];
+
+pub const NB: usize = 8;
+
+#[derive(Clone, Debug, PartialEq, Eq)]
+pub struct Plan {
+    pub timing: Timing,
+    pub streams: Vec<Stream>,
+    pub gaps: Vec<u32>,
+}
+
+const CONTENTS: usize = 44;
+const TIMING: usize = 36;
+const STREAM: usize = 24;
+const GAP: usize = 4;
+const BODIES: usize = CONTENTS + TIMING;
+const MOST_STREAMS: usize = 64;
+const MOST_GAPS: usize = 8;
+const LARGEST: usize = size(MOST_STREAMS, MOST_GAPS);
+
+/// The longest busy period that counts.
+const HORIZON: u64 = u32::MAX as u64;
+
+pub const fn size(streams: usize, gaps: usize) -> usize {
+    BODIES + STREAM * streams + GAP * gaps
+}
+
+fn refused<T>(number: u64, place: usize) -> Result<T, Refused> {
+    Err(Refused { number, place: place as u64 })
+}
+
+// ---- the plan file ----
+
+fn word(bytes: &[u8]) -> u32 {
+    u32::from_le_bytes([bytes[0], bytes[1], bytes[2], bytes[3]])
+}
+
+fn counts_fit(streams: usize, gaps: usize) -> bool {
+    (1..=MOST_STREAMS).contains(&streams) && gaps <= MOST_GAPS
+}
+
+fn contents(streams: usize, gaps: usize) -> [u32; 11] {
+    let stream_bytes = (STREAM * streams) as u32;
+    let gap_bytes = (GAP * gaps) as u32;
+    [1, 3, 1, 44, 36, 2, 80, stream_bytes, 3, 80 + stream_bytes, gap_bytes]
+}
+
+/// How many streams and gaps a file has, if its length and contents are right.
+fn counts(file: &[u8]) -> Result<(usize, usize), Refused> {
+    if file.len() < CONTENTS || file.len() > LARGEST {
+        return refused(1, 0);
+    }
+    let streams = word(&file[28..]) as usize / STREAM;
+    let gaps = word(&file[40..]) as usize / GAP;
+    if !counts_fit(streams, gaps) || file.len() != size(streams, gaps) {
+        return refused(2, 0);
+    }
+    let wanted = contents(streams, gaps);
+    match file.chunks_exact(4).zip(wanted).all(|(bytes, wanted)| word(bytes) == wanted) {
+        true => Ok((streams, gaps)),
+        false => refused(2, 0),
+    }
+}
+
+/// Of a known length, so that the words need no checks of their own.
+fn stream(record: &[u8; STREAM]) -> Stream {
+    Stream {
+        label: Label(word(record)),
+        priority: Priority(word(&record[4..])),
+        period: word(&record[8..]),
+        jitter: word(&record[12..]),
+        payload: word(&record[16..]),
+        deadline: word(&record[20..]),
+    }
+}
+
+fn streams(mut records: &[u8], count: usize) -> Vec<Stream> {
+    let mut streams = Vec::with_capacity(count);
+    while let Some((record, rest)) = records.split_first_chunk() {
+        streams.push(stream(record));
+        records = rest;
+    }
+    streams
+}
+
+pub fn read(file: &[u8]) -> Result<Plan, Refused> {
+    let (count, _) = counts(file)?;
+    let (timing, bodies) = file[CONTENTS..].split_at(TIMING);
+    let (records, gaps) = bodies.split_at(STREAM * count);
+    let plan = Plan {
+        timing: std::array::from_fn(|k| word(&timing[4 * k..])),
+        streams: streams(records, count),
+        gaps: gaps.chunks_exact(GAP).map(word).collect(),
+    };
+    check(&plan)?;
+    Ok(plan)
+}
+
+fn fits(value: u32, least: u32, most: u32) -> bool {
+    (least..=most).contains(&value)
+}
+
+/// The field of a stream, counted from 0, that is outside its limits.
+fn bad_field(stream: &Stream, most_priority: u32) -> Option<usize> {
+    match stream {
+        s if s.priority.0 > most_priority => Some(1),
+        s if s.period == 0 => Some(2),
+        s if !fits(s.payload, 1, 65_535) => Some(4),
+        s if s.deadline == 0 => Some(5),
+        _ => None,
+    }
+}
+
+/// The byte offset of the first field that is outside its limits.
+fn bad_byte(plan: &Plan) -> Option<usize> {
+    let constants = &plan.timing[..NB];
+    if let Some(k) = constants.iter().position(|&c| c > 65_535) {
+        return Some(CONTENTS + 4 * k);
+    }
+    let bits = plan.timing[NB];
+    if !fits(bits, 1, 32) {
+        return Some(CONTENTS + 4 * NB);
+    }
+    let most_priority = u32::MAX >> (32 - bits);
+    for (row, stream) in plan.streams.iter().enumerate() {
+        if let Some(field) = bad_field(stream, most_priority) {
+            return Some(BODIES + STREAM * row + 4 * field);
+        }
+    }
+    let gap = plan.gaps.iter().position(|&gap| gap == 0)?;
+    Some(size(plan.streams.len(), gap))
+}
+
+/// The lowest row that repeats an earlier row. Rows are few, so looking back beats sorting.
+fn repeat(values: impl Iterator<Item = u32>) -> Option<usize> {
+    let mut seen = [0; 128];
+    for (row, value) in values.enumerate() {
+        if seen[..row].contains(&value) {
+            return Some(row);
+        }
+        seen[row] = value;
+    }
+    None
+}
+
+/// Refusals 2 to 5, for values from wherever they come.
+pub fn check(plan: &Plan) -> Result<(), Refused> {
+    if !counts_fit(plan.streams.len(), plan.gaps.len()) {
+        return refused(2, 0);
+    }
+    if let Some(byte) = bad_byte(plan) {
+        return refused(3, byte);
+    }
+    if let Some(row) = repeat(plan.streams.iter().map(|s| s.priority.0)) {
+        return refused(4, row);
+    }
+    match repeat(plan.streams.iter().map(|s| s.label.0)) {
+        Some(row) => refused(5, row),
+        None => Ok(()),
+    }
+}
+
+fn put(buffer: &mut [u8], words: &[u32]) {
+    for (bytes, word) in buffer.chunks_exact_mut(4).zip(words) {
+        bytes.copy_from_slice(&word.to_le_bytes());
+    }
+}
+
+fn put_plan(plan: &Plan, file: &mut [u8]) {
+    put(file, &contents(plan.streams.len(), plan.gaps.len()));
+    put(&mut file[CONTENTS..], &plan.timing);
+    let (records, gaps) = file[BODIES..].split_at_mut(STREAM * plan.streams.len());
+    for (record, s) in records.chunks_exact_mut(STREAM).zip(&plan.streams) {
+        put(record, &[s.label.0, s.priority.0, s.period, s.jitter, s.payload, s.deadline]);
+    }
+    put(gaps, &plan.gaps);
+}
+
+/// Writes a plan whose values are known to be right.
+fn write_checked(plan: &Plan, buffer: &mut [u8]) -> Result<usize, Refused> {
+    let length = size(plan.streams.len(), plan.gaps.len());
+    match buffer.get_mut(..length) {
+        Some(file) => {
+            put_plan(plan, file);
+            Ok(length)
+        }
+        None => refused(6, 0),
+    }
+}
+
+pub fn write(plan: &Plan, buffer: &mut [u8]) -> Result<usize, Refused> {
+    check(plan)?;
+    write_checked(plan, buffer)
+}
+
+pub fn rewrite(file: &[u8], buffer: &mut [u8]) -> Result<usize, Refused> {
+    write_checked(&read(file)?, buffer)
+}
+
+// ---- the bound ----
+
+/// V, the time before a tournament's bits.
+pub fn before(timing: &Timing) -> u64 {
+    let [f, e, tfcs, swx, h, ..] = timing.map(u64::from);
+    f + e + tfcs.max(swx) + h
+}
+
+/// U, the time that a tournament's bits take.
+pub fn overhead(timing: &Timing) -> u64 {
+    let [_, _, _, _, h, g, etg, lag, bits] = timing.map(u64::from);
+    g + (h + g) * (bits - 1) + etg + lag
+}
+
+/// A stream as its level sees it.
+#[derive(Clone, Copy, Default)]
+pub struct Load {
+    pub period: u64,
+    pub jitter: u64,
+    /// C'', the whole time on the channel.
+    pub cost: u64,
+    /// Jitter and period less 1: a floor over the window and this is the ceiling over the window and jitter.
+    slack: u64,
+}
+
+impl Load {
+    fn new(stream: &Stream, setup: u64) -> Load {
+        let period = u64::from(stream.period);
+        let jitter = u64::from(stream.jitter);
+        Load { period, jitter, cost: setup + u64::from(stream.payload), slack: jitter + period - 1 }
+    }
+
+    /// At most 2^33 instances of less than 2^23 ticks, so that 64 of them stay below 2^62.
+    fn demand(&self, window: u64) -> u64 {
+        (window + self.slack) / self.period * self.cost
+    }
+}
+
+/// A stream with all that bears on it.
+pub struct Level<'a> {
+    pub row: usize,
+    pub own: Load,
+    urgent: &'a [Load],
+    gaps: &'a [u64],
+    blocking: u64,
+    /// The largest C'' among the stream and the more urgent ones, which a hit may cost.
+    dearest: u64,
+    before: u64,
+}
+
+impl Level<'_> {
+    fn noise(&self, window: u64) -> u64 {
+        let hits: u64 = self.gaps.iter().map(|&gap| window.div_ceil(gap)).sum();
+        hits * self.dearest
+    }
+
+    fn urgent_demand(&self, window: u64) -> u64 {
+        self.urgent.iter().map(|load| load.demand(window)).sum()
+    }
+
+    /// The right side of the busy period's equation.
+    pub fn busy_step(&self, length: u64) -> u64 {
+        self.blocking + self.urgent_demand(length) + self.own.demand(length) + self.noise(length)
+    }
+
+    /// The right side of the equation of w(q).
+    pub fn wait_step(&self, q: u64, wait: u64) -> u64 {
+        let urgent = self.urgent_demand(wait + self.before + 1);
+        self.blocking + q * self.own.cost + urgent + self.noise(wait + self.own.cost)
+    }
+
+    /// L, if it is within the horizon. From 1, since 0 may solve the equation too.
+    pub fn busy_period(&self) -> Option<u64> {
+        let mut length = 1;
+        loop {
+            let next = self.busy_step(length);
+            if next > HORIZON {
+                return None;
+            }
+            if next == length {
+                return Some(length);
+            }
+            length = next;
+        }
+    }
+
+    /// Q, the instances in a busy period.
+    pub fn instances(&self, busy_period: u64) -> u64 {
+        (busy_period + self.own.slack) / self.own.period
+    }
+
+    /// w(q), if it is known to be no less than `from`.
+    pub fn wait(&self, q: u64, from: u64) -> u64 {
+        let mut wait = from;
+        loop {
+            let next = self.wait_step(q, wait);
+            if next == wait {
+                return wait;
+            }
+            wait = next;
+        }
+    }
+
+    fn term(&self, q: u64, wait: u64) -> i64 {
+        (self.own.jitter + wait + self.own.cost) as i64 - (q * self.own.period) as i64
+    }
+
+    pub fn bound(&self) -> Option<u64> {
+        let instances = self.instances(self.busy_period()?);
+        let mut wait = self.wait(0, 0);
+        let mut largest = self.term(0, wait);
+        for q in 1..instances {
+            // An instance waits at least for the whole of the one before it.
+            wait = self.wait(q, wait + self.own.cost);
+            largest = largest.max(self.term(q, wait));
+        }
+        Some(largest as u64)
+    }
+}
+
+/// A plan's streams from the most urgent down, so that those more urgent than one are all before it.
+pub struct Analysis {
+    rows: Vec<usize>,
+    loads: Vec<Load>,
+    gaps: Vec<u64>,
+    /// For each stream, B and the dearest C''.
+    extremes: Vec<(u64, u64)>,
+    before: u64,
+}
+
+impl Analysis {
+    pub fn new(plan: &Plan) -> Analysis {
+        let before = before(&plan.timing);
+        let setup = before + overhead(&plan.timing);
+        let mut rows: Vec<usize> = (0..plan.streams.len()).collect();
+        rows.sort_unstable_by_key(|&row| plan.streams[row].priority);
+        let loads: Vec<Load> = rows.iter().map(|&row| Load::new(&plan.streams[row], setup)).collect();
+        let gaps = plan.gaps.iter().map(|&gap| u64::from(gap)).collect();
+        Analysis { extremes: extremes(&loads, before), rows, loads, gaps, before }
+    }
+
+    pub fn levels(&self) -> impl Iterator<Item = Level<'_>> {
+        self.rows.iter().zip(&self.extremes).enumerate().map(|(k, (&row, &(blocking, dearest)))| Level {
+            row,
+            own: self.loads[k],
+            urgent: &self.loads[..k],
+            gaps: &self.gaps,
+            blocking,
+            dearest,
+            before: self.before,
+        })
+    }
+}
+
+fn extremes(loads: &[Load], before: u64) -> Vec<(u64, u64)> {
+    let mut both = vec![(0, 0); loads.len()];
+    let mut blocking = 0;
+    for (k, load) in loads.iter().enumerate().rev() {
+        both[k].0 = blocking;
+        blocking = blocking.max(load.cost - before - 1);
+    }
+    let mut dearest = 0;
+    for (k, load) in loads.iter().enumerate() {
+        dearest = dearest.max(load.cost);
+        both[k].1 = dearest;
+    }
+    both
+}
+
+fn answer(bound: Option<u64>, deadline: u32) -> [u64; 2] {
+    match bound {
+        None => [2, 0],
+        Some(bound) => [u64::from(bound > u64::from(deadline)), bound],
+    }
+}
+
+pub fn answers(file: &[u8], words: &mut [u64]) -> Result<(), Refused> {
+    let plan = read(file)?;
+    let Some(rows) = words.get_mut(..2 * plan.streams.len()) else {
+        return refused(6, 0);
+    };
+    for level in Analysis::new(&plan).levels() {
+        let row = level.row;
+        rows[2 * row..2 * row + 2].copy_from_slice(&answer(level.bound(), plan.streams[row].deadline));
+    }
+    Ok(())
+}
+
+// ---- the lighter plan ----
+
+/// The first gap of the new plan that more of its gaps than of the old plan's are as short as.
+pub fn more_noise(old: &[u32], new: &[u32]) -> Option<u32> {
+    let as_short = |gaps: &[u32], x: u32| gaps.iter().filter(|&&gap| gap <= x).count();
+    new.iter().copied().find(|&x| as_short(new, x) > as_short(old, x))
+}
+
+/// Whether each gap of the new plan has its own partner in the old one, no longer than itself; by trying partners.
+pub fn partnered(old: &[u32], new: &[u32]) -> bool {
+    let mut partner_of = vec![None; old.len()];
+    (0..new.len()).all(|source| find_partner(old, new, source, &mut vec![false; old.len()], &mut partner_of))
+}
+
+/// An augmenting path: a partner that is taken is given up if its source finds another.
+fn find_partner(old: &[u32], new: &[u32], source: usize, tried: &mut [bool], partner_of: &mut [Option<usize>]) -> bool {
+    for k in 0..old.len() {
+        if tried[k] || old[k] > new[source] {
+            continue;
+        }
+        tried[k] = true;
+        let free = match partner_of[k] {
+            None => true,
+            Some(other) => find_partner(old, new, other, tried, partner_of),
+        };
+        if free {
+            partner_of[k] = Some(source);
+            return true;
+        }
+    }
+    false
+}
+
+fn harder(old: &Stream, new: &Stream) -> Option<Reason> {
+    let label = u64::from(new.label.0);
+    match new {
+        s if s.period < old.period => Some(Reason::ShorterPeriod(label)),
+        s if s.jitter > old.jitter => Some(Reason::LongerJitter(label)),
+        s if s.payload > old.payload => Some(Reason::LongerPayload(label)),
+        s if s.deadline < old.deadline => Some(Reason::ShorterDeadline(label)),
+        _ => None,
+    }
+}
+
+/// The first stream that another one has overtaken. `places` has for each its old and its new priority.
+fn overtaken(places: &[(Priority, Priority)]) -> Option<usize> {
+    places.iter().position(|&(old, new)| {
+        // Without a branch, as nearly always no stream has overtaken.
+        places.iter().fold(false, |found, &(other_old, other_new)| found | ((other_new < new) & (other_old >= old)))
+    })
+}
+
+fn why_not_lighter(old: &Plan, new: &Plan) -> Option<Reason> {
+    if let Some(k) = (0..=NB).find(|&k| new.timing[k] > old.timing[k]) {
+        return Some(Reason::GreaterConstant(k as u64));
+    }
+    let mut places = Vec::with_capacity(new.streams.len());
+    for stream in &new.streams {
+        let Some(before) = old.streams.iter().find(|s| s.label == stream.label) else {
+            return Some(Reason::NewLabel(u64::from(stream.label.0)));
+        };
+        if let Some(reason) = harder(before, stream) {
+            return Some(reason);
+        }
+        places.push((before.priority, stream.priority));
+    }
+    if let Some(row) = overtaken(&places) {
+        return Some(Reason::LessUrgent(u64::from(new.streams[row].label.0)));
+    }
+    more_noise(&old.gaps, &new.gaps).map(|gap| Reason::MoreNoise(u64::from(gap)))
+}
+
+pub fn lighter(first: &[u8], second: &[u8]) -> Compared {
+    let old = match read(first) {
+        Ok(plan) => plan,
+        Err(refused) => return Compared::FirstRefused(refused),
+    };
+    let new = match read(second) {
+        Ok(plan) => plan,
+        Err(refused) => return Compared::SecondRefused(refused),
+    };
+    match why_not_lighter(&old, &new) {
+        None => Compared::Lighter,
+        Some(reason) => Compared::RunAgain(reason),
+    }
+}
+
+// ---- the tournament ----
+
+pub const PLACES: usize = 128;
+
+#[derive(Clone, Copy, Debug, PartialEq, Eq)]
+pub enum Phase {
+    AtBit(u32),
+    Finished(usize),
+    NoWinner,
+}
+
+#[derive(Clone, Copy, Debug, PartialEq, Eq)]
+pub struct Tournament {
+    pub bits: u32,
+    pub contenders: usize,
+    pub priorities: [Priority; PLACES],
+    pub marks: [bool; PLACES],
+    pub phase: Phase,
+}
+
+fn check_bits(bits: u32, priorities: &[Priority]) -> Result<(), Refused> {
+    if !fits(bits, 1, 32) {
+        return refused(8, 0);
+    }
+    let most = u32::MAX >> (32 - bits);
+    match priorities.iter().position(|p| p.0 > most) {
+        Some(row) => refused(8, row),
+        None => Ok(()),
+    }
+}
+
+fn check_distinct(priorities: &[Priority]) -> Result<(), Refused> {
+    match repeat(priorities.iter().map(|p| p.0)) {
+        Some(row) => refused(9, row),
+        None => Ok(()),
+    }
+}
+
+/// The bit, counted from 1 at the top, at which two priorities part.
+pub fn parting(bits: u32, first: u32, second: u32) -> Result<u64, Refused> {
+    let both = [Priority(first), Priority(second)];
+    check_bits(bits, &both)?;
+    check_distinct(&both)?;
+    Ok(u64::from((first ^ second).leading_zeros() - (32 - bits) + 1))
+}
+
+impl Tournament {
+    pub fn start(bits: u32, priorities: &[Priority]) -> Result<Tournament, Refused> {
+        let contenders = priorities.len();
+        if contenders == 0 || contenders > PLACES {
+            return refused(7, 0);
+        }
+        check_bits(bits, priorities)?;
+        check_distinct(priorities)?;
+        let mut places = [Priority(0); PLACES];
+        places[..contenders].copy_from_slice(priorities);
+        let marks = std::array::from_fn(|row| row < contenders);
+        Ok(Tournament { bits, contenders, priorities: places, marks, phase: Phase::AtBit(1) })
+    }
+
+    /// Refusals 7 to 9, for a state that a caller made up.
+    fn check(&self) -> Result<(), Refused> {
+        if self.contenders == 0 || self.contenders > PLACES {
+            return refused(7, 0);
+        }
+        let priorities = &self.priorities[..self.contenders];
+        check_bits(self.bits, priorities)?;
+        match self.phase {
+            Phase::AtBit(bit) if !fits(bit, 1, self.bits) => return refused(8, 0),
+            Phase::Finished(row) if row >= self.contenders => return refused(8, 0),
+            _ => {}
+        }
+        check_distinct(priorities)
+    }
+
+    /// The state after one more bit.
+    pub fn step(&self) -> Result<Tournament, Refused> {
+        self.check()?;
+        let Phase::AtBit(bit) = self.phase else {
+            return Ok(*self);
+        };
+        let mut next = *self;
+        next.silence(bit);
+        next.phase = match bit == self.bits {
+            true => next.end(),
+            false => Phase::AtBit(bit + 1),
+        };
+        Ok(next)
+    }
+
+    fn silence(&mut self, bit: u32) {
+        let shift = self.bits - bit;
+        let recessive = |p: Priority| p.0 >> shift & 1 == 1;
+        let heard = (0..self.contenders).any(|row| self.marks[row] && !recessive(self.priorities[row]));
+        for row in 0..self.contenders {
+            self.marks[row] &= !(heard && recessive(self.priorities[row]));
+        }
+    }
+
+    fn end(&self) -> Phase {
+        match self.marks[..self.contenders].iter().position(|&mark| mark) {
+            Some(row) => Phase::Finished(row),
+            None => Phase::NoWinner,
+        }
+    }
+}

@@ -1,0 +1,256 @@
+//! What the tests share: plans by hand, a generator, and counts of what was seen.
+#![allow(dead_code)]
+
+use livnakesh::plain::{self, Analysis, Label, Level, Plan, Priority, Stream};
+use std::collections::BTreeMap;
+use std::io::Write;
+
+pub const BASE: plain::Timing = [4, 1, 1, 2, 1, 1, 2, 1, 4];
+
+pub fn stream(label: u32, priority: u32, period: u32, jitter: u32, payload: u32, deadline: u32) -> Stream {
+    Stream { label: Label(label), priority: Priority(priority), period, jitter, payload, deadline }
+}
+
+/// The file of a plan, and whether its values are right or not.
+pub fn file_of(plan: &Plan) -> Vec<u8> {
+    let (n, m) = (plan.streams.len() as u32, plan.gaps.len() as u32);
+    let mut words = vec![1, 3, 1, 44, 36, 2, 80, 24 * n, 3, 80 + 24 * n, 4 * m];
+    words.extend(plan.timing);
+    for s in &plan.streams {
+        words.extend([s.label.0, s.priority.0, s.period, s.jitter, s.payload, s.deadline]);
+    }
+    words.extend(&plan.gaps);
+    words.iter().flat_map(|word| word.to_le_bytes()).collect()
+}
+
+pub fn hex(bytes: &[u8]) -> String {
+    bytes.iter().map(|byte| format!("{byte:02x}")).collect()
+}
+
+/// Xorshift, so that every run draws the same cases.
+pub struct Rng(pub u64);
+
+impl Rng {
+    pub fn next(&mut self) -> u64 {
+        self.0 ^= self.0 << 13;
+        self.0 ^= self.0 >> 7;
+        self.0 ^= self.0 << 17;
+        self.0.wrapping_mul(0x2545_F491_4F6C_DD1D) >> 16
+    }
+
+    /// 0 to `count` - 1.
+    pub fn below(&mut self, count: u64) -> u64 {
+        self.next() % count
+    }
+
+    pub fn within(&mut self, least: u64, most: u64) -> u64 {
+        least + self.below(most - least + 1)
+    }
+
+    pub fn one_in(&mut self, count: u64) -> bool {
+        self.below(count) == 0
+    }
+
+    pub fn pick<T: Copy>(&mut self, from: &[T]) -> T {
+        from[self.below(from.len() as u64) as usize]
+    }
+
+    /// A word of any magnitude: as often 3 bits long as 30.
+    pub fn wide(&mut self) -> u32 {
+        let bits = self.below(33);
+        (self.next() & ((1 << bits) - 1)) as u32
+    }
+
+    pub fn shuffle<T>(&mut self, items: &mut [T]) {
+        for k in (1..items.len()).rev() {
+            items.swap(k, self.below(k as u64 + 1) as usize);
+        }
+    }
+
+    /// Different words, in no order.
+    pub fn distinct(&mut self, count: usize, most: u32) -> Vec<u32> {
+        let mut found = Vec::new();
+        while found.len() < count {
+            let word = self.within(0, u64::from(most)) as u32;
+            if !found.contains(&word) {
+                found.push(word);
+            }
+        }
+        found
+    }
+}
+
+fn counts(rng: &mut Rng) -> (usize, usize) {
+    let n = match rng.below(10) {
+        0..=3 => rng.within(1, 4),
+        4..=6 => rng.within(1, 16),
+        7..=8 => rng.within(1, 64),
+        _ => 64,
+    };
+    let m = if rng.one_in(2) { 0 } else { rng.within(0, 8) };
+    (n as usize, m as usize)
+}
+
+fn bits_for(rng: &mut Rng, streams: usize) -> u32 {
+    let least = (streams as u64).next_power_of_two().trailing_zeros().max(1);
+    rng.within(u64::from(least), 32) as u32
+}
+
+fn timing(rng: &mut Rng, streams: usize) -> plain::Timing {
+    let most = rng.pick(&[0, 3, 20, 20, 1_000, 65_535]);
+    let mut timing = std::array::from_fn(|_| rng.within(0, most) as u32);
+    timing[plain::NB] = bits_for(rng, streams);
+    timing
+}
+
+fn jitter(rng: &mut Rng, habit: u64, period: u64) -> u32 {
+    let most = match habit {
+        0 => 0,
+        1 => period / 10,
+        2 => period,
+        3 => period * 6,
+        _ => u64::from(rng.wide()),
+    };
+    rng.within(0, most).min(u64::from(u32::MAX)) as u32
+}
+
+fn deadline(rng: &mut Rng, period: u64) -> u32 {
+    let ticks = match rng.below(5) {
+        0 => period,
+        1 => rng.within(1, 3 * period),
+        2 => period * rng.within(1, 20),
+        3 => period / 2,
+        _ => u64::from(rng.wide()),
+    };
+    ticks.clamp(1, u64::from(u32::MAX)) as u32
+}
+
+fn word(ticks: u64) -> u32 {
+    ticks.clamp(1, u64::from(u32::MAX)) as u32
+}
+
+/// A plan that would be accepted, with a load from light to well above all of the channel.
+pub fn plan(rng: &mut Rng) -> Plan {
+    let (n, m) = counts(rng);
+    plan_of(rng, n, m)
+}
+
+pub fn plan_of(rng: &mut Rng, n: usize, m: usize) -> Plan {
+    let timing = timing(rng, n);
+    let setup = plain::before(&timing) + plain::overhead(&timing);
+    let most_payload = rng.pick(&[1, 10, 100, 1_000, 65_535]);
+    let load = rng.pick(&[50, 300, 600, 800, 900, 950, 980, 990, 1_000, 1_010, 1_100, 1_500, 4_000]);
+    let skew = rng.within(1, 10);
+    let weights: Vec<u64> = (0..n).map(|_| rng.within(1, 1 << skew)).collect();
+    let all: u64 = weights.iter().sum();
+    let habit = rng.below(6);
+    let labels = rng.distinct(n, u32::MAX);
+    let priorities = rng.distinct(n, u32::MAX >> (32 - timing[plain::NB]));
+    let mut streams: Vec<Stream> = Vec::new();
+    for k in 0..n {
+        let payload = rng.within(1, most_payload);
+        let period = (setup + payload) * 1_000 * all / (load * weights[k]) + rng.below(3);
+        let period = period.clamp(1, u64::from(u32::MAX));
+        let jitter = jitter(rng, habit, period);
+        streams.push(stream(labels[k], priorities[k], period as u32, jitter, payload as u32, deadline(rng, period)));
+    }
+    let hit = setup + most_payload;
+    let share = rng.pick(&[5, 20, 50, 200]);
+    let gap = |rng: &mut Rng| match rng.below(8) {
+        0 => rng.wide().max(1),
+        _ => word(hit * 1_000 * m as u64 / share + rng.below(hit)),
+    };
+    let gaps = (0..m).map(|_| gap(rng)).collect();
+    Plan { timing, streams, gaps }
+}
+
+/// A plan with every field at or next to one of its limits.
+pub fn edge_plan(rng: &mut Rng) -> Plan {
+    let (n, m) = counts(rng);
+    let enough = bits_for(rng, n);
+    let bits = rng.pick(&[enough, 32]);
+    let most = u32::MAX >> (32 - bits);
+    let mut timing: plain::Timing = std::array::from_fn(|_| rng.pick(&[0, 0, 1, 65_534, 65_535]));
+    timing[plain::NB] = bits;
+    let priorities = rng.distinct(n, most);
+    let labels = rng.distinct(n, u32::MAX);
+    let wide = [1, 2, u32::MAX - 1, u32::MAX];
+    let streams = (0..n).map(|k| {
+        let priority = if k == 0 && !priorities.contains(&most) { most } else { priorities[k] };
+        let jitter = rng.pick(&[0, 1, u32::MAX - 1, u32::MAX]);
+        let period = rng.pick(&[1, 2, u32::MAX, u32::MAX, u32::MAX - 1, u32::MAX]);
+        stream(labels[k], priority, period, jitter, rng.pick(&[1, 2, 65_534, 65_535]), rng.pick(&wide))
+    });
+    let streams = streams.collect();
+    let gaps = (0..m).map(|_| rng.pick(&[1, u32::MAX, u32::MAX, u32::MAX - 1])).collect();
+    Plan { timing, streams, gaps }
+}
+
+/// The terms summed up in a plan's chains, or nothing if they are more than `most`; so that no case takes for ever.
+pub fn work(plan: &Plan, most: u64) -> Option<u64> {
+    let mut left = most;
+    for (k, level) in Analysis::new(plan).levels().enumerate() {
+        let terms = (k + 1 + plan.gaps.len()) as u64;
+        left -= work_at(&level, terms, left)?;
+    }
+    Some(most - left)
+}
+
+fn work_at(level: &Level, terms: u64, most: u64) -> Option<u64> {
+    let (mut spent, mut length) = (terms, 1);
+    loop {
+        let next = level.busy_step(length);
+        spent += terms;
+        if spent > most {
+            return None;
+        }
+        if next > u64::from(u32::MAX) {
+            return Some(spent);
+        }
+        if next == length {
+            break;
+        }
+        length = next;
+    }
+    let mut wait = 0;
+    for q in 0..level.instances(length) {
+        loop {
+            let next = level.wait_step(q, wait);
+            spent += terms;
+            if spent > most {
+                return None;
+            }
+            if next == wait {
+                break;
+            }
+            wait = next;
+        }
+    }
+    Some(spent)
+}
+
+/// How often each kind of case was seen.
+#[derive(Default)]
+pub struct Tally(BTreeMap<String, u64>);
+
+impl Tally {
+    pub fn count(&mut self, kind: impl Into<String>) {
+        *self.0.entry(kind.into()).or_default() += 1;
+    }
+
+    /// A test that never saw a kind has not tried it.
+    pub fn need(&self, kind: &str, least: u64) {
+        let seen = self.0.get(kind).copied().unwrap_or(0);
+        assert!(seen >= least, "only {seen} cases of {kind}");
+    }
+
+    /// Past the test harness, which keeps what a passing test prints to itself.
+    pub fn print(&self, title: &str) {
+        let mut text = format!("\n{title}\n");
+        for (kind, seen) in &self.0 {
+            text += &format!("{seen:>10}  {kind}\n");
+        }
+        let mut out = std::io::stdout().lock();
+        out.write_all(text.as_bytes()).and_then(|()| out.flush()).expect("standard output is open");
+    }
+}

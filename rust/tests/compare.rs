@@ -1,0 +1,813 @@
+//! The proved library and the plain planner on the same drawn inputs: answers, refusals with their places, and every byte
+//! and word of lent memory. Run it with --release; each test prints how many cases of each kind it tried.
+
+mod common;
+
+use common::{edge_plan, file_of, hex, plan, plan_of, stream, work, Rng, Tally, BASE};
+use livnakesh::plain::{self, Analysis, Label, Level, Phase, Plan, Priority, Stream, Tournament};
+use livnakesh::{Compared, Reason, Refused};
+
+/// The terms that one plan may sum up; longer chains have a test of their own.
+const MOST_WORK: u64 = 60_000;
+
+// ---- lent buffers ----
+
+/// Lent lengths around what is needed.
+fn lent(rng: &mut Rng, needed: usize, tally: &mut Tally) -> usize {
+    match rng.below(4) {
+        0 => {
+            tally.count("lent: too short");
+            rng.below(needed as u64) as usize
+        }
+        1 => {
+            tally.count("lent: exact");
+            needed
+        }
+        _ => {
+            tally.count("lent: longer");
+            needed + rng.within(1, 40) as usize
+        }
+    }
+}
+
+fn words(seed: u64, count: usize) -> Vec<u64> {
+    (1..=count as u64).map(|k| seed.wrapping_mul(2 * k + 1)).collect()
+}
+
+fn bytes(seed: u64, count: usize) -> Vec<u8> {
+    words(seed | 1, count).iter().map(|word| (word >> 24) as u8).collect()
+}
+
+fn tally_rows(tally: &mut Tally, rows: &[u64]) {
+    for row in rows.chunks_exact(2) {
+        tally.count(["row: met", "row: missed", "row: none"][row[0] as usize]);
+    }
+}
+
+fn tally_refusal<T>(tally: &mut Tally, said: Result<T, Refused>) {
+    match said {
+        Ok(_) => tally.count("answered"),
+        Err(refused) => tally.count(format!("refusal {}", refused.number)),
+    }
+}
+
+/// Streams and gaps of a file, or any counts if it is refused.
+fn counts(rng: &mut Rng, file: &[u8]) -> (usize, usize) {
+    match plain::read(file) {
+        Ok(plan) => (plan.streams.len(), plan.gaps.len()),
+        Err(_) => (rng.within(1, 64) as usize, rng.within(0, 8) as usize),
+    }
+}
+
+fn answers_alike(rng: &mut Rng, file: &[u8], tally: &mut Tally) -> Option<Vec<u64>> {
+    let (n, _) = counts(rng, file);
+    let found = words(rng.next(), lent(rng, 2 * n, tally));
+    let (mut proved, mut ours) = (found.clone(), found.clone());
+    let said = livnakesh::answers(file, &mut proved);
+    assert_eq!(said, plain::answers(file, &mut ours), "answers, {} words lent: {}", found.len(), hex(file));
+    assert_eq!(proved, ours, "answers, {} words lent: {}", found.len(), hex(file));
+    tally_refusal(tally, said);
+    let kept = if said.is_ok() { 2 * n } else { 0 };
+    assert_eq!(proved[kept..], found[kept..], "words after the answers: {}", hex(file));
+    tally_rows(tally, &proved[..kept]);
+    said.ok().map(|()| proved[..kept].to_vec())
+}
+
+fn rewrite_alike(rng: &mut Rng, file: &[u8], tally: &mut Tally) {
+    let (n, m) = counts(rng, file);
+    let found = bytes(rng.next(), lent(rng, plain::size(n, m), tally));
+    let (mut proved, mut ours) = (found.clone(), found.clone());
+    // At an odd address, since lent bytes need not be aligned.
+    let odd = [&[0], file].concat();
+    let said = livnakesh::rewrite(&odd[1..], &mut proved);
+    assert_eq!(said, plain::rewrite(file, &mut ours), "rewrite, {} bytes lent: {}", found.len(), hex(file));
+    assert_eq!(proved, ours, "rewrite, {} bytes lent: {}", found.len(), hex(file));
+    tally_refusal(tally, said);
+    let kept = said.unwrap_or(0);
+    assert_eq!(proved[kept..], found[kept..], "bytes after the file: {}", hex(file));
+    if kept > 0 {
+        assert_eq!(proved[..kept], *file, "a plan has one file: {}", hex(file));
+    }
+}
+
+/// Both functions on one file, if its chains are not too long.
+fn file_alike(rng: &mut Rng, file: &[u8], tally: &mut Tally) {
+    rewrite_alike(rng, file, tally);
+    match plain::read(file) {
+        Ok(plan) if work(&plan, MOST_WORK).is_none() => tally.count("chains too long, rewritten only"),
+        _ => {
+            answers_alike(rng, file, tally);
+        }
+    }
+}
+
+fn drawn(rng: &mut Rng, draw: fn(&mut Rng) -> Plan, tally: &mut Tally) -> Plan {
+    loop {
+        let plan = draw(rng);
+        if work(&plan, MOST_WORK).is_some() {
+            return plan;
+        }
+        tally.count("(chains too long, drawn again)");
+    }
+}
+
+fn need_all(tally: &Tally, kinds: &[&str], least: u64) {
+    for kind in kinds {
+        tally.need(kind, least);
+    }
+}
+
+// ---- answers ----
+
+fn load_in_percent(plan: &Plan) -> u64 {
+    let setup = plain::before(&plan.timing) + plain::overhead(&plan.timing);
+    let share = |s: &Stream| 1_000_000 * (setup + u64::from(s.payload)) / u64::from(s.period);
+    plan.streams.iter().map(share).sum::<u64>() / 10_000
+}
+
+fn tally_plan(tally: &mut Tally, plan: &Plan) {
+    tally.count(match load_in_percent(plan) {
+        0..=49 => "load: below 50 %",
+        50..=89 => "load: 50 to 89 %",
+        90..=99 => "load: 90 to 99 %",
+        _ => "load: 100 % and above",
+    });
+    tally.count(match plan.streams.len() {
+        1 => "streams: 1",
+        2..=15 => "streams: 2 to 15",
+        16..=63 => "streams: 16 to 63",
+        _ => "streams: 64",
+    });
+    tally.count(format!("gaps: {}", plan.gaps.len()));
+    tally.count(match plan.timing[plain::NB] {
+        1..=4 => "NB: 1 to 4",
+        5..=31 => "NB: 5 to 31",
+        _ => "NB: 32",
+    });
+}
+
+#[test]
+fn drawn_plans() {
+    let (mut rng, mut tally) = (Rng(0x1A7E), Tally::default());
+    for _ in 0..150_000 {
+        let plan = drawn(&mut rng, plan, &mut tally);
+        tally_plan(&mut tally, &plan);
+        let file = file_of(&plan);
+        rewrite_alike(&mut rng, &file, &mut tally);
+        answers_alike(&mut rng, &file, &mut tally);
+    }
+    tally.print("drawn plans");
+    need_all(&tally, &["row: met", "row: missed", "row: none", "refusal 6"], 10_000);
+    need_all(&tally, &["lent: too short", "lent: exact", "lent: longer", "streams: 1", "streams: 64"], 5_000);
+    need_all(&tally, &["load: below 50 %", "load: 50 to 89 %", "load: 90 to 99 %", "load: 100 % and above"], 5_000);
+    need_all(&tally, &["gaps: 0", "gaps: 8", "NB: 1 to 4", "NB: 5 to 31", "NB: 32"], 1_000);
+}
+
+#[test]
+fn plans_at_the_limits() {
+    let (mut rng, mut tally) = (Rng(0xED6E), Tally::default());
+    for _ in 0..50_000 {
+        let plan = drawn(&mut rng, edge_plan, &mut tally);
+        let file = file_of(&plan);
+        rewrite_alike(&mut rng, &file, &mut tally);
+        answers_alike(&mut rng, &file, &mut tally);
+    }
+    tally.print("plans with every field at or next to a limit");
+    need_all(&tally, &["row: met", "row: missed", "row: none"], 1_000);
+}
+
+/// Periods next to C'' and long jitters: hundreds of thousands of steps or instances each.
+#[test]
+fn long_chains() {
+    let (mut rng, mut tally) = (Rng(0x10E6), Tally::default());
+    for (payload, more, jitter) in
+        [(5, 0, 0), (5, 1, 0), (5, 1, 100_000), (5, 3, 1_000_000), (482, 0, 500), (4_982, 0, 1), (1, 2, 700_000)]
+    {
+        let period = payload + 18 + more;
+        for gaps in [vec![], vec![u32::MAX]] {
+            let mut streams = vec![stream(7, 3, period, jitter, payload, 1_000)];
+            for others in 0..2 {
+                let file = file_of(&Plan { timing: BASE, streams: streams.clone(), gaps: gaps.clone() });
+                tally.count("plans");
+                while answers_alike(&mut rng, &file, &mut tally).is_none() {}
+                streams.push(stream(8 + others, others, 40_000_000, 9, 11, 5_000_000));
+            }
+        }
+    }
+    tally.print("long chains");
+    need_all(&tally, &["row: met", "row: missed", "row: none"], 3);
+}
+
+/// A busy period of exactly 4,294,967,295 counts, and one of a tick more does not.
+#[test]
+fn busy_periods_at_the_horizon() {
+    let (mut rng, mut tally) = (Rng(0x4022), Tally::default());
+    // With T one more than C'', L is J times C''. F makes C'' of the payload.
+    for (f, jitter, wanted) in [(0, 65_537, true), (0, 65_538, false), (1, 65_535, true), (1, 65_536, false)] {
+        let timing = [f, 0, 0, 0, 0, 0, 0, 0, 1];
+        let plan = Plan { timing, streams: vec![stream(1, 0, 65_536 + f, jitter, 65_535, 1)], gaps: vec![] };
+        let length = u64::from(jitter) * u64::from(65_535 + f);
+        let busy_period = Analysis::new(&plan).levels().find_map(|level| level.busy_period());
+        assert_eq!(busy_period, wanted.then_some(length));
+        while answers_alike(&mut rng, &file_of(&plan), &mut tally).is_none() {}
+    }
+    tally.print("busy periods at the horizon");
+    need_all(&tally, &["row: missed", "row: none"], 2);
+}
+
+// ---- the plain planner against the rule's own words ----
+
+fn ceil(ticks: u64, by: u32) -> u64 {
+    ticks.div_ceil(u64::from(by))
+}
+
+/// The bound as document 01 says it: each least number is looked for by counting up. Nothing if L is more than `most`.
+fn bound_by_counting(plan: &Plan, row: usize, most: u64) -> Option<u64> {
+    let v = plain::before(&plan.timing);
+    let sent = |s: &Stream| u64::from(s.payload) + plain::overhead(&plan.timing);
+    let cost = |s: &Stream| v + sent(s);
+    let own = &plan.streams[row];
+    let urgent: Vec<&Stream> = plan.streams.iter().filter(|s| s.priority < own.priority).collect();
+    let blocking = plan.streams.iter().filter(|s| s.priority > own.priority).map(|s| sent(s) - 1).max().unwrap_or(0);
+    let dearest = urgent.iter().map(|s| cost(s)).chain([cost(own)]).max().unwrap_or(0);
+    let noise = |t: u64| plan.gaps.iter().map(|&gap| ceil(t, gap)).sum::<u64>() * dearest;
+    let sum = |t: u64| urgent.iter().map(|s| ceil(t + u64::from(s.jitter), s.period) * cost(s)).sum::<u64>();
+    let instances = |l: u64| ceil(l + u64::from(own.jitter), own.period);
+    let busy = (1..=most).find(|&l| l == blocking + sum(l) + instances(l) * cost(own) + noise(l))?;
+    let terms = (0..instances(busy)).map(|q| {
+        let right = |w: u64| blocking + q * cost(own) + sum(w + v + 1) + noise(w + cost(own));
+        let wait = (0..=busy - cost(own)).find(|&w| w == right(w)).expect("w(q) is never more than L - C''");
+        i128::from(own.jitter) + i128::from(wait + cost(own)) - i128::from(q) * i128::from(own.period)
+    });
+    terms.max().map(|largest| u64::try_from(largest).expect("the term for q = 0 is not below zero"))
+}
+
+fn small_plan(rng: &mut Rng) -> Plan {
+    let n = rng.within(1, 4) as usize;
+    let m = rng.below(3) as usize;
+    let mut plan = plan_of(rng, n, m);
+    plan.timing = std::array::from_fn(|_| rng.below(4) as u32);
+    plan.timing[plain::NB] = rng.within(2, 5) as u32;
+    let setup = (plain::before(&plan.timing) + plain::overhead(&plan.timing)) as u32;
+    for (k, s) in plan.streams.iter_mut().enumerate() {
+        s.priority = Priority(k as u32);
+        s.payload = rng.within(1, 9) as u32;
+        let even = u64::from(setup + s.payload) * n as u64;
+        s.period = if rng.one_in(3) { rng.within(1, 2 * even) } else { rng.within(even, even + even / 4) } as u32;
+        s.jitter = rng.below(3 * u64::from(s.period)) as u32 * rng.below(2) as u32;
+    }
+    rng.shuffle(&mut plan.streams);
+    plan.gaps.iter_mut().for_each(|gap| *gap = rng.within(20, 2_000) as u32);
+    plan
+}
+
+#[test]
+fn plain_planner_by_counting() {
+    let (mut rng, mut tally) = (Rng(0xC0DE), Tally::default());
+    for _ in 0..20_000 {
+        let plan = drawn(&mut rng, small_plan, &mut tally);
+        for level in Analysis::new(&plan).levels() {
+            let counted = bound_by_counting(&plan, level.row, 4_000);
+            let busy_period = level.busy_period();
+            if counted.is_none() && busy_period.is_some_and(|length| length > 4_000) {
+                tally.count("busy period too long to count");
+                continue;
+            }
+            assert_eq!(level.bound(), counted, "row {} of {}", level.row, hex(&file_of(&plan)));
+            tally.count(if counted.is_some() { "bound" } else { "none" });
+            tally.count(if later_is_worst(&level) { "worst: a later instance" } else { "worst: the first instance" });
+        }
+    }
+    tally.print("plain planner against the rule by counting up");
+    need_all(&tally, &["bound", "none", "worst: a later instance", "worst: the first instance"], 1_000);
+}
+
+fn later_is_worst(level: &Level) -> bool {
+    level.bound().is_some_and(|bound| bound > level.own.jitter + level.wait(0, 0) + level.own.cost)
+}
+
+// ---- files that are not right ----
+
+/// A word that is likely to break something: a limit, a neighbour, or a copy of another word of the file.
+fn bad_word(rng: &mut Rng, file: &[u8], old: u32) -> u32 {
+    let place = 4 * rng.below(file.len() as u64 / 4) as usize;
+    let copy = u32::from_le_bytes([file[place], file[place + 1], file[place + 2], file[place + 3]]);
+    let limits = [0, 1, 32, 33, 65_535, 65_536, u32::MAX];
+    match rng.below(4) {
+        0 => rng.pick(&limits),
+        1 => rng.pick(&[old.wrapping_add(1), old.wrapping_sub(1), old.wrapping_add(24), old.wrapping_sub(4)]),
+        2 => copy,
+        _ => rng.wide(),
+    }
+}
+
+/// One byte, one bit or one word; one in three among the contents and timing.
+fn damage(rng: &mut Rng, file: &mut [u8], tally: &mut Tally) {
+    let end = if rng.one_in(3) { 80 } else { file.len() };
+    let place = rng.below(end as u64) as usize;
+    match rng.below(3) {
+        0 => {
+            tally.count("damage: byte");
+            file[place] = rng.next() as u8;
+        }
+        1 => {
+            tally.count("damage: bit");
+            file[place] ^= 1 << rng.below(8);
+        }
+        _ => {
+            tally.count("damage: word");
+            let place = place.min(file.len() - 4) / 4 * 4;
+            let old = u32::from_le_bytes([file[place], file[place + 1], file[place + 2], file[place + 3]]);
+            let word = bad_word(rng, file, old);
+            file[place..place + 4].copy_from_slice(&word.to_le_bytes());
+        }
+    }
+}
+
+/// A field of one row copied to a later one.
+fn repeat(rng: &mut Rng, plan: &mut Plan, tally: &mut Tally) {
+    let n = plan.streams.len() as u64;
+    let (from, to) = (rng.below(n) as usize, rng.below(n) as usize);
+    match rng.below(3) {
+        0 => plan.streams[to].priority = plan.streams[from].priority,
+        1 => plan.streams[to].label = plan.streams[from].label,
+        _ => plan.streams[to] = plan.streams[from],
+    }
+    tally.count("damage: repeated field");
+}
+
+fn resize(rng: &mut Rng, file: &mut Vec<u8>, tally: &mut Tally) {
+    let length = file.len();
+    match rng.below(4) {
+        0 => file.truncate(rng.below(length as u64) as usize),
+        1 => file.truncate(length - rng.pick(&[1, 4, 24])),
+        2 => file.resize(length + rng.pick(&[1, 3, 4, 24, 28]), 1),
+        _ => file.resize(length + rng.within(1, 1_700) as usize, rng.next() as u8),
+    }
+    tally.count(if file.len() < length { "damage: truncated" } else { "damage: extended" });
+}
+
+fn damaged(rng: &mut Rng, plan: &Plan, tally: &mut Tally) -> Vec<u8> {
+    let mut plan = plan.clone();
+    let kind = rng.below(10);
+    if kind < 2 {
+        repeat(rng, &mut plan, tally);
+    }
+    let mut file = file_of(&plan);
+    match kind {
+        0..=1 => {}
+        2..=3 => resize(rng, &mut file, tally),
+        _ => damage(rng, &mut file, tally),
+    }
+    if rng.one_in(6) && file.len() >= 80 {
+        damage(rng, &mut file, tally);
+    }
+    file
+}
+
+#[test]
+fn damaged_files() {
+    let (mut rng, mut tally) = (Rng(0xDA3A6E), Tally::default());
+    for _ in 0..20_000 {
+        let plan = drawn(&mut rng, plan, &mut tally);
+        for _ in 0..15 {
+            let file = damaged(&mut rng, &plan, &mut tally);
+            file_alike(&mut rng, &file, &mut tally);
+        }
+    }
+    tally.print("damaged files");
+    need_all(&tally, &["refusal 1", "refusal 2", "refusal 3", "refusal 4", "refusal 5", "refusal 6", "answered"], 1_000);
+}
+
+/// Files of 1 to 64 streams with more or fewer in the contents, and counts that are out of range.
+#[test]
+fn contents_of_all_sizes() {
+    let (mut rng, mut tally) = (Rng(0x512E5), Tally::default());
+    for n in 0..=67_usize {
+        for m in 0..=10_usize {
+            let mut plan = plan_of(&mut rng, n.clamp(1, 64), m);
+            let last = plan.streams[0];
+            plan.streams.truncate(n);
+            plan.streams.resize(n, last);
+            let file = file_of(&plan);
+            file_alike(&mut rng, &file, &mut tally);
+            for place in 0..11 {
+                for change in [1, 4, 24, u32::MAX, 0x8000_0000] {
+                    let mut file = file.clone();
+                    let word =
+                        u32::from_le_bytes([file[4 * place], file[4 * place + 1], file[4 * place + 2], file[4 * place + 3]]);
+                    file[4 * place..4 * place + 4].copy_from_slice(&word.wrapping_add(change).to_le_bytes());
+                    file_alike(&mut rng, &file, &mut tally);
+                }
+            }
+        }
+    }
+    tally.print("contents of all sizes");
+    need_all(&tally, &["refusal 1", "refusal 2", "answered"], 100);
+}
+
+#[test]
+fn random_bytes() {
+    let (mut rng, mut tally) = (Rng(0xB17E5), Tally::default());
+    let start = file_of(&plan_of(&mut rng, 5, 2));
+    for _ in 0..100_000 {
+        let length = rng.within(0, 2_000) as usize;
+        let mut file = bytes(rng.next(), length);
+        if rng.one_in(2) {
+            let right = length.min(rng.within(0, 80) as usize);
+            file[..right].copy_from_slice(&start[..right]);
+        }
+        file_alike(&mut rng, &file, &mut tally);
+    }
+    for length in [0, 1, 43, 44, 45, 79, 80, 1_647, 1_648, 1_649] {
+        file_alike(&mut rng, &vec![0; length], &mut tally);
+    }
+    tally.print("random bytes, 0 to 2,000 of them");
+    need_all(&tally, &["refusal 1", "refusal 2"], 1_000);
+}
+
+/// Values lent to the writer meet the refusals that their file would.
+#[test]
+fn plain_writer_and_reader_agree() {
+    let (mut rng, mut tally) = (Rng(0x3217E), Tally::default());
+    for _ in 0..50_000 {
+        let mut plan = plan(&mut rng);
+        match rng.below(6) {
+            0 => plan.timing[rng.below(9) as usize] = rng.wide(),
+            1 => repeat(&mut rng, &mut plan, &mut tally),
+            2 => plan.streams[0].payload = rng.wide(),
+            3 => plan.gaps.extend([rng.wide(); 3]),
+            _ => {}
+        }
+        let file = file_of(&plan);
+        let mut buffer = vec![9; file.len()];
+        let wrote = plain::write(&plan, &mut buffer);
+        let mut again = vec![9; file.len()];
+        let proved = livnakesh::rewrite(&file, &mut again);
+        // Values have no length of their own, so counts that make a file too long are refused as counts.
+        let wanted = if file.len() > 1_648 { Err(Refused { number: 2, place: 0 }) } else { proved };
+        assert_eq!(wrote, wanted, "{}", hex(&file));
+        assert_eq!(buffer, again, "{}", hex(&file));
+        tally_refusal(&mut tally, wrote);
+    }
+    tally.print("plain writer on values against the library's reader on their file");
+    need_all(&tally, &["refusal 2", "refusal 3", "refusal 4", "refusal 5", "answered"], 100);
+}
+
+// ---- the lighter plan ----
+
+fn more(rng: &mut Rng, value: u32, most: u32) -> u32 {
+    let room = u64::from(most - value);
+    value
+        + match rng.below(3) {
+            0 => room.min(1),
+            1 => room.min(u64::from(rng.wide())),
+            _ => room.min(1 + u64::from(value / 4)),
+        } as u32
+}
+
+fn less(rng: &mut Rng, value: u32, least: u32) -> u32 {
+    match rng.below(3) {
+        0 => value.saturating_sub(1).max(least),
+        1 => rng.within(u64::from(least), u64::from(value)) as u32,
+        _ => (value - value / 4).max(least),
+    }
+}
+
+/// Other numbers in the same order of priority.
+fn renumber(rng: &mut Rng, plan: &mut Plan) {
+    let mut numbers = rng.distinct(plan.streams.len(), u32::MAX >> (32 - plan.timing[plain::NB]));
+    numbers.sort_unstable();
+    let mut order: Vec<usize> = (0..plan.streams.len()).collect();
+    order.sort_by_key(|&row| plan.streams[row].priority);
+    for (row, number) in order.into_iter().zip(numbers) {
+        plan.streams[row].priority = Priority(number);
+    }
+}
+
+fn ease_stream(rng: &mut Rng, s: &mut Stream) {
+    match rng.below(6) {
+        0 => s.period = more(rng, s.period, u32::MAX),
+        1 => s.jitter = less(rng, s.jitter, 0),
+        2 => s.payload = less(rng, s.payload, 1),
+        3 => s.deadline = more(rng, s.deadline, u32::MAX),
+        _ => {}
+    }
+}
+
+fn ease_gaps(rng: &mut Rng, gaps: &mut Vec<u32>) {
+    if rng.one_in(3) && !gaps.is_empty() {
+        gaps.remove(rng.below(gaps.len() as u64) as usize);
+    }
+    for gap in gaps.iter_mut() {
+        if rng.one_in(3) {
+            *gap = more(rng, *gap, u32::MAX);
+        }
+    }
+    rng.shuffle(gaps);
+}
+
+fn ease_timing(rng: &mut Rng, plan: &mut Plan) {
+    for k in 0..plain::NB {
+        if rng.one_in(4) {
+            plan.timing[k] = less(rng, plan.timing[k], 0);
+        }
+    }
+    let least = (plan.streams.len() as u64).next_power_of_two().trailing_zeros().max(1);
+    plan.timing[plain::NB] = less(rng, plan.timing[plain::NB], least);
+    renumber(rng, plan);
+}
+
+/// A lighter plan, in one respect or in all of them.
+fn eased(rng: &mut Rng, old: &Plan) -> Plan {
+    let mut new = old.clone();
+    let all = rng.one_in(3);
+    if (all || rng.one_in(4)) && new.streams.len() > 1 {
+        let pulled = rng.below(new.streams.len() as u64) as usize;
+        new.streams.remove(pulled);
+    }
+    if all || rng.one_in(4) {
+        new.streams.iter_mut().for_each(|s| ease_stream(rng, s));
+    }
+    if all || rng.one_in(4) {
+        ease_gaps(rng, &mut new.gaps);
+    }
+    if all || rng.one_in(4) {
+        ease_timing(rng, &mut new);
+    }
+    if all || rng.one_in(4) {
+        renumber(rng, &mut new);
+    }
+    if all || rng.one_in(4) {
+        rng.shuffle(&mut new.streams);
+    }
+    new
+}
+
+fn hurt_noise(rng: &mut Rng, new: &mut Plan) {
+    let (m, shortest) = (new.gaps.len() as u64, new.gaps.iter().copied().min().unwrap_or(1_000));
+    match rng.below(3) {
+        0 if m < 8 => new.gaps.push(rng.wide().max(1)),
+        1 if m > 0 => new.gaps[rng.below(m) as usize] = less(rng, shortest, 1),
+        // A repeat of another gap, which may have no second partner.
+        _ if m > 1 => new.gaps[rng.below(m) as usize] = new.gaps[rng.below(m) as usize],
+        _ => {}
+    }
+}
+
+/// Breaks one condition, unless a limit is in the way. Values of the old plan count, not those of an eased one.
+fn hurt(rng: &mut Rng, old: &Plan, new: &mut Plan, condition: u64) {
+    let row = rng.below(new.streams.len() as u64) as usize;
+    let other = rng.below(new.streams.len() as u64) as usize;
+    let Some(before) = old.streams.iter().find(|s| s.label == new.streams[row].label).copied() else {
+        return;
+    };
+    let stream = &mut new.streams[row];
+    match condition {
+        1 => {
+            let k = rng.below(9) as usize;
+            new.timing[k] = more(rng, old.timing[k], if k == plain::NB { 32 } else { 65_535 });
+        }
+        2 => stream.label = Label(rng.next() as u32),
+        3 => stream.period = less(rng, before.period, 1),
+        4 => stream.jitter = more(rng, before.jitter, u32::MAX),
+        5 => stream.payload = more(rng, before.payload, 65_535),
+        6 => stream.deadline = less(rng, before.deadline, 1),
+        7 => {
+            let kept = new.streams[row].priority;
+            new.streams[row].priority = new.streams[other].priority;
+            new.streams[other].priority = kept;
+        }
+        _ => hurt_noise(rng, new),
+    }
+}
+
+/// Demand 3 as it is stated, for two plans that are not refused.
+fn demand_3(old: &Plan, new: &Plan) -> bool {
+    let find = |label: Label| old.streams.iter().find(|s| s.label == label);
+    let no_harder = |s: &Stream| {
+        find(s.label)
+            .is_some_and(|o| s.period >= o.period && s.deadline >= o.deadline && s.jitter <= o.jitter && s.payload <= o.payload)
+    };
+    let in_order = |a: &Stream, b: &Stream| match (find(a.label), find(b.label)) {
+        (Some(old_a), Some(old_b)) => (a.priority < b.priority) == (old_a.priority < old_b.priority),
+        _ => false,
+    };
+    new.streams.iter().all(no_harder)
+        && new.streams.iter().all(|a| new.streams.iter().all(|b| in_order(a, b)))
+        && new.timing.iter().zip(old.timing).all(|(&new, old)| new <= old)
+        && plain::partnered(&old.gaps, &new.gaps)
+}
+
+/// What "lighter" promises: a bound stays one and grows no larger, and met stays met.
+fn promise_kept(old: &Plan, new: &Plan, tally: &mut Tally) {
+    if work(old, MOST_WORK).is_none() || work(new, MOST_WORK).is_none() {
+        return tally.count("promise: chains too long");
+    }
+    let (mut before, mut after) = ([9; 128], [9; 128]);
+    let said = livnakesh::answers(&file_of(old), &mut before).and(livnakesh::answers(&file_of(new), &mut after));
+    assert_eq!(said, Ok(()));
+    for (row, stream) in new.streams.iter().enumerate() {
+        let old_row = old.streams.iter().position(|s| s.label == stream.label).expect("a lighter plan has no new label");
+        let (was, is) = (&before[2 * old_row..2 * old_row + 2], &after[2 * row..2 * row + 2]);
+        let kept = was[0] == 2 || (is[0] <= was[0] && is[1] <= was[1]);
+        assert!(kept, "row {row} has {is:?} after {was:?}: {} and {}", hex(&file_of(old)), hex(&file_of(new)));
+        tally.count(["promise: row was met", "promise: row was missed", "promise: row had none"][was[0] as usize]);
+    }
+    tally.count("promise: pair run");
+}
+
+fn condition(reason: Reason) -> String {
+    match reason {
+        Reason::GreaterConstant(k) => format!("condition 1, constant {k}"),
+        Reason::NewLabel(_) => "condition 2, new label".into(),
+        Reason::ShorterPeriod(_) => "condition 3, shorter period".into(),
+        Reason::LongerJitter(_) => "condition 4, longer jitter".into(),
+        Reason::LongerPayload(_) => "condition 5, longer payload".into(),
+        Reason::ShorterDeadline(_) => "condition 6, shorter deadline".into(),
+        Reason::LessUrgent(_) => "condition 7, less urgent".into(),
+        Reason::MoreNoise(_) => "condition 8, more noise".into(),
+    }
+}
+
+fn lighter_alike(first: &[u8], second: &[u8], tally: &mut Tally) -> Compared {
+    let said = livnakesh::lighter(first, second);
+    assert_eq!(said, plain::lighter(first, second), "lighter: {} and {}", hex(first), hex(second));
+    tally.count(match said {
+        Compared::Lighter => "lighter".into(),
+        Compared::FirstRefused(refused) => format!("first refused {}", refused.number),
+        Compared::SecondRefused(refused) => format!("second refused {}", refused.number),
+        Compared::RunAgain(reason) => condition(reason),
+    });
+    said
+}
+
+fn pair_alike(old: &Plan, new: &Plan, tally: &mut Tally) {
+    let (first, second) = (file_of(old), file_of(new));
+    let said = lighter_alike(&first, &second, tally);
+    if plain::check(old).and(plain::check(new)).is_err() {
+        return;
+    }
+    let counted = plain::more_noise(&old.gaps, &new.gaps).is_none();
+    assert_eq!(plain::partnered(&old.gaps, &new.gaps), counted, "gaps {:?} and {:?}", old.gaps, new.gaps);
+    assert_eq!(said == Compared::Lighter, demand_3(old, new), "lighter: {} and {}", hex(&first), hex(&second));
+    if said == Compared::Lighter {
+        promise_kept(old, new, tally);
+    }
+}
+
+/// Gaps from few values, so that many repeat.
+fn repeat_gaps(rng: &mut Rng, plan: &mut Plan) {
+    let few = [rng.wide().max(1), rng.wide().max(1), 40_000];
+    plan.gaps.iter_mut().for_each(|gap| *gap = rng.pick(&few));
+}
+
+#[test]
+fn pairs_of_plans() {
+    let (mut rng, mut tally) = (Rng(0x116473), Tally::default());
+    for _ in 0..25_000 {
+        let mut old = plan(&mut rng);
+        if rng.one_in(3) {
+            repeat_gaps(&mut rng, &mut old);
+        }
+        pair_alike(&old, &old, &mut tally);
+        let easy = eased(&mut rng, &old);
+        pair_alike(&old, &easy, &mut tally);
+        pair_alike(&easy, &old, &mut tally);
+        for mut new in [old.clone(), easy.clone(), easy] {
+            let condition = rng.within(1, 8);
+            hurt(&mut rng, &old, &mut new, condition);
+            pair_alike(&old, &new, &mut tally);
+            let condition = rng.within(1, 8);
+            hurt(&mut rng, &old, &mut new, condition);
+            pair_alike(&old, &new, &mut tally);
+        }
+        let (mut first, mut second) = (damaged(&mut rng, &old, &mut Tally::default()), file_of(&old));
+        lighter_alike(&first, &second, &mut tally);
+        std::mem::swap(&mut first, &mut second);
+        lighter_alike(&first, &second, &mut tally);
+        lighter_alike(&damaged(&mut rng, &old, &mut Tally::default()), &second, &mut tally);
+    }
+    tally.print("pairs of plans");
+    tally.need("lighter", 10_000);
+    for k in 0..9 {
+        tally.need(&format!("condition 1, constant {k}"), 100);
+    }
+    need_all(&tally, &["condition 2, new label", "condition 3, shorter period", "condition 4, longer jitter"], 500);
+    need_all(&tally, &["condition 5, longer payload", "condition 6, shorter deadline", "condition 7, less urgent"], 500);
+    need_all(
+        &tally,
+        &["condition 8, more noise", "promise: row was met", "promise: row was missed", "promise: row had none"],
+        500,
+    );
+    for number in 1..=5 {
+        need_all(&tally, &[&format!("first refused {number}"), &format!("second refused {number}")], 100);
+    }
+}
+
+#[test]
+fn partners_of_gaps_by_matching_and_by_counting() {
+    let (mut rng, mut tally) = (Rng(0x6A95), Tally::default());
+    for _ in 0..200_000 {
+        let most = rng.within(1, 12);
+        let [old, new] = [0, 1].map(|_| (0..rng.below(9)).map(|_| rng.within(1, most) as u32).collect::<Vec<u32>>());
+        let matched = plain::partnered(&old, &new);
+        assert_eq!(matched, plain::more_noise(&old, &new).is_none(), "gaps {old:?} and {new:?}");
+        tally.count(if matched { "all have partners" } else { "one has none" });
+    }
+    tally.print("gaps");
+    need_all(&tally, &["all have partners", "one has none"], 10_000);
+}
+
+// ---- the tournament ----
+
+fn parting_alike(bits: u32, first: u32, second: u32, tally: &mut Tally) {
+    let said = livnakesh::parting(bits, first, second);
+    assert_eq!(said, plain::parting(bits, first, second), "parting: {bits} bits, {first} and {second}");
+    tally_refusal(tally, said);
+}
+
+#[test]
+fn parting_bits() {
+    let (mut rng, mut tally) = (Rng(0x9A27), Tally::default());
+    let edges = [0, 1, 2, 3, 0x7FFF_FFFF, 0x8000_0000, 0x8000_0001, u32::MAX - 1, u32::MAX];
+    for bits in (0..=40).chain([64, 0x8000_0000, u32::MAX]) {
+        let most = if bits < 32 { (1 << bits) - 1 } else { u32::MAX };
+        let near = [most, most.wrapping_add(1), most / 2, most / 2 + 1];
+        for first in edges.into_iter().chain(near) {
+            for second in edges.into_iter().chain(near) {
+                parting_alike(bits, first, second, &mut tally);
+            }
+        }
+    }
+    for _ in 0..400_000 {
+        let bits = rng.within(0, 34) as u32;
+        let first = rng.wide();
+        let second = if rng.one_in(8) { first } else { rng.wide() };
+        parting_alike(bits, first, second, &mut tally);
+        parting_alike(rng.within(1, 32) as u32, first & 15, first & 15 ^ rng.below(16) as u32, &mut tally);
+    }
+    tally.print("parting bits");
+    need_all(&tally, &["answered", "refusal 8", "refusal 9"], 10_000);
+}
+
+/// The plain tournament from a start: the smallest wins, and the library says where each loser goes silent.
+#[test]
+fn losers_go_silent_where_they_part() {
+    let (mut rng, mut tally) = (Rng(0x7042), Tally::default());
+    for _ in 0..5_000 {
+        let bits = rng.within(1, 32) as u32;
+        let most = u32::MAX >> (32 - bits);
+        let contenders = rng.within(1, 128.min(u64::from(most) + 1)) as usize;
+        let priorities: Vec<Priority> = rng.distinct(contenders, most).into_iter().map(Priority).collect();
+        let mut state = Tournament::start(bits, &priorities).expect("different priorities that fit");
+        let winner = (0..contenders).min_by_key(|&row| priorities[row]).expect("a contender");
+        while let Phase::AtBit(bit) = state.phase {
+            let next = state.step().expect("a state from a start");
+            for row in (0..contenders).filter(|&row| state.marks[row] && !next.marks[row]) {
+                assert_eq!(livnakesh::parting(bits, priorities[winner].0, priorities[row].0), Ok(u64::from(bit)));
+                tally.count("loser silent where it parts");
+            }
+            state = next;
+        }
+        assert_eq!(state.phase, Phase::Finished(winner));
+        assert_eq!(state.step(), Ok(state));
+        assert!((0..128).all(|row| state.marks[row] == (row == winner)));
+        tally.count("tournament");
+    }
+    tally.print("tournaments of the plain planner");
+    tally.need("loser silent where it parts", 10_000);
+}
+
+fn made_up(bits: u32, priorities: &[u32], phase: Phase) -> Tournament {
+    let mut state = Tournament { bits, contenders: priorities.len(), priorities: [Priority(0); 128], marks: [true; 128], phase };
+    for (place, &priority) in state.priorities.iter_mut().zip(priorities) {
+        *place = Priority(priority);
+    }
+    state
+}
+
+#[test]
+fn made_up_states_of_the_plain_tournament() {
+    let refused = |number, place| Err(Refused { number, place });
+    let of = |contenders: usize, state: Tournament| Tournament { contenders, ..state };
+    let at = Phase::AtBit;
+    assert_eq!(Tournament::start(0, &[]), refused(7, 0));
+    assert_eq!(Tournament::start(8, &[Priority(0); 129]), refused(7, 0));
+    assert_eq!(of(0, made_up(0, &[], at(9))).step(), refused(7, 0));
+    assert_eq!(of(129, made_up(0, &[1, 1], Phase::NoWinner)).step(), refused(7, 0));
+    assert_eq!(made_up(0, &[1, 1], at(1)).step(), refused(8, 0));
+    assert_eq!(made_up(33, &[1, 1], Phase::Finished(5)).step(), refused(8, 0));
+    assert_eq!(made_up(3, &[1, 8, 9], at(0)).step(), refused(8, 1));
+    assert_eq!(made_up(3, &[1, 2, 2], at(0)).step(), refused(8, 0));
+    assert_eq!(made_up(3, &[1, 2, 2], at(4)).step(), refused(8, 0));
+    assert_eq!(made_up(3, &[1, 2, 2], Phase::Finished(3)).step(), refused(8, 0));
+    assert_eq!(made_up(3, &[1, 2, 2], Phase::Finished(2)).step(), refused(9, 2));
+    assert_eq!(made_up(3, &[1, 2, 2], Phase::NoWinner).step(), refused(9, 2));
+    let none = Tournament { marks: [false; 128], ..made_up(3, &[1, 2], at(3)) };
+    assert_eq!(none.step().map(|next| next.phase), Ok(Phase::NoWinner));
+    assert_eq!(made_up(3, &[4, 6], at(3)).step().map(|next| next.phase), Ok(Phase::Finished(0)));
+    // Marks beyond the contenders are not heard and not touched.
+    let next = made_up(3, &[7, 5], at(2)).step().expect("a state that is right");
+    assert_eq!((next.marks[0], next.marks[1], next.marks[2], next.phase), (false, true, true, at(3)));
+}

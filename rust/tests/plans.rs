@@ -1,0 +1,166 @@
+//! Document 01's plans to run, with its figures, through the proved library and the plain planner.
+
+mod common;
+
+use common::{file_of, stream, BASE};
+use livnakesh::plain::{self, Analysis, Level, Phase, Plan, Priority, Tournament};
+use livnakesh::{rows, Answer, Refused};
+
+/// 10.1, 10.10 and 11.2.
+const LABELS: [u32; 3] = [0xa_0001, 0xa_000a, 0xb_0002];
+
+#[rustfmt::skip]
+const P1: [u8; 152] = [
+    // contents: edition, entries, then kind, start and length of each
+    1, 0, 0, 0,  3, 0, 0, 0,
+    1, 0, 0, 0,  44, 0, 0, 0,  36, 0, 0, 0,
+    2, 0, 0, 0,  80, 0, 0, 0,  72, 0, 0, 0,
+    3, 0, 0, 0,  152, 0, 0, 0,  0, 0, 0, 0,
+    // F 4, E 1, TFCS 1, SWX 2, H 1, G 1, ETG 2, LAG 1, NB 4
+    4, 0, 0, 0,  1, 0, 0, 0,  1, 0, 0, 0,  2, 0, 0, 0,  1, 0, 0, 0,  1, 0, 0, 0,  2, 0, 0, 0,  1, 0, 0, 0,  4, 0, 0, 0,
+    // label, priority, T, J, C, D
+    1, 0, 10, 0,   1, 0, 0, 0,  100, 0, 0, 0,  0, 0, 0, 0,   5, 0, 0, 0,  60, 0, 0, 0,
+    10, 0, 10, 0,  2, 0, 0, 0,  150, 0, 0, 0,  10, 0, 0, 0,  7, 0, 0, 0,  120, 0, 0, 0,
+    2, 0, 11, 0,   3, 0, 0, 0,  144, 1, 0, 0,  0, 0, 0, 0,   2, 0, 0, 0,  200, 0, 0, 0,
+];
+
+fn p1() -> Plan {
+    let streams =
+        vec![stream(LABELS[0], 1, 100, 0, 5, 60), stream(LABELS[1], 2, 150, 10, 7, 120), stream(LABELS[2], 3, 400, 0, 2, 200)];
+    Plan { timing: BASE, streams, gaps: vec![] }
+}
+
+fn single(period: u32, jitter: u32) -> Plan {
+    Plan { timing: BASE, streams: vec![stream(LABELS[0], 1, period, jitter, 5, 60)], gaps: vec![] }
+}
+
+fn p7() -> Plan {
+    let streams = vec![stream(1, 1, 25, 0, 10, 25), stream(2, 2, 35, 0, 10, 35), stream(3, 3, 35, 0, 10, 35)];
+    Plan { timing: [0, 0, 0, 0, 0, 0, 0, 0, 4], streams, gaps: vec![] }
+}
+
+fn answers(file: &[u8]) -> Result<Vec<Answer>, Refused> {
+    let mut words = [77; 2 * 64];
+    let proved = livnakesh::answers(file, &mut words);
+    let mut plain_words = [77; 2 * 64];
+    assert_eq!(plain::answers(file, &mut plain_words), proved);
+    assert_eq!(plain_words, words);
+    let n = plain::read(file).map_or(0, |plan| plan.streams.len());
+    assert!(words[2 * n..].iter().all(|&word| word == 77));
+    proved.map(|()| rows(&words[..2 * n]).collect())
+}
+
+fn rewritten(file: &[u8]) -> Result<Vec<u8>, Refused> {
+    let mut buffer = [77; 2_000];
+    let proved = livnakesh::rewrite(file, &mut buffer);
+    let mut plain_buffer = [77; 2_000];
+    assert_eq!(plain::rewrite(file, &mut plain_buffer), proved);
+    assert_eq!(plain_buffer, buffer);
+    proved.map(|length| buffer[..length].to_vec())
+}
+
+fn gives(plan: &Plan, wanted: &[Answer]) {
+    let file = file_of(plan);
+    assert_eq!(answers(&file), Ok(wanted.to_vec()));
+    assert_eq!(rewritten(&file), Ok(file));
+}
+
+fn is_refused(file: &[u8], number: u64, place: u64) {
+    let wanted = Refused { number, place };
+    assert_eq!(answers(file), Err(wanted));
+    assert_eq!(rewritten(file), Err(wanted));
+    assert_eq!(livnakesh::lighter(file, &P1), livnakesh::Compared::FirstRefused(wanted));
+    assert_eq!(livnakesh::lighter(&P1, file), livnakesh::Compared::SecondRefused(wanted));
+}
+
+fn at_level<T>(plan: &Plan, row: usize, say: impl Fn(&Level) -> T) -> T {
+    let analysis = Analysis::new(plan);
+    let level = analysis.levels().find(|level| level.row == row).expect("the plan has the row");
+    say(&level)
+}
+
+#[test]
+fn p1_is_its_152_bytes_and_all_is_met() {
+    assert_eq!(file_of(&p1()), P1);
+    let mut buffer = [0; 152];
+    assert_eq!(plain::write(&p1(), &mut buffer), Ok(152));
+    assert_eq!(buffer, P1);
+    gives(&p1(), &[Answer::Met(39), Answer::Met(69), Answer::Met(68)]);
+    assert_eq!((plain::before(&BASE), plain::overhead(&BASE)), (8, 10));
+    assert_eq!([0, 1, 2].map(|row| at_level(&p1(), row, |level| level.own.cost)), [23, 25, 20]);
+}
+
+#[test]
+fn p2_has_one_noise_source() {
+    let plan = Plan { gaps: vec![1_000], ..p1() };
+    gives(&plan, &[Answer::Missed(62), Answer::Met(94), Answer::Met(93)]);
+}
+
+#[test]
+fn p3_takes_no_busy_period_of_0() {
+    gives(&single(23, 0), &[Answer::Met(23)]);
+    assert_eq!(at_level(&single(23, 0), 0, |level| level.busy_period()), Some(23));
+}
+
+#[test]
+fn p4_has_none() {
+    gives(&single(22, 0), &[Answer::None]);
+}
+
+#[test]
+fn p5_has_none_for_its_jitter() {
+    gives(&single(23, 23), &[Answer::None]);
+}
+
+#[test]
+fn p6_has_five_instances() {
+    gives(&single(30, 30), &[Answer::Met(53)]);
+    let busy_period = |level: &Level| level.busy_period().map(|length| (length, level.instances(length)));
+    assert_eq!(at_level(&single(30, 30), 0, busy_period), Some((115, 5)));
+}
+
+#[test]
+fn p7_is_latest_at_its_second_instance() {
+    gives(&p7(), &[Answer::Met(19), Answer::Met(29), Answer::Met(35)]);
+    assert_eq!(at_level(&p7(), 2, |level| level.busy_period()), Some(70));
+    assert_eq!(at_level(&p7(), 2, |level| (level.wait(0, 0), level.wait(1, 0))), (20, 60));
+}
+
+#[test]
+fn p8_and_p9_repeat_a_priority() {
+    let mut plan = p1();
+    plan.streams[1].priority = Priority(1);
+    is_refused(&file_of(&plan), 4, 1);
+    plan.streams[1].label = plan.streams[0].label;
+    is_refused(&file_of(&plan), 4, 1);
+}
+
+#[test]
+fn p10_is_too_short() {
+    is_refused(&P1[..43], 1, 0);
+}
+
+#[test]
+fn p11_has_a_payload_of_0() {
+    let mut file = P1;
+    file[96] = 0;
+    is_refused(&file, 3, 96);
+}
+
+/// The library's parting bit says where each loser goes silent.
+#[test]
+fn p12_is_won_by_row_1() {
+    let priorities = [Priority(5), Priority(3), Priority(6)];
+    let mut state = Tournament::start(4, &priorities).expect("three contenders");
+    let mut marks = vec![];
+    while let Phase::AtBit(_) = state.phase {
+        state = state.step().expect("a state from a start");
+        marks.push([state.marks[0], state.marks[1], state.marks[2]]);
+    }
+    assert_eq!(state.phase, Phase::Finished(1));
+    assert_eq!(marks, [[true; 3], [false, true, false], [false, true, false], [false, true, false]]);
+    assert_eq!(state.step(), Ok(state));
+    for loser in [5, 6] {
+        assert_eq!(livnakesh::parting(4, 3, loser), Ok(2));
+    }
+}
