@@ -34,6 +34,27 @@ struct livnakesh_weighed {
     uint64_t value;
 };
 
+/* A stream's six words, in the file's order. */
+struct livnakesh_stream {
+    uint32_t label;
+    uint32_t priority;
+    uint32_t period;
+    uint32_t jitter;
+    uint32_t payload;
+    uint32_t deadline;
+};
+
+/* A tournament after a call. refusal 0: done, and place is 0. Otherwise the refusal's number and place.
+ * phase 0: at a bit, and at is its number, counted from 1 at the top.
+ * phase 1: finished, and at is the winner's row.
+ * phase 2: finished with no winner, and at is 0. */
+struct livnakesh_stepped {
+    uint64_t refusal;
+    uint64_t place;
+    uint64_t phase;
+    uint64_t at;
+};
+
 /* The answers of a plan file: two words a row in file order, verdict (0 met, 1 missed, 2 none) and then the bound
  * (0 for none). Words after 2n stay as found. Refusals 1 to 6; 6 if fewer than 2n words are lent. value is 0. */
 struct livnakesh_said livnakesh_answers(const uint8_t *file, size_t file_length, uint64_t *words, size_t word_count);
@@ -41,6 +62,20 @@ struct livnakesh_said livnakesh_answers(const uint8_t *file, size_t file_length,
 /* Reads a plan file and writes its plan's file at the start of the lent buffer; the rest of the buffer is kept.
  * value is the number of bytes written, 80 + 24n + 4m. Refusals 1 to 6; 6 if fewer bytes than that are lent. */
 struct livnakesh_said livnakesh_rewrite(const uint8_t *file, size_t file_length, uint8_t *buffer, size_t buffer_length);
+
+/* Writes the file of so many streams (n) and gaps (m) at the start of the lent buffer; the rest of the buffer is kept.
+ * values are the nine timing words, six words a stream and then the gaps, as in the file after its contents. A word that is not
+ * lent is 0, and words after 9 + 6n + m are not looked at. value is the number of bytes written, 80 + 24n + 4m.
+ * Refusals 2 to 6, with the places that the file would have; 6 if fewer bytes than that are lent. */
+struct livnakesh_said livnakesh_write(size_t streams, size_t gaps, const uint32_t *values, size_t value_count,
+                                      uint8_t *buffer, size_t buffer_length);
+
+/* The answers of the screen's values, as livnakesh_answers gives them for their file. timing is nine words, F to NB: one that is
+ * not lent is 0, and words after them are not looked at. The lists' own lengths are n and m.
+ * Refusals 2 to 6, with the places that the file would have; 6 if fewer than 2n words are lent. value is 0. */
+struct livnakesh_said livnakesh_screen(const struct livnakesh_stream *streams, size_t stream_count,
+                                       const uint32_t *timing, size_t timing_count, const uint32_t *gaps, size_t gap_count,
+                                       uint64_t *words, size_t word_count);
 
 /* The bit at which two priorities part: the first from the top, counted from 1, at which they differ.
  * Refusal 8 if the bit count is not 1 to 32 (place 0) or a priority does not fit in it (its row, 0 or 1);
@@ -50,6 +85,21 @@ struct livnakesh_said livnakesh_parting(uint32_t bits, uint32_t first, uint32_t 
 /* Whether the plan in the second file is lighter than that in the first: every stream of it that has a bound in the first
  * then has one in the second, no larger, and what was met is met. */
 struct livnakesh_weighed livnakesh_lighter(const uint8_t *first, size_t first_length, const uint8_t *second, size_t second_length);
+
+/* A tournament's state is its bit count, its number of contenders, its phase, and 128 priorities and marks, of which the first
+ * 128 that are lent are taken: a priority that is not lent is 0, and a mark that is not lent is out. A mark is a byte, in if it
+ * is not 0. A call that is not refused makes each of the first 128 lent marks 1 for in or 0 for out; the bytes after them stay
+ * as found. Refusals 7 to 9. */
+
+/* The start of a tournament, at bit 1 with all contenders in and the other places out. What stands in the marks is not looked
+ * at. A refused start has phase 2, at 0. */
+struct livnakesh_stepped livnakesh_start(uint32_t bits, size_t contenders, const uint32_t *priorities, size_t priority_count,
+                                         uint8_t *marks, size_t mark_count);
+
+/* One step, from a state of the caller's own making; phase and at are as in livnakesh_stepped, and a phase above 2 is as 2.
+ * A finished tournament stays as it is. A refused step hands back the phase that was lent. */
+struct livnakesh_stepped livnakesh_step(uint32_t bits, size_t contenders, uint32_t phase, uint32_t at,
+                                        const uint32_t *priorities, size_t priority_count, uint8_t *marks, size_t mark_count);
 
 #ifdef __cplusplus
 }

@@ -2,6 +2,32 @@
 
 pub mod plain;
 
+/// What is painted on the node.
+#[derive(Clone, Copy, Debug, PartialEq, Eq, PartialOrd, Ord)]
+#[repr(transparent)]
+pub struct Label(pub u32);
+
+/// What decides a tournament; the smaller number is the more urgent one.
+#[derive(Clone, Copy, Debug, PartialEq, Eq, PartialOrd, Ord)]
+#[repr(transparent)]
+pub struct Priority(pub u32);
+
+/// A place, counted from 0.
+#[derive(Clone, Copy, Debug, PartialEq, Eq, PartialOrd, Ord)]
+pub struct Row(pub u32);
+
+/// A stream's six words in the file's order, and in C's layout.
+#[derive(Clone, Copy, Debug, PartialEq, Eq)]
+#[repr(C)]
+pub struct Stream {
+    pub label: Label,
+    pub priority: Priority,
+    pub period: u32,
+    pub jitter: u32,
+    pub payload: u32,
+    pub deadline: u32,
+}
+
 /// The number and place of document 01's refusals.
 #[derive(Clone, Copy, Debug, PartialEq, Eq)]
 pub struct Refused {
@@ -38,6 +64,21 @@ pub enum Compared {
     RunAgain(Reason),
 }
 
+/// Where a tournament is: at a bit with its number, finished with the winner's row, or finished without one.
+#[derive(Clone, Copy, Debug, PartialEq, Eq)]
+pub enum Phase {
+    AtBit(u32),
+    Finished(Row),
+    NoWinner,
+}
+
+/// A tournament after a call. A refused step has the phase that was lent, and a refused start no winner.
+#[derive(Clone, Copy, Debug, PartialEq, Eq)]
+pub struct Outcome {
+    pub answer: Result<(), Refused>,
+    pub phase: Phase,
+}
+
 #[repr(C)]
 struct Said {
     refusal: u64,
@@ -51,11 +92,55 @@ struct Weighed {
     value: u64,
 }
 
+#[repr(C)]
+struct Stepped {
+    refusal: u64,
+    place: u64,
+    phase: u64,
+    at: u64,
+}
+
 extern "C" {
     fn livnakesh_answers(file: *const u8, file_length: usize, words: *mut u64, word_count: usize) -> Said;
     fn livnakesh_rewrite(file: *const u8, file_length: usize, buffer: *mut u8, buffer_length: usize) -> Said;
+    fn livnakesh_write(
+        streams: usize,
+        gaps: usize,
+        values: *const u32,
+        value_count: usize,
+        buffer: *mut u8,
+        buffer_length: usize,
+    ) -> Said;
+    fn livnakesh_screen(
+        streams: *const Stream,
+        stream_count: usize,
+        timing: *const u32,
+        timing_count: usize,
+        gaps: *const u32,
+        gap_count: usize,
+        words: *mut u64,
+        word_count: usize,
+    ) -> Said;
     fn livnakesh_parting(bits: u32, first: u32, second: u32) -> Said;
     fn livnakesh_lighter(first: *const u8, first_length: usize, second: *const u8, second_length: usize) -> Weighed;
+    fn livnakesh_start(
+        bits: u32,
+        contenders: usize,
+        priorities: *const Priority,
+        priority_count: usize,
+        marks: *mut u8,
+        mark_count: usize,
+    ) -> Stepped;
+    fn livnakesh_step(
+        bits: u32,
+        contenders: usize,
+        phase: u32,
+        at: u32,
+        priorities: *const Priority,
+        priority_count: usize,
+        marks: *mut u8,
+        mark_count: usize,
+    ) -> Stepped;
 }
 
 fn said(said: Said) -> Result<u64, Refused> {
@@ -75,6 +160,33 @@ pub fn answers(file: &[u8], words: &mut [u64]) -> Result<(), Refused> {
 pub fn rewrite(file: &[u8], buffer: &mut [u8]) -> Result<usize, Refused> {
     // SAFETY: both slices outlive the call, and the library stays within them.
     said(unsafe { livnakesh_rewrite(file.as_ptr(), file.len(), buffer.as_mut_ptr(), buffer.len()) }).map(|n| n as usize)
+}
+
+/// Writes the file of so many streams and gaps at the start of `buffer`; hands back how many bytes it wrote.
+///
+/// `values` are the nine timing words, six words a stream and then the gaps. A word that is not lent is 0.
+pub fn write(streams: usize, gaps: usize, values: &[u32], buffer: &mut [u8]) -> Result<usize, Refused> {
+    // SAFETY: both slices outlive the call, and the library stays within them.
+    said(unsafe { livnakesh_write(streams, gaps, values.as_ptr(), values.len(), buffer.as_mut_ptr(), buffer.len()) })
+        .map(|n| n as usize)
+}
+
+/// As `answers`, of records. The timing is the first nine words; one that is not lent is 0.
+pub fn screen(streams: &[Stream], timing: &[u32], gaps: &[u32], words: &mut [u64]) -> Result<(), Refused> {
+    // SAFETY: the slices outlive the call, the library stays within them, and a stream is in C's layout.
+    let answered = unsafe {
+        livnakesh_screen(
+            streams.as_ptr(),
+            streams.len(),
+            timing.as_ptr(),
+            timing.len(),
+            gaps.as_ptr(),
+            gaps.len(),
+            words.as_mut_ptr(),
+            words.len(),
+        )
+    };
+    said(answered).map(|_| ())
 }
 
 /// The bit, counted from 1 at the top, at which two priorities part.
@@ -111,7 +223,42 @@ fn reason(condition: u64, value: u64) -> Reason {
     }
 }
 
-/// The rows that `answers` wrote, in file order.
+/// A tournament at its first bit, with all contenders marked in.
+///
+/// The first 128 priorities are taken, and one that is not lent is 0. The first 128 lent marks become 1 for in and 0 for out,
+/// unless the start is refused; what stood there is not looked at.
+pub fn start(bits: u32, contenders: usize, priorities: &[Priority], marks: &mut [u8]) -> Outcome {
+    // SAFETY: both slices outlive the call, the library stays within them, and a priority is laid out as its number.
+    outcome(unsafe { livnakesh_start(bits, contenders, priorities.as_ptr(), priorities.len(), marks.as_mut_ptr(), marks.len()) })
+}
+
+/// A tournament one bit later, from a state of any making; slices as for `start`.
+///
+/// A mark is in if its byte is not 0, and one that is not lent is out.
+pub fn step(bits: u32, contenders: usize, phase: Phase, priorities: &[Priority], marks: &mut [u8]) -> Outcome {
+    let (phase, at) = match phase {
+        Phase::AtBit(bit) => (0, bit),
+        Phase::Finished(row) => (1, row.0),
+        Phase::NoWinner => (2, 0),
+    };
+    // SAFETY: both slices outlive the call, the library stays within them, and a priority is laid out as its number.
+    outcome(unsafe {
+        livnakesh_step(bits, contenders, phase, at, priorities.as_ptr(), priorities.len(), marks.as_mut_ptr(), marks.len())
+    })
+}
+
+fn outcome(stepped: Stepped) -> Outcome {
+    let at = u32::try_from(stepped.at).expect("the library's contract has bits and rows of 32 bits");
+    let phase = match stepped.phase {
+        0 => Phase::AtBit(at),
+        1 => Phase::Finished(Row(at)),
+        2 => Phase::NoWinner,
+        other => panic!("the library's contract has no phase {other}"),
+    };
+    Outcome { answer: said(Said { refusal: stepped.refusal, value: stepped.place }).map(|_| ()), phase }
+}
+
+/// The rows that `answers` or `screen` wrote, in file order.
 pub fn rows(words: &[u64]) -> impl Iterator<Item = Answer> + '_ {
     words.chunks_exact(2).map(|row| match row[0] {
         0 => Answer::Met(row[1]),

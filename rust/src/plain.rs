@@ -1,23 +1,7 @@
 //! The same planner in plain Rust, written from document 01 alone. The tests compare the proved library with it, and the
 //! benchmark takes it as what ordinary means give.
 
-use crate::{Compared, Reason, Refused};
-
-#[derive(Clone, Copy, Debug, PartialEq, Eq, PartialOrd, Ord)]
-pub struct Label(pub u32);
-
-#[derive(Clone, Copy, Debug, PartialEq, Eq, PartialOrd, Ord)]
-pub struct Priority(pub u32);
-
-#[derive(Clone, Copy, Debug, PartialEq, Eq)]
-pub struct Stream {
-    pub label: Label,
-    pub priority: Priority,
-    pub period: u32,
-    pub jitter: u32,
-    pub payload: u32,
-    pub deadline: u32,
-}
+use crate::{Compared, Label, Phase, Priority, Reason, Refused, Row, Stream};
 
 /// F, E, TFCS, SWX, H, G, ETG, LAG and then NB, as in the file.
 pub type Timing = [u32; 9];
@@ -395,16 +379,26 @@ fn answer(bound: Option<u64>, deadline: u32) -> [u64; 2] {
     }
 }
 
-pub fn answers(file: &[u8], words: &mut [u64]) -> Result<(), Refused> {
-    let plan = read(file)?;
+/// Answers a plan whose values are known to be right.
+fn answer_checked(plan: &Plan, words: &mut [u64]) -> Result<(), Refused> {
     let Some(rows) = words.get_mut(..2 * plan.streams.len()) else {
         return refused(6, 0);
     };
-    for level in Analysis::new(&plan).levels() {
+    for level in Analysis::new(plan).levels() {
         let row = level.row;
         rows[2 * row..2 * row + 2].copy_from_slice(&answer(level.bound(), plan.streams[row].deadline));
     }
     Ok(())
+}
+
+/// The answers that the screen gets for its values.
+pub fn screen(plan: &Plan, words: &mut [u64]) -> Result<(), Refused> {
+    check(plan)?;
+    answer_checked(plan, words)
+}
+
+pub fn answers(file: &[u8], words: &mut [u64]) -> Result<(), Refused> {
+    answer_checked(&read(file)?, words)
 }
 
 // ---- the lighter plan ----
@@ -499,13 +493,6 @@ pub fn lighter(first: &[u8], second: &[u8]) -> Compared {
 pub const PLACES: usize = 128;
 
 #[derive(Clone, Copy, Debug, PartialEq, Eq)]
-pub enum Phase {
-    AtBit(u32),
-    Finished(usize),
-    NoWinner,
-}
-
-#[derive(Clone, Copy, Debug, PartialEq, Eq)]
 pub struct Tournament {
     pub bits: u32,
     pub contenders: usize,
@@ -563,7 +550,7 @@ impl Tournament {
         check_bits(self.bits, priorities)?;
         match self.phase {
             Phase::AtBit(bit) if !fits(bit, 1, self.bits) => return refused(8, 0),
-            Phase::Finished(row) if row >= self.contenders => return refused(8, 0),
+            Phase::Finished(row) if row.0 as usize >= self.contenders => return refused(8, 0),
             _ => {}
         }
         check_distinct(priorities)
@@ -595,7 +582,7 @@ impl Tournament {
 
     fn end(&self) -> Phase {
         match self.marks[..self.contenders].iter().position(|&mark| mark) {
-            Some(row) => Phase::Finished(row),
+            Some(row) => Phase::Finished(Row(row as u32)),
             None => Phase::NoWinner,
         }
     }

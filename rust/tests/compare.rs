@@ -1,55 +1,16 @@
-//! The proved library and the plain planner on the same drawn inputs: answers, refusals with their places, and every byte
+//! The proved library and the plain planner on the same drawn files: answers, refusals with their places, and every byte
 //! and word of lent memory. Run it with --release; each test prints how many cases of each kind it tried.
 
 mod common;
 
-use common::{edge_plan, file_of, hex, plan, plan_of, stream, work, Rng, Tally, BASE};
-use livnakesh::plain::{self, Analysis, Label, Level, Phase, Plan, Priority, Stream, Tournament};
-use livnakesh::{Compared, Reason, Refused};
+use common::{
+    bytes, drawn, edge_plan, file_of, hex, lent, need_all, plan, plan_of, repeat, stream, tally_refusal, tally_rows, words, work,
+    Rng, Tally, BASE, MOST_WORK,
+};
+use livnakesh::plain::{self, Analysis, Level, Plan};
+use livnakesh::{Compared, Label, Priority, Reason, Refused, Stream};
 
-/// The terms that one plan may sum up; longer chains have a test of their own.
-const MOST_WORK: u64 = 60_000;
-
-// ---- lent buffers ----
-
-/// Lent lengths around what is needed.
-fn lent(rng: &mut Rng, needed: usize, tally: &mut Tally) -> usize {
-    match rng.below(4) {
-        0 => {
-            tally.count("lent: too short");
-            rng.below(needed as u64) as usize
-        }
-        1 => {
-            tally.count("lent: exact");
-            needed
-        }
-        _ => {
-            tally.count("lent: longer");
-            needed + rng.within(1, 40) as usize
-        }
-    }
-}
-
-fn words(seed: u64, count: usize) -> Vec<u64> {
-    (1..=count as u64).map(|k| seed.wrapping_mul(2 * k + 1)).collect()
-}
-
-fn bytes(seed: u64, count: usize) -> Vec<u8> {
-    words(seed | 1, count).iter().map(|word| (word >> 24) as u8).collect()
-}
-
-fn tally_rows(tally: &mut Tally, rows: &[u64]) {
-    for row in rows.chunks_exact(2) {
-        tally.count(["row: met", "row: missed", "row: none"][row[0] as usize]);
-    }
-}
-
-fn tally_refusal<T>(tally: &mut Tally, said: Result<T, Refused>) {
-    match said {
-        Ok(_) => tally.count("answered"),
-        Err(refused) => tally.count(format!("refusal {}", refused.number)),
-    }
-}
+// ---- both on one file ----
 
 /// Streams and gaps of a file, or any counts if it is refused.
 fn counts(rng: &mut Rng, file: &[u8]) -> (usize, usize) {
@@ -98,22 +59,6 @@ fn file_alike(rng: &mut Rng, file: &[u8], tally: &mut Tally) {
         _ => {
             answers_alike(rng, file, tally);
         }
-    }
-}
-
-fn drawn(rng: &mut Rng, draw: fn(&mut Rng) -> Plan, tally: &mut Tally) -> Plan {
-    loop {
-        let plan = draw(rng);
-        if work(&plan, MOST_WORK).is_some() {
-            return plan;
-        }
-        tally.count("(chains too long, drawn again)");
-    }
-}
-
-fn need_all(tally: &Tally, kinds: &[&str], least: u64) {
-    for kind in kinds {
-        tally.need(kind, least);
     }
 }
 
@@ -322,18 +267,6 @@ fn damage(rng: &mut Rng, file: &mut [u8], tally: &mut Tally) {
             file[place..place + 4].copy_from_slice(&word.to_le_bytes());
         }
     }
-}
-
-/// A field of one row copied to a later one.
-fn repeat(rng: &mut Rng, plan: &mut Plan, tally: &mut Tally) {
-    let n = plan.streams.len() as u64;
-    let (from, to) = (rng.below(n) as usize, rng.below(n) as usize);
-    match rng.below(3) {
-        0 => plan.streams[to].priority = plan.streams[from].priority,
-        1 => plan.streams[to].label = plan.streams[from].label,
-        _ => plan.streams[to] = plan.streams[from],
-    }
-    tally.count("damage: repeated field");
 }
 
 fn resize(rng: &mut Rng, file: &mut Vec<u8>, tally: &mut Tally) {
@@ -717,97 +650,4 @@ fn partners_of_gaps_by_matching_and_by_counting() {
     }
     tally.print("gaps");
     need_all(&tally, &["all have partners", "one has none"], 10_000);
-}
-
-// ---- the tournament ----
-
-fn parting_alike(bits: u32, first: u32, second: u32, tally: &mut Tally) {
-    let said = livnakesh::parting(bits, first, second);
-    assert_eq!(said, plain::parting(bits, first, second), "parting: {bits} bits, {first} and {second}");
-    tally_refusal(tally, said);
-}
-
-#[test]
-fn parting_bits() {
-    let (mut rng, mut tally) = (Rng(0x9A27), Tally::default());
-    let edges = [0, 1, 2, 3, 0x7FFF_FFFF, 0x8000_0000, 0x8000_0001, u32::MAX - 1, u32::MAX];
-    for bits in (0..=40).chain([64, 0x8000_0000, u32::MAX]) {
-        let most = if bits < 32 { (1 << bits) - 1 } else { u32::MAX };
-        let near = [most, most.wrapping_add(1), most / 2, most / 2 + 1];
-        for first in edges.into_iter().chain(near) {
-            for second in edges.into_iter().chain(near) {
-                parting_alike(bits, first, second, &mut tally);
-            }
-        }
-    }
-    for _ in 0..400_000 {
-        let bits = rng.within(0, 34) as u32;
-        let first = rng.wide();
-        let second = if rng.one_in(8) { first } else { rng.wide() };
-        parting_alike(bits, first, second, &mut tally);
-        parting_alike(rng.within(1, 32) as u32, first & 15, first & 15 ^ rng.below(16) as u32, &mut tally);
-    }
-    tally.print("parting bits");
-    need_all(&tally, &["answered", "refusal 8", "refusal 9"], 10_000);
-}
-
-/// The plain tournament from a start: the smallest wins, and the library says where each loser goes silent.
-#[test]
-fn losers_go_silent_where_they_part() {
-    let (mut rng, mut tally) = (Rng(0x7042), Tally::default());
-    for _ in 0..5_000 {
-        let bits = rng.within(1, 32) as u32;
-        let most = u32::MAX >> (32 - bits);
-        let contenders = rng.within(1, 128.min(u64::from(most) + 1)) as usize;
-        let priorities: Vec<Priority> = rng.distinct(contenders, most).into_iter().map(Priority).collect();
-        let mut state = Tournament::start(bits, &priorities).expect("different priorities that fit");
-        let winner = (0..contenders).min_by_key(|&row| priorities[row]).expect("a contender");
-        while let Phase::AtBit(bit) = state.phase {
-            let next = state.step().expect("a state from a start");
-            for row in (0..contenders).filter(|&row| state.marks[row] && !next.marks[row]) {
-                assert_eq!(livnakesh::parting(bits, priorities[winner].0, priorities[row].0), Ok(u64::from(bit)));
-                tally.count("loser silent where it parts");
-            }
-            state = next;
-        }
-        assert_eq!(state.phase, Phase::Finished(winner));
-        assert_eq!(state.step(), Ok(state));
-        assert!((0..128).all(|row| state.marks[row] == (row == winner)));
-        tally.count("tournament");
-    }
-    tally.print("tournaments of the plain planner");
-    tally.need("loser silent where it parts", 10_000);
-}
-
-fn made_up(bits: u32, priorities: &[u32], phase: Phase) -> Tournament {
-    let mut state = Tournament { bits, contenders: priorities.len(), priorities: [Priority(0); 128], marks: [true; 128], phase };
-    for (place, &priority) in state.priorities.iter_mut().zip(priorities) {
-        *place = Priority(priority);
-    }
-    state
-}
-
-#[test]
-fn made_up_states_of_the_plain_tournament() {
-    let refused = |number, place| Err(Refused { number, place });
-    let of = |contenders: usize, state: Tournament| Tournament { contenders, ..state };
-    let at = Phase::AtBit;
-    assert_eq!(Tournament::start(0, &[]), refused(7, 0));
-    assert_eq!(Tournament::start(8, &[Priority(0); 129]), refused(7, 0));
-    assert_eq!(of(0, made_up(0, &[], at(9))).step(), refused(7, 0));
-    assert_eq!(of(129, made_up(0, &[1, 1], Phase::NoWinner)).step(), refused(7, 0));
-    assert_eq!(made_up(0, &[1, 1], at(1)).step(), refused(8, 0));
-    assert_eq!(made_up(33, &[1, 1], Phase::Finished(5)).step(), refused(8, 0));
-    assert_eq!(made_up(3, &[1, 8, 9], at(0)).step(), refused(8, 1));
-    assert_eq!(made_up(3, &[1, 2, 2], at(0)).step(), refused(8, 0));
-    assert_eq!(made_up(3, &[1, 2, 2], at(4)).step(), refused(8, 0));
-    assert_eq!(made_up(3, &[1, 2, 2], Phase::Finished(3)).step(), refused(8, 0));
-    assert_eq!(made_up(3, &[1, 2, 2], Phase::Finished(2)).step(), refused(9, 2));
-    assert_eq!(made_up(3, &[1, 2, 2], Phase::NoWinner).step(), refused(9, 2));
-    let none = Tournament { marks: [false; 128], ..made_up(3, &[1, 2], at(3)) };
-    assert_eq!(none.step().map(|next| next.phase), Ok(Phase::NoWinner));
-    assert_eq!(made_up(3, &[4, 6], at(3)).step().map(|next| next.phase), Ok(Phase::Finished(0)));
-    // Marks beyond the contenders are not heard and not touched.
-    let next = made_up(3, &[7, 5], at(2)).step().expect("a state that is right");
-    assert_eq!((next.marks[0], next.marks[1], next.marks[2], next.phase), (false, true, true, at(3)));
 }

@@ -2,9 +2,9 @@
 
 mod common;
 
-use common::{file_of, stream, BASE};
-use livnakesh::plain::{self, Analysis, Level, Phase, Plan, Priority, Tournament};
-use livnakesh::{rows, Answer, Refused};
+use common::{file_of, stream, values_of, BASE};
+use livnakesh::plain::{self, Analysis, Level, Plan, Tournament};
+use livnakesh::{rows, Answer, Outcome, Phase, Priority, Refused, Row};
 
 /// 10.1, 10.10 and 11.2.
 const LABELS: [u32; 3] = [0xa_0001, 0xa_000a, 0xb_0002];
@@ -59,10 +59,35 @@ fn rewritten(file: &[u8]) -> Result<Vec<u8>, Refused> {
     proved.map(|length| buffer[..length].to_vec())
 }
 
+/// The file that the library writes of a plan's values.
+fn written(plan: &Plan) -> Result<Vec<u8>, Refused> {
+    let mut buffer = [77; 2_000];
+    let length = livnakesh::write(plan.streams.len(), plan.gaps.len(), &values_of(plan), &mut buffer)?;
+    assert!(buffer[length..].iter().all(|&byte| byte == 77));
+    Ok(buffer[..length].to_vec())
+}
+
+/// What the screen gets for a plan's values.
+fn screened(plan: &Plan) -> Result<Vec<Answer>, Refused> {
+    let mut words = [77; 2 * 64];
+    livnakesh::screen(&plan.streams, &plan.timing, &plan.gaps, &mut words)?;
+    let n = plan.streams.len();
+    assert!(words[2 * n..].iter().all(|&word| word == 77));
+    Ok(rows(&words[..2 * n]).collect())
+}
+
 fn gives(plan: &Plan, wanted: &[Answer]) {
     let file = file_of(plan);
     assert_eq!(answers(&file), Ok(wanted.to_vec()));
+    assert_eq!(screened(plan), Ok(wanted.to_vec()));
+    assert_eq!(written(plan).as_ref(), Ok(&file));
     assert_eq!(rewritten(&file), Ok(file));
+}
+
+fn values_are_refused(plan: &Plan, number: u64, place: u64) {
+    is_refused(&file_of(plan), number, place);
+    assert_eq!(written(plan), Err(Refused { number, place }));
+    assert_eq!(screened(plan), Err(Refused { number, place }));
 }
 
 fn is_refused(file: &[u8], number: u64, place: u64) {
@@ -85,6 +110,7 @@ fn p1_is_its_152_bytes_and_all_is_met() {
     let mut buffer = [0; 152];
     assert_eq!(plain::write(&p1(), &mut buffer), Ok(152));
     assert_eq!(buffer, P1);
+    assert_eq!(written(&p1()), Ok(P1.to_vec()));
     gives(&p1(), &[Answer::Met(39), Answer::Met(69), Answer::Met(68)]);
     assert_eq!((plain::before(&BASE), plain::overhead(&BASE)), (8, 10));
     assert_eq!([0, 1, 2].map(|row| at_level(&p1(), row, |level| level.own.cost)), [23, 25, 20]);
@@ -130,9 +156,9 @@ fn p7_is_latest_at_its_second_instance() {
 fn p8_and_p9_repeat_a_priority() {
     let mut plan = p1();
     plan.streams[1].priority = Priority(1);
-    is_refused(&file_of(&plan), 4, 1);
+    values_are_refused(&plan, 4, 1);
     plan.streams[1].label = plan.streams[0].label;
-    is_refused(&file_of(&plan), 4, 1);
+    values_are_refused(&plan, 4, 1);
 }
 
 #[test]
@@ -145,21 +171,31 @@ fn p11_has_a_payload_of_0() {
     let mut file = P1;
     file[96] = 0;
     is_refused(&file, 3, 96);
+    let mut plan = p1();
+    plan.streams[0].payload = 0;
+    values_are_refused(&plan, 3, 96);
 }
 
-/// The library's parting bit says where each loser goes silent.
+/// By the library, whose parting bit also says where each loser goes silent, and by the plain tournament.
 #[test]
 fn p12_is_won_by_row_1() {
     let priorities = [Priority(5), Priority(3), Priority(6)];
+    let done = |phase| Outcome { answer: Ok(()), phase };
     let mut state = Tournament::start(4, &priorities).expect("three contenders");
-    let mut marks = vec![];
-    while let Phase::AtBit(_) = state.phase {
+    let mut marks = [77; 3];
+    let mut said = livnakesh::start(4, 3, &priorities, &mut marks);
+    assert_eq!(marks, [1, 1, 1]);
+    for (bit, left) in (1..).zip([[1, 1, 1], [0, 1, 0], [0, 1, 0], [0, 1, 0]]) {
+        assert_eq!((said, state.phase), (done(Phase::AtBit(bit)), Phase::AtBit(bit)));
+        said = livnakesh::step(4, 3, said.phase, &priorities, &mut marks);
         state = state.step().expect("a state from a start");
-        marks.push([state.marks[0], state.marks[1], state.marks[2]]);
+        assert_eq!((marks, [0, 1, 2].map(|row| u8::from(state.marks[row]))), (left, left), "after bit {bit}");
     }
-    assert_eq!(state.phase, Phase::Finished(1));
-    assert_eq!(marks, [[true; 3], [false, true, false], [false, true, false], [false, true, false]]);
+    let won = Phase::Finished(Row(1));
+    assert_eq!((said, state.phase), (done(won), won));
+    assert_eq!(livnakesh::step(4, 3, won, &priorities, &mut marks), done(won));
     assert_eq!(state.step(), Ok(state));
+    assert_eq!(marks, [0, 1, 0]);
     for loser in [5, 6] {
         assert_eq!(livnakesh::parting(4, 3, loser), Ok(2));
     }

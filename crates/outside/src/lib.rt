@@ -76,15 +76,21 @@ fn done(value: u64) -> Said
     Said { refusal: 0, value }
 }
 
+fn checked(answer: Checked) -> Said
+    ensures { λ s. ⌜ s ≡ number.checked answer ⌝ }
+{
+    match answer {
+        Checked::Fine => done(0),
+        Checked::Refused(r) => refused(r),
+    }
+}
+
 // The answer words of a file's plan.
 #[no_mangle]
 pub extern "C" fn livnakesh_answers(file: &[u8], out: &mut [u64]) -> Said
     ensures { λ s. ⌜ (s ≡ number.checked (answerFileOf (now (file .entry)) (now (out .entry)) .0)) × (now (out .exit) ≡ answerFileOf (now (file .entry)) (now (out .entry)) .1) ⌝ }
 {
-    match answer_file(file, out) {
-        Checked::Fine => done(0),
-        Checked::Refused(r) => refused(r),
-    }
+    checked(answer_file(file, out))
 }
 
 // The plan in a file, written again into lent bytes.
@@ -112,15 +118,6 @@ pub extern "C" fn livnakesh_write(n: usize, m: usize, values: &[u32], out: &mut 
     match write(sheet_from(n, m, values), out) {
         Written::Bytes(bytes) => done(bytes as u64),
         Written::Refused(r) => refused(r),
-    }
-}
-
-fn checked(answer: Checked) -> Said
-    ensures { λ s. ⌜ s ≡ number.checked answer ⌝ }
-{
-    match answer {
-        Checked::Fine => done(0),
-        Checked::Refused(r) => refused(r),
     }
 }
 

@@ -109,10 +109,10 @@ pub fn sheet_from(n: usize, m: usize, values: &[u32]) -> Sheet
     let streams = streams_from(values, rows);
     let gaps = gaps_from(values, rows, smaller(m, SOURCES));
     Sheet {
-        timing: timing,
-        streams: streams,
+        timing,
+        streams,
         count: n,
-        gaps: gaps,
+        gaps,
         sources: m,
     }
 }

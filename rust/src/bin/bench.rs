@@ -1,9 +1,11 @@
 //! The proved library and the plain planner on the same inputs in one process, in turn, the best of several rounds.
 //!
 //! Lent buffers are not cleared between calls: every call writes its whole answer over the last one, and neither side reads
-//! what it finds there. A call goes from the file's bytes to the answer, so it has the reading and all its checks in it.
+//! what it finds there. A call goes from the file's bytes to the answer, so it has the reading and all its checks in it. Of a
+//! tournament every step is a call of its own, in which both sides check the whole state again.
 
-use livnakesh::plain::{self, Label, Plan, Priority, Stream, Timing};
+use livnakesh::plain::{self, Plan, Timing, Tournament};
+use livnakesh::{Label, Outcome, Phase, Priority, Row, Stream};
 use std::hint::black_box;
 use std::time::{Duration, Instant};
 
@@ -121,6 +123,41 @@ fn parting_row(name: &str) {
     );
 }
 
+/// From a start to the winner, a call for the start and one for each bit.
+fn proved_tournament(bits: u32, priorities: &[Priority], marks: &mut [u8]) -> Outcome {
+    let mut state = livnakesh::start(bits, priorities.len(), priorities, marks);
+    while let Outcome { answer: Ok(()), phase: Phase::AtBit(_) } = state {
+        state = livnakesh::step(bits, priorities.len(), state.phase, priorities, marks);
+    }
+    state
+}
+
+fn plain_tournament(bits: u32, priorities: &[Priority]) -> Result<Tournament, livnakesh::Refused> {
+    let mut state = Tournament::start(bits, priorities)?;
+    while let Phase::AtBit(_) = state.phase {
+        state = state.step()?;
+    }
+    Ok(state)
+}
+
+fn tournament_row(name: &str) {
+    // An odd factor keeps the rows different, and parts them at bits all over the 32.
+    let priorities: Vec<Priority> = (1..=128_u32).map(|k| Priority(k.wrapping_mul(0x9E37_79B1))).collect();
+    let winner = (0..128).min_by_key(|&row| priorities[row as usize]).map(Row).expect("contenders");
+    let mut marks = [0; 128];
+    let proved = proved_tournament(32, &priorities, &mut marks);
+    assert_eq!(proved, Outcome { answer: Ok(()), phase: Phase::Finished(winner) });
+    let ours = plain_tournament(32, &priorities).expect("different priorities that fit");
+    assert_eq!((ours.phase, ours.marks.map(u8::from)), (proved.phase, marks));
+    let priorities = &priorities[..];
+    row(
+        name,
+        ROUNDS,
+        &mut || _ = black_box(proved_tournament(black_box(32), black_box(priorities), black_box(&mut marks))),
+        &mut || _ = black_box(plain_tournament(black_box(32), black_box(priorities))),
+    );
+}
+
 fn main() {
     println!("| | proved, ns a call | plain, ns a call | proved / plain |");
     println!("|---|---|---|---|");
@@ -144,4 +181,5 @@ fn main() {
     light.gaps.reverse();
     lighter_row("lighter, two plans of 64 streams, 8 gaps", &file(&noisy), &file(&light));
     parting_row("parting bit");
+    tournament_row("tournament of 128 contenders, start and 32 steps");
 }

@@ -1,26 +1,35 @@
 //! What the tests share: plans by hand, a generator, and counts of what was seen.
 #![allow(dead_code)]
 
-use livnakesh::plain::{self, Analysis, Label, Level, Plan, Priority, Stream};
+use livnakesh::plain::{self, Analysis, Level, Plan};
+use livnakesh::{Label, Priority, Refused, Stream};
 use std::collections::BTreeMap;
 use std::io::Write;
 
 pub const BASE: plain::Timing = [4, 1, 1, 2, 1, 1, 2, 1, 4];
 
+/// The terms that one plan may sum up; longer chains have a test of their own.
+pub const MOST_WORK: u64 = 60_000;
+
 pub fn stream(label: u32, priority: u32, period: u32, jitter: u32, payload: u32, deadline: u32) -> Stream {
     Stream { label: Label(label), priority: Priority(priority), period, jitter, payload, deadline }
+}
+
+/// A plan's values as plain words, in the file's order.
+pub fn values_of(plan: &Plan) -> Vec<u32> {
+    let mut values = plan.timing.to_vec();
+    for s in &plan.streams {
+        values.extend([s.label.0, s.priority.0, s.period, s.jitter, s.payload, s.deadline]);
+    }
+    values.extend(&plan.gaps);
+    values
 }
 
 /// The file of a plan, and whether its values are right or not.
 pub fn file_of(plan: &Plan) -> Vec<u8> {
     let (n, m) = (plan.streams.len() as u32, plan.gaps.len() as u32);
-    let mut words = vec![1, 3, 1, 44, 36, 2, 80, 24 * n, 3, 80 + 24 * n, 4 * m];
-    words.extend(plan.timing);
-    for s in &plan.streams {
-        words.extend([s.label.0, s.priority.0, s.period, s.jitter, s.payload, s.deadline]);
-    }
-    words.extend(&plan.gaps);
-    words.iter().flat_map(|word| word.to_le_bytes()).collect()
+    let contents = [1, 3, 1, 44, 36, 2, 80, 24 * n, 3, 80 + 24 * n, 4 * m];
+    contents.into_iter().chain(values_of(plan)).flat_map(u32::to_le_bytes).collect()
 }
 
 pub fn hex(bytes: &[u8]) -> String {
@@ -229,6 +238,28 @@ fn work_at(level: &Level, terms: u64, most: u64) -> Option<u64> {
     Some(spent)
 }
 
+pub fn drawn(rng: &mut Rng, draw: fn(&mut Rng) -> Plan, tally: &mut Tally) -> Plan {
+    loop {
+        let plan = draw(rng);
+        if work(&plan, MOST_WORK).is_some() {
+            return plan;
+        }
+        tally.count("(chains too long, drawn again)");
+    }
+}
+
+/// A field of one row copied to a later one.
+pub fn repeat(rng: &mut Rng, plan: &mut Plan, tally: &mut Tally) {
+    let n = plan.streams.len() as u64;
+    let (from, to) = (rng.below(n) as usize, rng.below(n) as usize);
+    match rng.below(3) {
+        0 => plan.streams[to].priority = plan.streams[from].priority,
+        1 => plan.streams[to].label = plan.streams[from].label,
+        _ => plan.streams[to] = plan.streams[from],
+    }
+    tally.count("damage: repeated field");
+}
+
 /// How often each kind of case was seen.
 #[derive(Default)]
 pub struct Tally(BTreeMap<String, u64>);
@@ -252,5 +283,50 @@ impl Tally {
         }
         let mut out = std::io::stdout().lock();
         out.write_all(text.as_bytes()).and_then(|()| out.flush()).expect("standard output is open");
+    }
+}
+
+pub fn need_all(tally: &Tally, kinds: &[&str], least: u64) {
+    for kind in kinds {
+        tally.need(kind, least);
+    }
+}
+
+/// Lent lengths around what is needed.
+pub fn lent(rng: &mut Rng, needed: usize, tally: &mut Tally) -> usize {
+    match rng.below(4) {
+        0 => {
+            tally.count("lent: too short");
+            rng.below(needed as u64) as usize
+        }
+        1 => {
+            tally.count("lent: exact");
+            needed
+        }
+        _ => {
+            tally.count("lent: longer");
+            needed + rng.within(1, 40) as usize
+        }
+    }
+}
+
+pub fn words(seed: u64, count: usize) -> Vec<u64> {
+    (1..=count as u64).map(|k| seed.wrapping_mul(2 * k + 1)).collect()
+}
+
+pub fn bytes(seed: u64, count: usize) -> Vec<u8> {
+    words(seed | 1, count).iter().map(|word| (word >> 24) as u8).collect()
+}
+
+pub fn tally_rows(tally: &mut Tally, rows: &[u64]) {
+    for row in rows.chunks_exact(2) {
+        tally.count(["row: met", "row: missed", "row: none"][row[0] as usize]);
+    }
+}
+
+pub fn tally_refusal<T>(tally: &mut Tally, said: Result<T, Refused>) {
+    match said {
+        Ok(_) => tally.count("answered"),
+        Err(refused) => tally.count(format!("refusal {}", refused.number)),
     }
 }

@@ -1,0 +1,362 @@
+//! Values instead of a file, lent as plain words to the writer and as records by the screen: the proved library against the
+//! plain planner, and against itself on the values' file.
+
+mod common;
+
+use common::{
+    bytes, drawn, edge_plan, file_of, lent, need_all, plan, plan_of, repeat, stream, tally_refusal, tally_rows, values_of, words,
+    work, Rng, Tally, MOST_WORK,
+};
+use livnakesh::plain::{self, Plan};
+use livnakesh::Refused;
+
+/// Counts that no plan has, among them some that a cut to fewer bits or a product that wraps would take for a plan's.
+const WRONG_COUNTS: [usize; 10] =
+    [65, 66, 128, 256 + 3, 65_536 + 1, (1 << 32) + 2, usize::MAX / 24 + 2, usize::MAX / 4 + 2, 1 << 63, usize::MAX];
+
+fn tally_counts(tally: &mut Tally, n: usize, m: usize) {
+    tally.count(match n {
+        0 => "counts: no streams",
+        1..=64 => "counts: 1 to 64 streams",
+        65..=1_000 => "counts: 65 to 1,000 streams",
+        _ => "counts: more streams",
+    });
+    tally.count(match m {
+        0..=8 => "counts: 0 to 8 gaps",
+        9..=1_000 => "counts: 9 to 1,000 gaps",
+        _ => "counts: more gaps",
+    });
+}
+
+/// What was said, and for 3 the kind of field.
+fn tally_said<T>(tally: &mut Tally, n: usize, said: Result<T, Refused>) {
+    if let Err(Refused { number: 3, place }) = said {
+        let kind = match place as usize {
+            44..=75 => "constant",
+            76 => "NB",
+            byte if byte >= plain::size(n, 0) => "gap",
+            byte => ["label", "priority", "period", "jitter", "payload", "deadline"][(byte - 80) / 4 % 6],
+        };
+        tally.count(format!("refusal 3: {kind}"));
+    }
+    tally_refusal(tally, said);
+}
+
+const ALL_OF_3: [&str; 7] = [
+    "refusal 3: constant",
+    "refusal 3: NB",
+    "refusal 3: priority",
+    "refusal 3: period",
+    "refusal 3: payload",
+    "refusal 3: deadline",
+    "refusal 3: gap",
+];
+
+/// A field that is likely to be wrong; any label and jitter is right, but for a repeated label.
+fn hurt(rng: &mut Rng, plan: &mut Plan, tally: &mut Tally) {
+    let word = rng.pick(&[0, 0, 1, 33, 65_535, 65_536, u32::MAX, 0x8000_0000]);
+    let word = if rng.one_in(3) { rng.wide() } else { word };
+    let row = rng.below(plan.streams.len() as u64) as usize;
+    let gap = rng.below(plan.gaps.len().max(1) as u64) as usize;
+    let stream = &mut plan.streams[row];
+    match rng.below(9) {
+        0 => plan.timing[rng.below(8) as usize] = word,
+        1 => plan.timing[plain::NB] = word,
+        2 => stream.priority.0 = word,
+        3 => stream.period = word,
+        4 => stream.payload = word,
+        5 => stream.deadline = word,
+        6 if !plan.gaps.is_empty() => plan.gaps[gap] = word,
+        _ => repeat(rng, plan, tally),
+    }
+}
+
+fn hurt_plan(rng: &mut Rng, tally: &mut Tally) -> Plan {
+    let mut plan = plan(rng);
+    for _ in 0..rng.pick(&[1, 1, 1, 2, 3]) {
+        hurt(rng, &mut plan, tally);
+    }
+    plan
+}
+
+// ---- the writer ----
+
+/// The plan that lent words are. Counts above a plan's are cut, since one too many is as wrong as all of them.
+fn plan_from(n: usize, m: usize, values: &[u32]) -> Plan {
+    let (n, m) = (n.min(65), m.min(9));
+    let word = |k: usize| values.get(k).copied().unwrap_or(0);
+    let streams = (0..n).map(|row| {
+        let [label, priority, period, jitter, payload, deadline] = std::array::from_fn(|k| word(9 + 6 * row + k));
+        stream(label, priority, period, jitter, payload, deadline)
+    });
+    Plan { timing: std::array::from_fn(word), streams: streams.collect(), gaps: (0..m).map(|k| word(9 + 6 * n + k)).collect() }
+}
+
+fn reads_back(plan: &Plan, file: &[u8]) {
+    assert_eq!(file, file_of(plan), "{plan:?}");
+    assert_eq!(plain::read(file).as_ref(), Ok(plan));
+    let mut again = vec![0; file.len()];
+    assert_eq!(livnakesh::rewrite(file, &mut again), Ok(file.len()), "{plan:?}");
+    assert_eq!(again, file, "{plan:?}");
+}
+
+fn write_into(found: &[u8], n: usize, m: usize, values: &[u32], tally: &mut Tally) -> Result<usize, Refused> {
+    let plan = plan_from(n, m, values);
+    let mut ours = found.to_vec();
+    // At an odd address, since lent bytes need not be aligned.
+    let mut odd = [&[0], found].concat();
+    let said = livnakesh::write(n, m, values, &mut odd[1..]);
+    let case = || format!("write, {n} streams, {m} gaps, {} bytes lent: {values:?}", found.len());
+    assert_eq!(said, plain::write(&plan, &mut ours), "{}", case());
+    assert_eq!(odd[1..], ours, "{}", case());
+    let written = said.unwrap_or(0);
+    assert_eq!(odd[1 + written..], found[written..], "bytes after the file: {}", case());
+    if written > 0 {
+        reads_back(&plan, &odd[1..=written]);
+        tally.count("read back");
+    }
+    tally_said(tally, plan.streams.len(), said);
+    tally_counts(tally, n, m);
+    said
+}
+
+fn write_alike(rng: &mut Rng, n: usize, m: usize, values: &[u32], tally: &mut Tally) -> Result<usize, Refused> {
+    let needed = plain::size(n.min(65), m.min(9));
+    let found = bytes(rng.next(), lent(rng, needed, tally));
+    write_into(&found, n, m, values, tally)
+}
+
+#[test]
+fn values_of_drawn_plans() {
+    let (mut rng, mut tally) = (Rng(0x7A1E5), Tally::default());
+    for _ in 0..40_000 {
+        let plan = if rng.one_in(4) { edge_plan(&mut rng) } else { plan(&mut rng) };
+        let (n, m) = (plan.streams.len(), plan.gaps.len());
+        let mut values = values_of(&plan);
+        let more = rng.pick(&[0, 0, 1, 6, 500]);
+        tally.count(if more == 0 { "words: as many as needed" } else { "words: more" });
+        values.extend((0..more).map(|_| rng.wide()));
+        let said = write_alike(&mut rng, n, m, &values, &mut tally);
+        assert!(matches!(said, Ok(_) | Err(Refused { number: 6, place: 0 })), "{said:?} for {values:?}");
+    }
+    tally.print("values of drawn plans to the writer");
+    need_all(&tally, &["answered", "read back", "words: as many as needed", "words: more"], 10_000);
+    need_all(&tally, &["refusal 6", "lent: too short", "lent: exact", "lent: longer"], 5_000);
+}
+
+/// All numbers of streams and gaps, each into a byte too few, as many as needed, and a byte more.
+#[test]
+fn buffers_a_byte_short() {
+    let (mut rng, mut tally) = (Rng(0xB17E), Tally::default());
+    for n in 1..=64 {
+        for m in 0..=8 {
+            let values = values_of(&plan_of(&mut rng, n, m));
+            let needed = plain::size(n, m);
+            for length in [0, needed - 1, needed, needed + 1] {
+                let said = write_into(&bytes(rng.next(), length), n, m, &values, &mut tally);
+                let wanted = if length < needed { Err(Refused { number: 6, place: 0 }) } else { Ok(needed) };
+                assert_eq!(said, wanted, "{n} streams, {m} gaps, {length} bytes");
+            }
+        }
+    }
+    tally.print("buffers a byte short, exact and a byte long");
+    need_all(&tally, &["answered", "refusal 6"], 1_152);
+}
+
+fn other_count(rng: &mut Rng, count: usize, most: usize) -> usize {
+    match rng.below(6) {
+        0 => 0,
+        1 => rng.below(most as u64 + 1) as usize,
+        2 => most + 1,
+        3 => rng.pick(&WRONG_COUNTS).max(most + 1),
+        4 => count.saturating_sub(1),
+        _ => count + 1,
+    }
+}
+
+/// The words stay, so that a stream's become gaps, gaps become a stream, and words are missing or left over.
+#[test]
+fn values_with_other_counts() {
+    let (mut rng, mut tally) = (Rng(0xC0047), Tally::default());
+    for _ in 0..40_000 {
+        let plan = plan(&mut rng);
+        let (mut n, mut m) = (plan.streams.len(), plan.gaps.len());
+        match rng.below(4) {
+            0 => m = other_count(&mut rng, m, 8),
+            1 => (n, m) = (other_count(&mut rng, n, 64), other_count(&mut rng, m, 8)),
+            _ => n = other_count(&mut rng, n, 64),
+        }
+        _ = write_alike(&mut rng, n, m, &values_of(&plan), &mut tally);
+    }
+    tally.print("values with other counts to the writer");
+    need_all(&tally, &["counts: no streams", "counts: 65 to 1,000 streams", "counts: more streams"], 1_000);
+    need_all(&tally, &["counts: 9 to 1,000 gaps", "counts: more gaps", "refusal 2", "refusal 3", "read back"], 1_000);
+}
+
+/// Every number of words up to all of a plan's. What follows them in memory are the missing ones, so that reading on would show.
+#[test]
+fn too_few_words() {
+    let (mut rng, mut tally) = (Rng(0xFE3), Tally::default());
+    for _ in 0..300 {
+        let plan = plan(&mut rng);
+        let (n, m) = (plan.streams.len(), plan.gaps.len());
+        let values = values_of(&plan);
+        let found = bytes(rng.next(), plain::size(n, m));
+        for count in 0..values.len() {
+            let said = write_into(&found, n, m, &values[..count], &mut tally);
+            // Not every word may be 0, but at least a deadline and a gap may not, and one of them is last.
+            assert!(matches!(said, Err(Refused { number: 3, .. })), "{said:?} for {count} words of {values:?}");
+        }
+        assert_eq!(write_into(&found, n, m, &values, &mut tally), Ok(found.len()));
+    }
+    tally.print("too few words to the writer");
+    need_all(&tally, &["refusal 3", "refusal 3: period", "refusal 3: payload", "refusal 3: deadline"], 1_000);
+    need_all(&tally, &["refusal 3: NB", "refusal 3: gap", "answered"], 300);
+}
+
+#[test]
+fn wrong_values_to_the_writer() {
+    let (mut rng, mut tally) = (Rng(0x3F0), Tally::default());
+    for _ in 0..60_000 {
+        let plan = hurt_plan(&mut rng, &mut tally);
+        _ = write_alike(&mut rng, plan.streams.len(), plan.gaps.len(), &values_of(&plan), &mut tally);
+    }
+    tally.print("wrong values to the writer");
+    need_all(&tally, &["refusal 3", "refusal 4", "refusal 5", "refusal 6", "answered"], 1_000);
+    need_all(&tally, &ALL_OF_3, 500);
+}
+
+// ---- the screen ----
+
+/// Values have no length of their own, so counts that make a file too long are refused as counts.
+fn as_values<T>(file: &[u8], said: Result<T, Refused>) -> Result<T, Refused> {
+    if file.len() > 1_648 {
+        return Err(Refused { number: 2, place: 0 });
+    }
+    said
+}
+
+/// Of a plan with this timing, lent as these words.
+fn screen_into(found: &[u64], plan: &Plan, timing: &[u32], tally: &mut Tally) -> Result<(), Refused> {
+    let n = plan.streams.len();
+    let file = file_of(plan);
+    let (mut proved, mut ours, mut by_file) = (found.to_vec(), found.to_vec(), found.to_vec());
+    let said = livnakesh::screen(&plan.streams, timing, &plan.gaps, &mut proved);
+    let case = || format!("screen, {} timing words, {} answer words lent: {plan:?}", timing.len(), found.len());
+    assert_eq!(said, plain::screen(plan, &mut ours), "{}", case());
+    assert_eq!(proved, ours, "{}", case());
+    assert_eq!(said, as_values(&file, livnakesh::answers(&file, &mut by_file)), "{}", case());
+    assert_eq!(proved, by_file, "{}", case());
+    let kept = if said.is_ok() { 2 * n } else { 0 };
+    assert_eq!(proved[kept..], found[kept..], "words after the answers: {}", case());
+    tally_rows(tally, &proved[..kept]);
+    tally_said(tally, n, said);
+    tally_counts(tally, n, plan.gaps.len());
+    said
+}
+
+fn screen_alike(rng: &mut Rng, plan: &Plan, timing: &[u32], tally: &mut Tally) -> Result<(), Refused> {
+    let needed = (2 * plan.streams.len()).max(1);
+    let found = words(rng.next(), lent(rng, needed, tally));
+    screen_into(&found, plan, timing, tally)
+}
+
+#[test]
+fn screens_of_drawn_plans() {
+    let (mut rng, mut tally) = (Rng(0x5C4EE), Tally::default());
+    for _ in 0..30_000 {
+        let draw = if rng.one_in(4) { edge_plan } else { plan };
+        let plan = drawn(&mut rng, draw, &mut tally);
+        let said = screen_alike(&mut rng, &plan, &plan.timing, &mut tally);
+        assert!(matches!(said, Ok(()) | Err(Refused { number: 6, place: 0 })), "{said:?} for {plan:?}");
+    }
+    tally.print("screens of drawn plans");
+    need_all(&tally, &["answered", "row: met", "row: missed", "row: none"], 10_000);
+    need_all(&tally, &["refusal 6", "lent: too short", "lent: exact", "lent: longer"], 5_000);
+}
+
+#[test]
+fn words_one_short() {
+    let (mut rng, mut tally) = (Rng(0x3085), Tally::default());
+    for n in 1..=64 {
+        let plan = loop {
+            let plan = plan_of(&mut rng, n, n % 9);
+            if work(&plan, MOST_WORK).is_some() {
+                break plan;
+            }
+        };
+        for length in [0, 2 * n - 1, 2 * n, 2 * n + 1] {
+            let said = screen_into(&words(rng.next(), length), &plan, &plan.timing, &mut tally);
+            let wanted = if length < 2 * n { Err(Refused { number: 6, place: 0 }) } else { Ok(()) };
+            assert_eq!(said, wanted, "{n} streams, {length} words");
+        }
+    }
+    tally.print("answer words one short, exact and one more");
+    need_all(&tally, &["answered", "refusal 6"], 128);
+}
+
+#[test]
+fn screens_of_wrong_values() {
+    let (mut rng, mut tally) = (Rng(0x5C4E3), Tally::default());
+    for _ in 0..60_000 {
+        let plan = hurt_plan(&mut rng, &mut tally);
+        if plain::check(&plan).is_ok() && work(&plan, MOST_WORK).is_none() {
+            tally.count("(chains too long, not run)");
+            continue;
+        }
+        _ = screen_alike(&mut rng, &plan, &plan.timing, &mut tally);
+    }
+    tally.print("screens of wrong values");
+    need_all(&tally, &["refusal 3", "refusal 4", "refusal 5", "refusal 6", "answered"], 1_000);
+    need_all(&tally, &ALL_OF_3, 500);
+}
+
+/// Lists that are empty or too long, whatever else is wrong with them.
+#[test]
+fn screens_of_other_lengths() {
+    let (mut rng, mut tally) = (Rng(0x1E46), Tally::default());
+    for _ in 0..20_000 {
+        let mut plan = drawn(&mut rng, plan, &mut tally);
+        let (n, last) = (plan.streams.len(), plan.streams[0]);
+        match rng.below(4) {
+            0 => plan.streams.clear(),
+            1 => plan.streams.resize(rng.pick(&[65, 66, 67, 128, 256 + n, 1_100]), last),
+            2 => plan.gaps.resize(rng.pick(&[9, 10, 16, 256, 256 + 3, 1_100]), 1_000),
+            _ => {
+                // As many as a plan may have and one more, all of them right.
+                plan = plan_of(&mut rng, 65, 8);
+                plan.streams.truncate(rng.pick(&[64, 65]));
+                plan.gaps.resize(rng.pick(&[0, 8, 9]), 4_000_000_000);
+            }
+        }
+        if plain::check(&plan).is_ok() && work(&plan, MOST_WORK).is_none() {
+            tally.count("(chains too long, not run)");
+            continue;
+        }
+        _ = screen_alike(&mut rng, &plan, &plan.timing, &mut tally);
+    }
+    tally.print("screens with other numbers of streams and gaps");
+    need_all(&tally, &["counts: no streams", "counts: 65 to 1,000 streams", "counts: more streams"], 500);
+    need_all(&tally, &["counts: 9 to 1,000 gaps", "counts: more gaps", "refusal 2"], 500);
+    tally.need("answered", 200);
+}
+
+/// The missing words follow those that are lent, so that reading on would show.
+#[test]
+fn timings_of_other_lengths() {
+    let (mut rng, mut tally) = (Rng(0x717), Tally::default());
+    for _ in 0..1_000 {
+        let plan = drawn(&mut rng, plan, &mut tally);
+        let more = [rng.wide(), rng.wide(), rng.wide()];
+        let timing = [&plan.timing[..], &more].concat();
+        for count in 0..=timing.len() {
+            let lent = &timing[..count];
+            let plan = Plan { timing: std::array::from_fn(|k| lent.get(k).copied().unwrap_or(0)), ..plan.clone() };
+            let said = screen_into(&words(rng.next(), 128), &plan, lent, &mut tally);
+            let wanted = if count < 9 { Err(Refused { number: 3, place: 76 }) } else { Ok(()) };
+            assert_eq!(said, wanted, "{count} timing words: {plan:?}");
+        }
+    }
+    tally.print("timings of other lengths");
+    need_all(&tally, &["refusal 3: NB", "answered", "row: met"], 3_000);
+}
