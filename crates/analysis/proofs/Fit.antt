@@ -1,12 +1,12 @@
--- Gathered terms within the limits: the theory's conditions hold, and every number fits its word. The bounds hold with room for 256 streams. Assumes nothing.
+-- Lent terms within the limits: the theory's conditions hold, and every number fits its word. The bounds hold with room for 256 streams. Assumes nothing.
 use mathlib.Core.Path.{_≡_, refl, sym, subst}
 use mathlib.Core.Bool.{Bool, true, false, _&&_}
 use Prim.Native.Nat.{ℕ, _+_, _-_, _*_, _^_, _≤_, _<_}
 use native.Mathlib.Nat.{le-trans, mul-le-mul, mul-le-mul-right}
 use native.Mathlib.Omega.{arith}
-use lib.Dec.{T, leb}
+use lib.Dec.{T, leb, eqb}
 use lib.ListN.{getD}
-use borrow.Author.Tests.{leb-true, le-leb}
+use borrow.Author.Tests.{leb-true, le-leb, eqb-true, eq-eqb}
 use Rattle.names.specs.Limits.{streams, sources, ticks}
 use Rattle.laws.specs.Lists.{ceil, sumOf, sumTo, rows}
 use Rattle.laws.proofs.Round.{ceil-le}
@@ -17,11 +17,14 @@ use Rattle.bound.specs.Bound.{E, demand, sideL}
 use Rattle.bound.specs.Claims.{Sound}
 use Rattle.bound.proofs.Sides.{demand-own}
 use Rattle.analysis.specs.declared.Gathered.{Gathered}
-use Rattle.analysis.specs.Gathered.{termsOf, shareAt, cost, shareFits, gapFits, fits}
-use Rattle.analysis.specs.Stairs.{Share, Fit, restL}
+use Rattle.analysis.specs.Gathered.{Lent, termsOf, shareAt, gapAt, cost, shareFits, sourceFits, rowFits, fits}
+use Rattle.analysis.specs.Stairs.{Share, Row, Fit, restL, aloneTerms}
 
-pub fit-sound : (g : Gathered) → Fit g → Sound (termsOf g)
-fit-sound g f = record { period = f .own .some; late = f .late; ends = f .ends; last = f .last }
+pub fit-sound : (t : Lent) → Row (t .row) → Sound (termsOf t)
+fit-sound t f = record { period = f .own .some; late = f .late; ends = f .ends; last = f .last }
+
+pub alone-sound : (g : Gathered) → Row g → Sound (aloneTerms g)
+alone-sound g f = record { period = f .own .some; late = f .late; ends = f .ends; last = f .last }
 
 -- one stream's part, up to 4,294,967,295
 most : ℕ
@@ -31,21 +34,22 @@ part : (C T J x : ℕ) → Share C T J → x ≤ ticks → ceil (x + J) T * C �
 unfolding most
 part C T J x s h = mul-le-mul {n₂ = ticks + ticks} {m₂ = cost} (le-trans (ceil-le (x + J) T (s .some)) (omega (arith, s .jitter))) (s .cost)
 
-pub sideL-fits : (g : Gathered) → Fit g → (x : ℕ) → x ≤ ticks → sideL (termsOf g) x < 2 ^ 64
+pub sideL-fits : (t : Lent) → Fit t → (x : ℕ) → x ≤ ticks → sideL (termsOf t) x < 2 ^ 64
 unfolding sideL E demand most
-sideL-fits g f x h =
-    let d : demand (termsOf g .urgent) x ≤ g .urgent * most = le-trans (le-of-eq (sum-rows _ (g .urgent) (shareAt g))) (sumTo-at-most _ most (g .urgent) (λ k p. part (getD (g .costs) k 0) (getD (g .periods) k 0) (getD (g .jitters) k 0) x (f .urgent k p) h)) in
-    let hits : sumOf (λ N. ceil x N) (termsOf g .gaps) ≤ g .sources * ticks = le-trans (le-of-eq (sum-rows _ (g .sources) (λ k. getD (g .gaps) k 0))) (sumTo-at-most _ ticks (g .sources) (λ k p. le-trans (ceil-le x (getD (g .gaps) k 0) (f .some-gap k p)) h)) in
-    let e : E (termsOf g) x ≤ 8 * ticks * cost = mul-le-mul (le-trans hits (mul-le-mul-right ticks (f .quiet))) (f .hit) in
-    omega (arith, demand-own (termsOf g .own) (termsOf g .urgent) x, part (g .cost) (g .period) (g .jitter) x (f .own) h, d, mul-le-mul-right most (f .few), e, f .blocking)
+sideL-fits t f x h =
+    let g = t .row in
+    let d : demand (termsOf t .urgent) x ≤ g .urgent * most = le-trans (le-of-eq (sum-rows _ (g .urgent) (shareAt t))) (sumTo-at-most _ most (g .urgent) (λ k p. part (getD (t .costs) k 0) (getD (t .periods) k 0) (getD (t .jitters) k 0) x (f .urgent k p) h)) in
+    let hits : sumOf (λ N. ceil x N) (termsOf t .gaps) ≤ g .sources * ticks = le-trans (le-of-eq (sum-rows _ (g .sources) (gapAt t))) (sumTo-at-most _ ticks (g .sources) (λ k p. le-trans (ceil-le x (gapAt t k) (f .some-gap k p)) h)) in
+    let e : E (termsOf t) x ≤ 8 * ticks * cost = mul-le-mul (le-trans hits (mul-le-mul-right ticks (f .quiet))) (f .row .hit) in
+    omega (arith, demand-own (termsOf t .own) (termsOf t .urgent) x, part (g .cost) (g .period) (g .jitter) x (f .row .own) h, d, mul-le-mul-right most (f .few), e, f .row .blocking)
   where
     le-of-eq : {a b : ℕ} → a ≡ b → a ≤ b
     le-of-eq e = omega arith
 
 -- L's right side is B, i's own part and the rest, and so no part of it is above it
-pub sideL-parts : (g : Gathered) (x : ℕ) → sideL (termsOf g) x ≡ g .blocking + ceil (x + g .jitter) (g .period) * g .cost + restL (termsOf g) x
+pub sideL-parts : (t : Lent) (x : ℕ) → sideL (termsOf t) x ≡ t .row .blocking + ceil (x + t .row .jitter) (t .row .period) * t .row .cost + restL (termsOf t) x
 unfolding sideL
-sideL-parts g x = omega (arith, demand-own (termsOf g .own) (termsOf g .urgent) x)
+sideL-parts t x = omega (arith, demand-own (termsOf t .own) (termsOf t .urgent) x)
 
 -- ---- the test of the limits, taken apart
 share-known : (j : Terms.Share) → shareFits j ≡ true → Share (j .C″) (j .T) (j .J)
@@ -55,17 +59,16 @@ share-known j e =
     let (a, b) = both _ _ e2 in
     record { cost = leb-true _ _ a; some = leb-true _ _ b; period = leb-true _ _ c; jitter = leb-true _ _ d }
 
-gap-known : (N : ℕ) → gapFits N ≡ true → (1 ≤ N) × (N ≤ ticks)
-gap-known N e = let (a, b) = both (leb 1 N) (leb N ticks) e in (leb-true _ _ a, leb-true _ _ b)
+source-known : (hit each N : ℕ) → sourceFits hit each N ≡ true → (1 ≤ N) × (N ≤ ticks) × (each ≡ hit)
+source-known hit each N e =
+    let (e2, c) = both _ _ e in
+    let (a, b) = both (leb 1 N) (leb N ticks) e2 in
+    (leb-true _ _ a, leb-true _ _ b, eqb-true _ _ c)
 
-pub fit-known : (g : Gathered) → fits g ≡ true → Fit g
-unfolding fits
-fit-known g e =
-    let (e9, gaps) = both _ _ e in
-    let (e8, quiet) = both _ _ e9 in
-    let (e7, urgent) = both _ _ e8 in
-    let (e6, few) = both _ _ e7 in
-    let (e5, own) = both _ _ e6 in
+row-known : (g : Gathered) → rowFits g ≡ true → Row g
+unfolding rowFits
+row-known g e =
+    let (e5, own) = both _ _ e in
     let (e4, last) = both _ _ e5 in
     let (e3, ends) = both _ _ e4 in
     let (e2, late) = both _ _ e3 in
@@ -77,20 +80,34 @@ fit-known g e =
       ends = leb-true _ _ ends;
       last = leb-true _ _ last;
       own = share-known _ own;
+    }
+
+pub fit-known : (t : Lent) → fits t ≡ true → Fit t
+unfolding fits
+fit-known t e =
+    let (e4, each) = both _ _ e in
+    let (e3, quiet) = both _ _ e4 in
+    let (e2, urgent) = both _ _ e3 in
+    let (row, few) = both _ _ e2 in
+    let source : (k : ℕ) → k < t .row .sources → (1 ≤ gapAt t k) × (gapAt t k ≤ ticks) × (getD (t .costs) (t .row .urgent + k) 0 ≡ t .row .hit) =
+    λ k h. source-known _ _ _ (every-each _ (t .row .sources) each k h) in
+    record {
+      row = row-known (t .row) row;
       few = leb-true _ _ few;
-      urgent = λ k h. share-known _ (every-each _ (g .urgent) urgent k h);
+      urgent = λ k h. share-known _ (every-each _ (t .row .urgent) urgent k h);
       quiet = leb-true _ _ quiet;
-      some-gap = λ k h. gap-known _ (every-each _ (g .sources) gaps k h) .0;
-      gap = λ k h. gap-known _ (every-each _ (g .sources) gaps k h) .1;
+      some-gap = λ k h. source k h .0;
+      gap = λ k h. source k h .1;
+      each = λ k h. source k h .2;
     }
 
 -- ---- and shown
 share-shown : (C T J : ℕ) → Share C T J → shareFits (record { C″ = C; T = T; J = J }) ≡ true
 share-shown C T J s = simp (le-leb _ _ (s .cost), le-leb _ _ (s .some), le-leb _ _ (s .period), le-leb _ _ (s .jitter))
 
-pub fit-shown : (g : Gathered) → Fit g → fits g ≡ true
-unfolding fits
-fit-shown g f =
+row-shown : (g : Gathered) → Row g → rowFits g ≡ true
+unfolding rowFits
+row-shown g f =
     simp (
       le-leb _ _ (f .blocking),
       le-leb _ _ (f .hit),
@@ -98,8 +115,15 @@ fit-shown g f =
       le-leb _ _ (f .ends),
       le-leb _ _ (f .last),
       share-shown _ _ _ (f .own),
+    )
+
+pub fit-shown : (t : Lent) → Fit t → fits t ≡ true
+unfolding fits
+fit-shown t f =
+    simp (
+      row-shown _ (f .row),
       le-leb _ _ (f .few),
-      every-all _ (g .urgent) (λ k h. share-shown _ _ _ (f .urgent k h)),
+      every-all _ (t .row .urgent) (λ k h. share-shown _ _ _ (f .urgent k h)),
       le-leb _ _ (f .quiet),
-      every-all (λ k. gapFits (getD (g .gaps) k 0)) (g .sources) (λ k h. simp (le-leb _ _ (f .some-gap k h), le-leb _ _ (f .gap k h))),
+      every-all (λ k. sourceFits (t .row .hit) (getD (t .costs) (t .row .urgent + k) 0) (gapAt t k)) (t .row .sources) (λ k h. simp (le-leb _ _ (f .some-gap k h), le-leb _ _ (f .gap k h), eq-eqb _ _ (f .each k h))),
     )

@@ -53,18 +53,7 @@ pub record Pass (periods edges now : List ℕ) (x k : ℕ) : Type 0 where
 pub pass-start : (periods edges : List ℕ) (x : ℕ) → Pass periods edges edges x 0
 pass-start periods edges x = record { long = refl; gone = λ j h. absurd (omega arith); waits = λ j h. refl }
 
--- a stair that x has not passed
-pub pass-still : (periods edges now : List ℕ) (x k : ℕ) → x ≤ getD now k 0 → Pass periods edges now x k → Pass periods edges now x (k + 1)
-pass-still periods edges now x k h p =
-    let w : getD now k 0 ≡ getD edges k 0 = p .waits k (le-refl k) in
-    let here : getD now k 0 ≡ onward (getD edges k 0) (getD periods k 0) x = rw (← not-yet x (getD edges k 0) (getD periods k 0) (rw (← w) h)) (omega (arith, zero-mul (getD periods k 0))) in
-    record {
-      long = p .long;
-      gone = below-more (λ j. getD now j 0 ≡ onward (getD edges j 0) (getD periods j 0) x) k (p .gone) here;
-      waits = λ j g. p .waits j (omega arith);
-    }
-
--- a stair that it has passed
+-- one stair more
 pub pass-on : (periods edges now : List ℕ) (x k v : ℕ) → k < length edges → v ≡ onward (getD now k 0) (getD periods k 0) x → Pass periods edges now x k
     → Pass periods edges (set now k v) x (k + 1)
 pass-on periods edges now x k v h e p =

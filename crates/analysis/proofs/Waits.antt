@@ -1,13 +1,15 @@
 -- The searches for w(q) climb once: each may start where the one before ended, and C'' further on. Assumes nothing.
 use mathlib.Core.Path.{_≡_, refl, sym, ap, _∙_}
 use mathlib.Core.List.{List}
-use Prim.Native.Nat.{ℕ, _+_, _-_, _*_, _≤_, _<_}
-use native.Mathlib.Nat.{le-trans, suc-mul}
+use Prim.Native.Nat.{ℕ, _+_, _-_, _*_, _^_, _≤_, _<_}
+use native.Mathlib.Nat.{le-trans, suc-mul, zero-mul}
 use native.Mathlib.Numerals.{add-one}
 use native.Mathlib.Omega.{arith}
 use lib.IntN.{pos, _-ℤ_}
 use Rattle.names.specs.Limits.{ticks}
+use Rattle.laws.specs.Lists.{ceil, sumOf, rows}
 use Rattle.laws.specs.Search.{Least}
+use Rattle.laws.proofs.Round.{ceil-room}
 use Rattle.laws.specs.declared.Found.the-variants.{At}
 use Rattle.laws.proofs.Chain.{least-later, least-agrees}
 use Rattle.bound.specs.Terms.{Terms}
@@ -15,7 +17,10 @@ use Rattle.bound.specs.Bound.{demand, E, sideW, busy, Q, w, term}
 use Rattle.bound.specs.Claims.{Sound}
 use Rattle.bound.proofs.Sides.{sideW-mono, busy-is-least}
 use Rattle.bound.proofs.Instances.{room, settles, w-exists, w-rises, sideW-suc}
-use Rattle.analysis.specs.Stairs.{height, start, side, restW, Kept, Bounded, Settled}
+use Rattle.analysis.specs.declared.Gathered.{Gathered}
+use Rattle.analysis.specs.Gathered.{Lent, termsOf}
+use Rattle.analysis.specs.Stairs.{height, start, side, restW, aloneTerms, Row, Kept, Bounded, Settled}
+use Rattle.analysis.proofs.Fit.{alone-sound}
 
 -- w(q)'s right side is B + q × C'' and the rest
 sideW-parts : (r : Terms) (q x : ℕ) → sideW r q x ≡ r .B + q * r .own .C″ + restW r x
@@ -71,6 +76,10 @@ module _ (r : Terms) (s : Sound r) (L : ℕ) (b : busy r ≡ At L) where
           later = λ z g. t .kept .later z g ∙ k .later z (omega (arith, t .least .above));
         }
 
+-- as many periods as there are instances before are within L + J
+pub gone-small : (l jitter period q : ℕ) → l ≤ ticks → jitter ≤ ticks → 1 ≤ period → q < ceil (l + jitter) period → q * period < 2 ^ 63
+gone-small l jitter period q a b p h = omega (arith, ceil-room q (l + jitter) period p h)
+
 -- a term of the code is a term of the rule
 pub term-is : (r : Terms) (q wait : ℕ) → wait ≡ w r q → pos (r .own .J + r .last + wait) -ℤ pos (q * r .own .T) ≡ term r q
 term-is r q wait e = let a : r .own .J + r .last + wait ≡ r .own .J + w r q + r .last = omega arith in ap (λ z. pos z -ℤ pos (q * r .own .T)) a
@@ -78,3 +87,12 @@ term-is r q wait e = let a : r .own .J + r .last + wait ≡ r .own .J + w r q + 
 -- the base of one instance more
 pub base-more : (b q c base : ℕ) → base ≡ b + q * c → base + c ≡ b + (q + 1) * c
 base-more b q c base e = omega (arith, ap (λ k. k * c) (add-one q), suc-mul q c)
+
+-- ---- nobody else on the channel
+pub alone-terms : (t : Lent) → t .row .urgent ≡ 0 → t .row .sources ≡ 0 → termsOf t ≡ aloneTerms (t .row)
+unfolding rows
+alone-terms t e d = rw (e, d) refl
+
+pub alone-w : (g : Gathered) → Row g → (L q : ℕ) → busy (aloneTerms g) ≡ At L → q < Q (aloneTerms g) L → g .blocking + q * g .cost ≡ w (aloneTerms g) q
+unfolding sideW demand E sumOf
+alone-w g f L q b h = omega (arith, w-exists (aloneTerms g) (alone-sound g f) L q b h .0 .fixed, zero-mul (g .hit))

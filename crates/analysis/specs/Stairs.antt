@@ -1,6 +1,6 @@
 -- For the private functions' contracts alone: a right side as stairs. A stair costs its cost just after its edge, and again every period.
 use mathlib.Core.Path.{_≡_}
-use mathlib.Core.List.{List}
+use mathlib.Core.List.{List, []}
 use Prim.Native.Nat.{ℕ, _+_, _-_, _*_, _^_, _≤_, _<_}
 use lib.ListN.{length, getD}
 use Rattle.names.specs.Limits.{streams, sources, ticks}
@@ -9,7 +9,7 @@ use Rattle.laws.specs.Search.{Least}
 use Rattle.bound.specs.Terms.{Terms}
 use Rattle.bound.specs.Bound.{demand, E}
 use Rattle.analysis.specs.declared.Gathered.{Gathered}
-use Rattle.analysis.specs.Gathered.{cost}
+use Rattle.analysis.specs.Gathered.{Lent, gapAt, cost}
 
 abbrev pub stair : List ℕ → List ℕ → List ℕ → ℕ → ℕ → ℕ
 stair costs periods edges x k = ceil (x - getD edges k 0) (getD periods k 0) * getD costs k 0
@@ -79,35 +79,56 @@ pub record Settled (costs periods edges next : List ℕ) (n base sum from r : �
   pub small : r ≤ ticks
   pub kept : Kept costs periods next n (λ x. sum + height costs periods edges n (x + start)) r (r - base)
 
--- the first n values stand from a place on, and all else is as it was
-pub record Pasted (values : List ℕ) (n from : ℕ) (onto r : List ℕ) : Type 0 where
-  pub long : length r ≡ most
-  pub put : (k : ℕ) → k < n → getD r (from + k) 0 ≡ getD values k 0
-  pub front : (k : ℕ) → k < from → getD r k 0 ≡ getD onto k 0
-  pub back : (k : ℕ) → from + n ≤ k → getD r k 0 ≡ getD onto k 0
-
--- the edges of n streams and, after them, of the noise sources, so long before time's start
-pub record Started (jitters : List ℕ) (n late window : ℕ) (r : List ℕ) : Type 0 where
+-- where the stairs start, so long before time's start: the edges of n streams, ..
+pub record StreamsStarted (jitters : List ℕ) (n late : ℕ) (r : List ℕ) : Type 0 where
   pub long : length r ≡ most
   pub stream : (k : ℕ) → k < n → getD r k 0 ≡ start - (getD jitters k 0 + late)
-  pub source : (k : ℕ) → n ≤ k → k < most → getD r k 0 ≡ start - window
 
--- gathered terms within the limits
+-- .. those of the noise sources after them, with the others as they were, ..
+pub record SourcesStarted (from n window : ℕ) (edges r : List ℕ) : Type 0 where
+  pub long : length r ≡ most
+  pub front : (k : ℕ) → k < from → getD r k 0 ≡ getD edges k 0
+  pub source : (k : ℕ) → from ≤ k → k < n → getD r k 0 ≡ start - window
+
+-- .. and both
+pub record Started (jitters : List ℕ) (urgent n late window : ℕ) (r : List ℕ) : Type 0 where
+  pub long : length r ≡ most
+  pub stream : (k : ℕ) → k < urgent → getD r k 0 ≡ start - (getD jitters k 0 + late)
+  pub source : (k : ℕ) → urgent ≤ k → k < n → getD r k 0 ≡ start - window
+
+-- lent terms within the limits
 pub record Share (C T J : ℕ) : Type 0 where
   pub cost : C ≤ cost
   pub some : 1 ≤ T
   pub period : T ≤ ticks
   pub jitter : J ≤ ticks
 
-pub record Fit (g : Gathered) : Type 0 where
+pub record Row (g : Gathered) : Type 0 where
   pub blocking : g .blocking ≤ cost
   pub hit : g .hit ≤ cost
   pub late : g .late + 1 ≤ g .cost
   pub ends : 1 ≤ g .last
   pub last : g .last ≤ g .cost
   pub own : Share (g .cost) (g .period) (g .jitter)
-  pub few : g .urgent ≤ streams
-  pub urgent : (k : ℕ) → k < g .urgent → Share (getD (g .costs) k 0) (getD (g .periods) k 0) (getD (g .jitters) k 0)
-  pub quiet : g .sources ≤ sources
-  pub some-gap : (k : ℕ) → k < g .sources → 1 ≤ getD (g .gaps) k 0
-  pub gap : (k : ℕ) → k < g .sources → getD (g .gaps) k 0 ≤ ticks
+
+pub record Fit (t : Lent) : Type 0 where
+  pub row : Row (t .row)
+  pub few : t .row .urgent ≤ streams
+  pub urgent : (k : ℕ) → k < t .row .urgent → Share (getD (t .costs) k 0) (getD (t .periods) k 0) (getD (t .jitters) k 0)
+  pub quiet : t .row .sources ≤ sources
+  pub some-gap : (k : ℕ) → k < t .row .sources → 1 ≤ gapAt t k
+  pub gap : (k : ℕ) → k < t .row .sources → gapAt t k ≤ ticks
+  pub each : (k : ℕ) → k < t .row .sources → getD (t .costs) (t .row .urgent + k) 0 ≡ t .row .hit
+
+-- the terms of a row with nobody else on the channel
+abbrev pub aloneTerms : Gathered → Terms
+aloneTerms g =
+    record {
+      B = g .blocking;
+      own = record { C″ = g .cost; T = g .period; J = g .jitter };
+      urgent = [];
+      gaps = [];
+      hit = g .hit;
+      late = g .late;
+      last = g .last;
+    }

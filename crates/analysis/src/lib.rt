@@ -3,7 +3,7 @@
 // The one public function answers for every input: terms outside the limits that keep every number in its
 // word are told so. The search for L is the plain chain from 1, one evaluation of the right side a turn; all
 // searches of a row for w climb once. Nothing is assumed. This crate knows of terms alone, and must not know
-// of plans, labels, files or lent memory.
+// of plans, labels or files. What it is lent it only reads.
 ghost use mathlib.Core.Path.{_≡_};
 ghost use Prim.Native.Nat.{ℕ, _+_, _-_, _*_, _^_, _≤_, _<_};
 ghost use lib.ListN.{length, getD};
@@ -14,7 +14,7 @@ ghost use Rattle.laws.specs.Search.{Least};
 ghost use Rattle.laws.specs.Signed.{maxZ};
 ghost use Rattle.laws.specs.declared.Found.the-variants.{At};
 ghost use Rattle.bound.specs.Bound as rule;
-ghost use Rattle.analysis.specs.Gathered.{termsOf, cost, shareFits, gapFits, fits, answered};
+ghost use Rattle.analysis.specs.Gathered.{lent, termsOf, cost, shareFits, sourceFits, rowFits, fits, answered};
 ghost use Rattle.analysis.specs.Stairs as stairs;
 use bound::Answer;
 use bound::Verdict;
@@ -27,23 +27,20 @@ use names::TICKS;
 pub const COST: u64 = 5000000;
 
 // The more urgent streams and, after them, the noise sources: each a stair of a right side.
-const STAIRS: usize = STREAMS + SOURCES;
+pub const STAIRS: usize = STREAMS + SOURCES;
 
 // Time is counted from so long before a busy period that no edge of a stair is below zero.
 const START: u64 = 8589934592;
 
-// The terms of a row in places of fixed number: the first `urgent` costs, periods and jitters are hp(i).
+// A row's own terms. Costs, periods and jitters are lent beside them: first those of hp(i), `urgent` of them, and then
+// as many hits and gaps as there are noise sources.
 pub struct Gathered {
     pub blocking: u64,
     pub cost: u64,
     pub period: u64,
     pub jitter: u64,
     pub urgent: usize,
-    pub costs: [u64; STREAMS],
-    pub periods: [u64; STREAMS],
-    pub jitters: [u64; STREAMS],
     pub sources: usize,
-    pub gaps: [u64; SOURCES],
     pub hit: u64,
     pub late: u64,
     pub last: u64,
@@ -70,6 +67,17 @@ fn passed(x: u64, edge: u64, period: u64) -> u64
     (over + (period - 1)) / period
 }
 
+// The same for a stair among many, where no guess helps which of them rise next: no branch decides between none and one.
+fn risen(x: u64, edge: u64, period: u64) -> u64
+    requires { ⌜ (1 ≤ period) × (period ≤ ticks) × (x < 2 ^ 34) × (edge < 2 ^ 34) ⌝ }
+    ensures { λ r. ⌜ r ≡ ceil (x - edge) period ⌝ }
+{
+    if edge + period < x {
+        return passed(x, edge, period);
+    }
+    if edge < x { 1 } else { 0 }
+}
+
 // One evaluation: `sum` and what the stairs rise by up to x; each edge goes on to the last one before the next rise.
 fn climbed(
     x: u64,
@@ -86,28 +94,67 @@ fn climbed(
     let mut k: usize = 0;
     while k < n {
         let edge = edges[k];
-        if edge < x {
-            let period = periods[k];
-            let d = passed(x, edge, period);
-            edges[k] = edge + d * period;
-            total += d * costs[k];
-        }
+        let period = periods[k];
+        let d = risen(x, edge, period);
+        edges[k] = edge + d * period;
+        total += d * costs[k];
         k += 1;
     }
     total
 }
 
-// L: the chain from 1, one evaluation of the right side a turn. i's own stair is kept in numbers of its own.
-fn busy_period(
-    g: Gathered,
+// Where the stairs start: a stream's `jitter` and `late` before time's start, ..
+fn start_streams(jitters: &[u64; STREAMS], n: usize, late: u64, edges: &mut [u64; STAIRS])
+    requires { ⌜ (n ≤ streams) × (late ≤ cost) × ((k : ℕ) → k < n → getD (now jitters) k 0 ≤ ticks) × (length (now edges) ≡ stairs.most) ⌝ }
+    ensures { λ _. ⌜ stairs.StreamsStarted (now (jitters .entry)) n late (now (edges .exit)) ⌝ }
+{
+    let mut k: usize = 0;
+    while k < n {
+        edges[k] = START - (jitters[k] + late);
+        k += 1;
+    }
+}
+
+// .. and a noise source's `window` before it.
+fn start_sources(from: usize, n: usize, window: u64, edges: &mut [u64; STAIRS])
+    requires { ⌜ (from ≤ n) × (n ≤ stairs.most) × (window ≤ cost) × (length (now edges) ≡ stairs.most) ⌝ }
+    ensures { λ _. ⌜ stairs.SourcesStarted from n window (now (edges .entry)) (now (edges .exit)) ⌝ }
+{
+    let mut k = from;
+    while k < n {
+        edges[k] = START - window;
+        k += 1;
+    }
+}
+
+fn start_edges(
+    jitters: &[u64; STREAMS],
+    urgent: usize,
     n: usize,
-    costs: &[u64; STAIRS],
-    periods: &[u64; STAIRS],
+    late: u64,
+    window: u64,
+    edges: &mut [u64; STAIRS],
+)
+    requires { ⌜ (urgent ≤ streams) × (urgent ≤ n) × (n ≤ stairs.most) × (late ≤ cost) × (window ≤ cost) × ((k : ℕ) → k < urgent → getD (now jitters) k 0 ≤ ticks) × (length (now edges) ≡ stairs.most) ⌝ }
+    ensures { λ _. ⌜ stairs.Started (now (jitters .entry)) urgent n late window (now (edges .exit)) ⌝ }
+{
+    start_streams(jitters, urgent, late, edges);
+    start_sources(urgent, n, window, edges);
+}
+
+// L: the chain from 1, one evaluation of the right side a turn. i's own stair is kept in numbers of its own.
+fn busy_period<'a>(
+    g: Gathered,
+    costs: &'a [u64; STAIRS],
+    periods: &'a [u64; STAIRS],
+    jitters: &'a [u64; STREAMS],
     edges: &mut [u64; STAIRS],
 ) -> Found
-    requires { ⌜ (stairs.Fit g) × stairs.Laid (now costs) (now periods) (now edges) n (stairs.restL (termsOf g)) ⌝ }
-    ensures { λ r. ⌜ r ≡ rule.busy (termsOf g) ⌝ }
+    requires { ⌜ (stairs.Fit (lent g (now costs) (now periods) (now jitters))) × (length (now edges) ≡ stairs.most) ⌝ }
+    ensures { λ r. ⌜ (r ≡ rule.busy (termsOf (lent g (now (costs .entry)) (now (periods .entry)) (now (jitters .entry))))) × (length (now (edges .exit)) ≡ stairs.most) ⌝ }
 {
+    let n = g.urgent + g.sources;
+    start_edges(jitters, g.urgent, n, 0, 0, edges);
     let mut edge = START - g.jitter;
     let mut own: u64 = 0;
     let mut rest: u64 = 0;
@@ -166,19 +213,45 @@ fn larger(best: i64, next: i64) -> i64
     if best < next { next } else { best }
 }
 
+// Q: how many instances a busy period has.
+fn instances(l: u64, jitter: u64, period: u64) -> u64
+    requires { ⌜ (l ≤ ticks) × (jitter ≤ ticks) × (1 ≤ period) × (period ≤ ticks) ⌝ }
+    ensures { λ r. ⌜ (r ≡ ceil (l + jitter) period) × (r < 2 ^ 34) ⌝ }
+{
+    (l + jitter + (period - 1)) / period
+}
+
+// The largest term alone on the channel, where an instance waits for B and the instances before it: w(q) = B + q * C''.
+fn alone(g: Gathered, l: u64) -> u64
+    requires { ⌜ (stairs.Row g) × (rule.busy (stairs.aloneTerms g) ≡ At l) ⌝ }
+    ensures { λ r. ⌜ r ≡ rule.bound (stairs.aloneTerms g) l ⌝ }
+{
+    let count = instances(l, g.jitter, g.period);
+    let ends = g.jitter + g.last + g.blocking;
+    let mut best = term(ends, 0);
+    let mut q: u64 = 0;
+    while q + 1 < count {
+        q += 1;
+        best = larger(best, term(ends + q * g.cost, q * g.period));
+    }
+    best as u64
+}
+
 // The largest term J + w(q) + C'' - q * T. The search for w(q + 1) starts at w(q) + C'', with the edges where they are.
-fn largest_term(
+fn largest_term<'a>(
     g: Gathered,
     l: u64,
-    n: usize,
-    costs: &[u64; STAIRS],
-    periods: &[u64; STAIRS],
+    costs: &'a [u64; STAIRS],
+    periods: &'a [u64; STAIRS],
+    jitters: &'a [u64; STREAMS],
     edges: &mut [u64; STAIRS],
 ) -> u64
-    requires { ⌜ (stairs.Fit g) × (rule.busy (termsOf g) ≡ At l) × stairs.Laid (now costs) (now periods) (now edges) n (stairs.restW (termsOf g)) ⌝ }
-    ensures { λ r. ⌜ r ≡ rule.bound (termsOf g) l ⌝ }
+    requires { ⌜ (stairs.Fit (lent g (now costs) (now periods) (now jitters))) × (rule.busy (termsOf (lent g (now costs) (now periods) (now jitters))) ≡ At l) × (length (now edges) ≡ stairs.most) ⌝ }
+    ensures { λ r. ⌜ r ≡ rule.bound (termsOf (lent g (now (costs .entry)) (now (periods .entry)) (now (jitters .entry)))) l ⌝ }
 {
-    let count = (l + g.jitter + (g.period - 1)) / g.period;
+    let n = g.urgent + g.sources;
+    start_edges(jitters, g.urgent, n, g.late + 1, g.cost, edges);
+    let count = instances(l, g.jitter, g.period);
     let ends = g.jitter + g.last;
     let cost = g.cost;
     let mut base = g.blocking;
@@ -193,34 +266,6 @@ fn largest_term(
         best = larger(best, term(ends + wait, q * g.period));
     }
     best as u64
-}
-
-// The first n values, laid onto an array from a place on.
-fn laid(values: &[u64], n: usize, from: usize, onto: [u64; STAIRS]) -> [u64; STAIRS]
-    requires { ⌜ (n ≤ length (now values)) × (from + n ≤ stairs.most) × (length onto ≡ stairs.most) ⌝ }
-    ensures { λ r. ⌜ stairs.Pasted (now (values .entry)) n from onto r ⌝ }
-{
-    let mut out = onto;
-    let mut k: usize = 0;
-    while k < n {
-        out[from + k] = values[k];
-        k += 1;
-    }
-    out
-}
-
-// Where the stairs start: a stream's `jitter` and `late` before time's start, a noise source's `window` before it.
-fn edges_at(jitters: &[u64; STREAMS], n: usize, late: u64, window: u64) -> [u64; STAIRS]
-    requires { ⌜ (n ≤ streams) × (late ≤ cost) × (window ≤ cost) × ((k : ℕ) → k < n → getD (now jitters) k 0 ≤ ticks) ⌝ }
-    ensures { λ r. ⌜ stairs.Started (now (jitters .entry)) n late window r ⌝ }
-{
-    let mut out = [START - window; STAIRS];
-    let mut k: usize = 0;
-    while k < n {
-        out[k] = START - (jitters[k] + late);
-        k += 1;
-    }
-    out
 }
 
 fn share_fits(cost: u64, period: u64, jitter: u64) -> bool
@@ -243,8 +288,8 @@ fn share_fits(cost: u64, period: u64, jitter: u64) -> bool
 
 fn shares_fit<'a>(
     n: usize,
-    costs: &'a [u64; STREAMS],
-    periods: &'a [u64; STREAMS],
+    costs: &'a [u64; STAIRS],
+    periods: &'a [u64; STAIRS],
     jitters: &'a [u64; STREAMS],
 ) -> bool
     requires { ⌜ n ≤ streams ⌝ }
@@ -260,8 +305,9 @@ fn shares_fit<'a>(
     true
 }
 
-fn gap_fits(gap: u64) -> bool
-    ensures { λ r. ⌜ r ≡ gapFits gap ⌝ }
+// A source's stair: its gap within the limits, and a hit for each.
+fn source_fits(hit: u64, each: u64, gap: u64) -> bool
+    ensures { λ r. ⌜ r ≡ sourceFits hit each gap ⌝ }
 {
     if gap < 1 {
         return false;
@@ -269,16 +315,22 @@ fn gap_fits(gap: u64) -> bool
     if TICKS < gap {
         return false;
     }
-    true
+    each == hit
 }
 
-fn gaps_fit(n: usize, gaps: &[u64; SOURCES]) -> bool
-    requires { ⌜ n ≤ sources ⌝ }
-    ensures { λ r. ⌜ r ≡ every n (λ k. gapFits (getD (now (gaps .entry)) k 0)) ⌝ }
+fn sources_fit(
+    hit: u64,
+    from: usize,
+    n: usize,
+    costs: &[u64; STAIRS],
+    periods: &[u64; STAIRS],
+) -> bool
+    requires { ⌜ from + n ≤ stairs.most ⌝ }
+    ensures { λ r. ⌜ r ≡ every n (λ k. sourceFits hit (getD (now (costs .entry)) (from + k) 0) (getD (now (periods .entry)) (from + k) 0)) ⌝ }
 {
     let mut k: usize = 0;
     while k < n {
-        if !gap_fits(gaps[k]) {
+        if !source_fits(hit, costs[from + k], periods[from + k]) {
             return false;
         }
         k += 1;
@@ -286,9 +338,9 @@ fn gaps_fit(n: usize, gaps: &[u64; SOURCES]) -> bool
     true
 }
 
-// Whether the terms are within the limits, in the order of the definition.
-fn within(g: Gathered) -> bool
-    ensures { λ r. ⌜ r ≡ fits g ⌝ }
+// Whether a row's own terms are within the limits, in the order of the definition.
+fn row_fits(g: Gathered) -> bool
+    ensures { λ r. ⌜ r ≡ rowFits g ⌝ }
 {
     if COST < g.blocking {
         return false;
@@ -305,44 +357,73 @@ fn within(g: Gathered) -> bool
     if g.cost < g.last {
         return false;
     }
-    if !share_fits(g.cost, g.period, g.jitter) {
+    share_fits(g.cost, g.period, g.jitter)
+}
+
+// Whether the terms are within the limits, in the order of the definition.
+fn within<'a>(
+    g: Gathered,
+    costs: &'a [u64; STAIRS],
+    periods: &'a [u64; STAIRS],
+    jitters: &'a [u64; STREAMS],
+) -> bool
+    ensures { λ r. ⌜ r ≡ fits (lent g (now (costs .entry)) (now (periods .entry)) (now (jitters .entry))) ⌝ }
+{
+    if !row_fits(g) {
         return false;
     }
     let urgent = g.urgent;
     if STREAMS < urgent {
         return false;
     }
-    if !shares_fit(urgent, &g.costs, &g.periods, &g.jitters) {
+    if !shares_fit(urgent, costs, periods, jitters) {
         return false;
     }
     let sources = g.sources;
     if SOURCES < sources {
         return false;
     }
-    gaps_fit(sources, &g.gaps)
+    sources_fit(g.hit, urgent, sources, costs, periods)
+}
+
+// The largest term, by the shorter way where the row has no stair.
+fn bound_of<'a>(
+    g: Gathered,
+    l: u64,
+    costs: &'a [u64; STAIRS],
+    periods: &'a [u64; STAIRS],
+    jitters: &'a [u64; STREAMS],
+    edges: &mut [u64; STAIRS],
+) -> u64
+    requires { ⌜ (stairs.Fit (lent g (now costs) (now periods) (now jitters))) × (rule.busy (termsOf (lent g (now costs) (now periods) (now jitters))) ≡ At l) × (length (now edges) ≡ stairs.most) ⌝ }
+    ensures { λ r. ⌜ r ≡ rule.bound (termsOf (lent g (now (costs .entry)) (now (periods .entry)) (now (jitters .entry)))) l ⌝ }
+{
+    if g.urgent + g.sources == 0 {
+        return alone(g, l);
+    }
+    largest_term(g, l, costs, periods, jitters, edges)
 }
 
 // The answer of terms that are within the limits.
-fn inside(g: Gathered, deadline: u64) -> Answer
-    requires { ⌜ stairs.Fit g ⌝ }
-    ensures { λ r. ⌜ r ≡ rule.answer (termsOf g) deadline ⌝ }
+fn inside<'a>(
+    g: Gathered,
+    costs: &'a [u64; STAIRS],
+    periods: &'a [u64; STAIRS],
+    jitters: &'a [u64; STREAMS],
+    deadline: u64,
+) -> Answer
+    requires { ⌜ stairs.Fit (lent g (now costs) (now periods) (now jitters)) ⌝ }
+    ensures { λ r. ⌜ r ≡ rule.answer (termsOf (lent g (now (costs .entry)) (now (periods .entry)) (now (jitters .entry)))) deadline ⌝ }
 {
-    let urgent = g.urgent;
-    let sources = g.sources;
-    let n = urgent + sources;
-    let costs = laid(&g.costs, urgent, 0, [g.hit; STAIRS]);
-    let front = laid(&g.periods, urgent, 0, [1; STAIRS]);
-    let periods = laid(&g.gaps, sources, urgent, front);
-    let mut edges = edges_at(&g.jitters, urgent, 0, 0);
-    let found = busy_period(g, n, &costs, &periods, &mut edges);
+    let mut edges = [START; STAIRS];
+    let found = busy_period(g, costs, periods, jitters, &mut edges);
     let Found::At(l) = found else {
         return Answer {
             verdict: Verdict::None,
             bound: 0,
         };
     };
-    let mut again = edges_at(&g.jitters, urgent, g.late + 1, g.cost);
-    let bound = largest_term(g, l, n, &costs, &periods, &mut again);
+    let bound = bound_of(g, l, costs, periods, jitters, &mut edges);
     if bound <= deadline {
         Answer {
             verdict: Verdict::Met,
@@ -357,11 +438,17 @@ fn inside(g: Gathered, deadline: u64) -> Answer
 }
 
 // The answer of a row's terms for a deadline.
-pub fn answer(g: Gathered, deadline: u64) -> Answered
-    ensures { λ r. ⌜ r ≡ answered g deadline ⌝ }
+pub fn answer<'a>(
+    g: Gathered,
+    costs: &'a [u64; STAIRS],
+    periods: &'a [u64; STAIRS],
+    jitters: &'a [u64; STREAMS],
+    deadline: u64,
+) -> Answered
+    ensures { λ r. ⌜ r ≡ answered (lent g (now (costs .entry)) (now (periods .entry)) (now (jitters .entry))) deadline ⌝ }
 {
-    if !within(g) {
+    if !within(g, costs, periods, jitters) {
         return Answered::Outside;
     }
-    Answered::Row(inside(g, deadline))
+    Answered::Row(inside(g, costs, periods, jitters, deadline))
 }

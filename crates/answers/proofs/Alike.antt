@@ -1,6 +1,6 @@
 -- A plan's sheets, and its file, are answered alike. Assumes nothing.
 use mathlib.Core.Path.{_≡_, refl, sym, ap, _∙_}
-use mathlib.Core.List.{List, _++_}
+use mathlib.Core.List.{List}
 use Prim.Native.Nat.{ℕ}
 use lib.ListN.{length}
 use Rattle.plan.specs.declared.Sheet.{Sheet}
@@ -11,17 +11,15 @@ use Rattle.checks.specs.Checks.{judge, lines, checkedOf}
 use Rattle.file.specs.File.{fileOf, sheetOf, readAs, readOf}
 use Rattle.file.proofs.Reading.{one-sheet}
 use Rattle.file.proofs.RoundTrip.{reads-as-its-values}
-use Rattle.answers.specs.Words.{tooFew, answerAs, answerOf, answerRead, answerFileOf}
+use Rattle.rows.specs.Words.{answerWith}
+use Rattle.answers.specs.Words.{answerOf, answerRead, answerFileOf}
 use Rattle.answers.specs.Claims.{SheetOf, SheetsAlike, FileAlike}
 use Rattle.answers.proofs.Laid.{refused-is}
 
--- what a sheet is answered by: its counts and its plan
-abbrev outcome : ℕ → ℕ → Plan → List ℕ → Checked × List ℕ
-outcome n m p out = answerAs (judge (lines n m p ++ tooFew n out)) n p out
-
-by-plan : (p : Plan) (s : Sheet) → SheetOf s p → (out : List ℕ) → answerOf s out ≡ outcome (length (p .streams)) (length (p .gaps)) p out
+-- a sheet is answered by its counts and its plan
+by-plan : (p : Plan) (s : Sheet) → SheetOf s p → (out : List ℕ) → answerOf s out ≡ answerWith (length (p .streams)) (length (p .gaps)) p out
 unfolding answerOf
-by-plan p s e out = λ i. outcome (e .count i) (e .sources i) (e .plan i) out
+by-plan p s e out = λ i. answerWith (e .count i) (e .sources i) (e .plan i) out
 
 checked-by-plan : (p : Plan) (s : Sheet) → SheetOf s p → checkedOf s ≡ judge (lines (length (p .streams)) (length (p .gaps)) p)
 unfolding checkedOf

@@ -1,3 +1,4 @@
 pub mod Judge
 pub mod Fine
+pub mod Words
 pub mod Unique

@@ -5,4 +5,5 @@ pub mod Exactly
 pub mod Said
 pub mod Places
 pub mod Standing
+pub mod InOrder
 pub mod Unique

@@ -1,24 +1,19 @@
--- The numbers that the rows had, laid out in places, tell who was overtaken as the plans do. Assumes nothing.
+-- The numbers that the rows had, as a column, tell who was overtaken as the plans do. Assumes nothing.
 use mathlib.Core.Path.{_≡_, refl, ap, ap₂, _∙_}
 use mathlib.Core.Bool.{Bool, not, _&&_, _||_}
-use mathlib.Core.List.{List}
+use mathlib.Core.List.{List, [], _∷_, map}
 use Prim.Native.Nat.{ℕ, zero, suc, _<_}
 use native.Mathlib.Omega.{arith}
 use lib.Dec.{ltb, leb}
-use lib.ListN.{length, getD}
-use Rattle.laws.proofs.Lists.{rows-front}
+use lib.ListN.{length, getD, length-map}
 use Rattle.repeats.specs.Rows.{some}
-use Rattle.plan.specs.Plan.{Plan}
+use Rattle.plan.specs.declared.Stream.{Stream}
+use Rattle.plan.specs.Plan.{Plan, blank}
 use Rattle.promise.specs.Lighter.{at}
 use Rattle.compare.specs.declared.Change.{Change}
 use Rattle.compare.specs.declared.Reason.the-variants.{LessUrgent}
-use Rattle.compare.specs.Changes.{unless, _or_, firstGiven, overtakes, urgency}
-use Rattle.compare.specs.Private.{overtakesBy, numberOf, numbersOf}
-
--- what is said of row k by the numbers that the rows had
-abbrev pub urgencyBy : List ℕ → Plan → ℕ → Change
-urgencyBy was p k =
-    unless (not (some (overtakesBy was p (at p k .priority) (getD was k 0)) (length (p .streams)))) (LessUrgent (at p k .label))
+use Rattle.compare.specs.Changes.{unless, _or_, firstGiven, number, overtakes, urgency}
+use Rattle.compare.specs.Private.{priorityOf, column, overtakesBy, urgencyBy}
 
 some-same : (t u : ℕ → Bool) (n : ℕ) → ((j : ℕ) → j < n → t j ≡ u j) → some t n ≡ some u n
 unfolding some
@@ -30,16 +25,32 @@ unfolding firstGiven
 given-same f g zero h = refl
 given-same f g (suc n) h = ap₂ (λ a b. a or b) (given-same f g n (λ j l. h j (omega arith))) (h n (omega arith))
 
+-- row k of a column
+in-column : (f : Stream → ℕ) (l : List Stream) (k : ℕ) → k < length l → getD (map f l) k 0 ≡ f (getD l k blank)
+in-column f [] k h = absurd (omega arith)
+in-column f (s ∷ l) zero h = refl
+in-column f (s ∷ l) (suc k) h = in-column f l k (omega arith)
+
 module _ (old new : Plan) where
-  number-at : (k : ℕ) → k < length (new .streams) → getD (numbersOf old new) k 0 ≡ numberOf old new k
-  unfolding numbersOf
-  number-at k h = rows-front (numberOf old new) _ 0 (length (new .streams)) k h
+  -- the numbers that the rows had
+  abbrev had : Stream → ℕ
+  had s = number old (s .label)
 
-  by-numbers : (k j : ℕ) → k < length (new .streams) → j < length (new .streams)
-      → overtakesBy (numbersOf old new) new (at new k .priority) (getD (numbersOf old new) k 0) j ≡ overtakes old new k j
-  by-numbers k j h i = ap₂ (λ a b. ltb (at new j .priority .0) (at new k .priority .0) && leb a b) (number-at k h) (number-at j i)
+  abbrev was : List ℕ
+  was = column had new
 
-  pub as-urgency : firstGiven (urgencyBy (numbersOf old new) new) (length (new .streams)) ≡ firstGiven (urgency old new) (length (new .streams))
+  abbrev is : List ℕ
+  is = column priorityOf new
+
+  by-columns : (k j : ℕ) → k < length (new .streams) → j < length (new .streams) → overtakesBy was is (getD is k 0) (getD was k 0) j ≡ overtakes old new k j
+  by-columns k j h i =
+      let now = in-column priorityOf (new .streams) in
+      let then = in-column had (new .streams) in
+      λ x. ltb (now j i x) (now k h x) && leb (then k h x) (then j i x)
+
+  pub as-urgency : firstGiven (urgencyBy was is new) (length (new .streams)) ≡ firstGiven (urgency old new) (length (new .streams))
   as-urgency =
       given-same _ _ (length (new .streams))
-      (λ k h. ap (λ t. unless (not t) (LessUrgent (at new k .label))) (some-same _ _ (length (new .streams)) (λ j i. by-numbers k j h i)))
+      (λ k h. ap (λ t. unless (not t) (LessUrgent (at new k .label)))
+      (ap (some (overtakesBy was is (getD is k 0) (getD was k 0))) (length-map (new .streams) priorityOf)
+      ∙ some-same _ _ (length (new .streams)) (λ j i. by-columns k j h i)))

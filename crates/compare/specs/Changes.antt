@@ -82,7 +82,7 @@ stream old s = inRow old s (rowOf old (s .label))
 
 -- ---- their order of priority
 
--- the priority number that a label has in a plan
+-- the priority number that a label has in a plan; 0 where it does not stand is harmless, since a new label is reported before the order is looked at
 abbrev pub numberIn : Plan → Found → ℕ
 numberIn p (Found·At r) = at p r .priority .0
 numberIn p Found·Nothing = 0

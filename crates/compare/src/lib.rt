@@ -3,9 +3,7 @@
 // `lighter` answers for every two sheets, and its contract says when it answers what, both ways, and what follows for the bounds.
 // Nothing is assumed. This crate knows of plans' values; it must not know of bytes or of text, and it runs no analysis.
 ghost use mathlib.Core.Path.{_≡_};
-ghost use mathlib.Core.Bool.{_&&_};
-ghost use Prim.Native.Nat.{_≤_, _<_};
-ghost use lib.Dec.{leb, ltb};
+ghost use Prim.Native.Nat.{_≤_};
 ghost use lib.ListN.{length, take, getD};
 ghost use Rattle.names.specs.Limits as limit;
 ghost use Rattle.repeats.specs.Rows.{some};
@@ -14,13 +12,12 @@ ghost use Rattle.promise.specs.Lighter.{at};
 ghost use Rattle.compare.specs.Changes as rule;
 ghost use Rattle.compare.specs.Compared.{comparedAs};
 ghost use Rattle.compare.specs.Claims.{Said};
-ghost use Rattle.compare.specs.Private.{overtakesBy, numbersOf};
+ghost use Rattle.compare.specs.Private.{labelOf, priorityOf, column, laid, rowBy, numberBy, overtakesBy, urgencyBy};
 use checks::Checked;
 use checks::check;
 use laws::Found;
 use laws::smaller;
 use names::Label;
-use names::Priority;
 use names::Refusal;
 use names::SOURCES;
 use names::STREAMS;
@@ -99,14 +96,32 @@ fn constants_of_u(old: Timing, new: Timing) -> Change
     Change::Nothing
 }
 
-// The row of a plan that is under a label.
-fn row_of(plan: Sheet, label: Label) -> Found
-    ensures { λ r. ⌜ r ≡ rule.rowOf (planOf plan) label ⌝ }
+// A plan's labels and its priority numbers, with 0 in the places after them: lent where each row is held to each, so that no sheet is copied there.
+struct Columns {
+    labels: [u32; STREAMS],
+    priorities: [u32; STREAMS],
+}
+
+fn columns_of(plan: Sheet) -> Columns
+    ensures { λ r. ⌜ (r .labels ≡ laid labelOf (planOf plan)) × (r .priorities ≡ laid priorityOf (planOf plan)) ⌝ }
 {
     let n = smaller(plan.count, STREAMS);
-    for r in 0..n {
-        let s = plan.streams[r];
-        if s.label.0 == label.0 {
+    let mut labels = [0; STREAMS];
+    let mut priorities = [0; STREAMS];
+    for k in 0..n {
+        let s = plan.streams[k];
+        labels[k] = s.label.0;
+        priorities[k] = s.priority.0;
+    }
+    Columns { labels, priorities }
+}
+
+// The row that is under a label.
+fn row_of(labels: &[u32], label: Label) -> Found
+    ensures { λ r. ⌜ r ≡ rowBy (now (labels .entry)) label ⌝ }
+{
+    for r in 0..labels.len() {
+        if labels[r] == label.0 {
             return Found::At(r as u64);
         }
     }
@@ -133,91 +148,78 @@ fn eased(old: Stream, new: Stream) -> Change
     Change::Nothing
 }
 
-fn stream(old: Sheet, s: Stream) -> Change
-    ensures { λ r. ⌜ r ≡ rule.stream (planOf old) s ⌝ }
-{
-    let label = s.label;
-    match row_of(old, label) {
-        Found::At(r) => {
-            let namesake = old.streams[r as usize];
-            eased(namesake, s)
-        }
-        Found::Nothing => Change::Of(Reason::NewLabel(label)),
-    }
-}
-
-fn streams(old: Sheet, new: Sheet) -> Change
+fn streams(old: Sheet, new: Sheet, labels: &[u32]) -> Change
+    requires { ⌜ now labels ≡ column labelOf (planOf old) ⌝ }
     ensures { λ r. ⌜ r ≡ rule.firstGiven (λ k. rule.stream (planOf old) (at (planOf new) k)) (length (planOf new .streams)) ⌝ }
 {
     let n = smaller(new.count, STREAMS);
     for k in 0..n {
         let s = new.streams[k];
-        match stream(old, s) {
-            Change::Of(r) => return Change::Of(r),
-            Change::Nothing => {}
+        let label = s.label;
+        match row_of(labels, label) {
+            Found::At(r) => {
+                let namesake = old.streams[r as usize];
+                match eased(namesake, s) {
+                    Change::Of(r) => return Change::Of(r),
+                    Change::Nothing => {}
+                }
+            }
+            Found::Nothing => return Change::Of(Reason::NewLabel(label)),
         }
     }
     Change::Nothing
 }
 
-// The priority number that a label has in a plan.
-fn number(plan: Sheet, label: Label) -> u32
-    ensures { λ r. ⌜ r ≡ rule.number (planOf plan) label ⌝ }
+// The number that stands beside a label, or 0.
+fn number<'a>(labels: &'a [u32], numbers: &'a [u32], label: Label) -> u32
+    requires { ⌜ length (now numbers) ≡ length (now labels) ⌝ }
+    ensures { λ r. ⌜ r ≡ numberBy (now (labels .entry)) (now (numbers .entry)) label ⌝ }
 {
-    match row_of(plan, label) {
-        Found::At(r) => {
-            let s = plan.streams[r as usize];
-            s.priority.0
-        }
+    match row_of(labels, label) {
+        Found::At(r) => numbers[r as usize],
         Found::Nothing => 0,
     }
 }
 
 // The numbers that the second plan's labels have in the first, row by row.
-fn numbers(old: Sheet, new: Sheet) -> [u32; STREAMS]
-    ensures { λ r. ⌜ r ≡ numbersOf (planOf old) (planOf new) ⌝ }
+fn numbers<'a>(labels: &'a [u32], numbers: &'a [u32], new: Sheet) -> [u32; STREAMS]
+    requires { ⌜ length (now numbers) ≡ length (now labels) ⌝ }
+    ensures { λ r. ⌜ r ≡ laid (λ s. numberBy (now (labels .entry)) (now (numbers .entry)) (s .label)) (planOf new) ⌝ }
 {
     let n = smaller(new.count, STREAMS);
     let mut was = [0; STREAMS];
     for k in 0..n {
         let row = new.streams[k];
         let label = row.label;
-        was[k] = number(old, label);
+        was[k] = number(labels, numbers, label);
     }
     was
 }
 
-// Whether a stream of priority p, which had the number was, is more urgent than a stream of priority q, which had the number than, and was not.
-fn overtakes(p: Priority, was: u32, q: Priority, than: u32) -> bool
-    ensures { λ r. ⌜ r ≡ (ltb (p .0) (q .0) && leb than was) ⌝ }
+// Whether some row overtakes a stream of number q that had the number than. There is no way out of the loop, so that several rows are compared at once.
+fn overtaken<'a>(was: &'a [u32], is: &'a [u32], q: u32, than: u32) -> bool
+    requires { ⌜ length (now was) ≡ length (now is) ⌝ }
+    ensures { λ r. ⌜ r ≡ some (overtakesBy (now (was .entry)) (now (is .entry)) q than) (length (now (is .entry))) ⌝ }
 {
-    if p.0 < q.0 { than <= was } else { false }
-}
-
-// Whether some row of the plan does so to a stream of priority q, by the numbers that the rows had.
-fn overtaken(was: [u32; STREAMS], plan: Sheet, q: Priority, than: u32) -> bool
-    ensures { λ r. ⌜ r ≡ some (overtakesBy was (planOf plan) q than) (length (planOf plan .streams)) ⌝ }
-{
-    let n = smaller(plan.count, STREAMS);
-    for j in 0..n {
-        let s = plan.streams[j];
-        let p = s.priority;
-        if overtakes(p, was[j], q, than) {
-            return true;
+    let mut found = false;
+    for j in 0..is.len() {
+        if is[j] < q {
+            if than <= was[j] {
+                found = true;
+            }
         }
     }
-    false
+    found
 }
 
-fn urgency(old: Sheet, new: Sheet) -> Change
-    ensures { λ r. ⌜ r ≡ rule.firstGiven (rule.urgency (planOf old) (planOf new)) (length (planOf new .streams)) ⌝ }
+// The first row that is overtaken, by the numbers that the rows had and have.
+fn urgency<'a>(new: Sheet, was: &'a [u32], is: &'a [u32]) -> Change
+    requires { ⌜ (length (now was) ≡ length (planOf new .streams)) × (length (now is) ≡ length (planOf new .streams)) ⌝ }
+    ensures { λ r. ⌜ r ≡ rule.firstGiven (urgencyBy (now (was .entry)) (now (is .entry)) (planOf new)) (length (planOf new .streams)) ⌝ }
 {
-    let n = smaller(new.count, STREAMS);
-    let was = numbers(old, new);
-    for k in 0..n {
-        let s = new.streams[k];
-        let q = s.priority;
-        if overtaken(was, new, q, was[k]) {
+    for k in 0..is.len() {
+        if overtaken(was, is, is[k], was[k]) {
+            let s = new.streams[k];
             let label = s.label;
             return Change::Of(Reason::LessUrgent(label));
         }
@@ -256,6 +258,30 @@ fn noise(old: Sheet, new: Sheet) -> Change
     Change::Nothing
 }
 
+// The conditions that are looked at if no constant is greater.
+fn streams_and_gaps(old: Sheet, new: Sheet) -> Change
+    requires { ⌜ rule.constants (old .timing) (new .timing) ≡ Change.Nothing ⌝ }
+    ensures { λ r. ⌜ r ≡ rule.changes (planOf old) (planOf new) ⌝ }
+{
+    let n = smaller(old.count, STREAMS);
+    let m = smaller(new.count, STREAMS);
+    let first = columns_of(old);
+    let labels = first.labels;
+    match streams(old, new, &labels[..n]) {
+        Change::Of(r) => return Change::Of(r),
+        Change::Nothing => {}
+    }
+    let held = first.priorities;
+    let was = numbers(&labels[..n], &held[..n], new);
+    let second = columns_of(new);
+    let is = second.priorities;
+    match urgency(new, &was[..m], &is[..m]) {
+        Change::Of(r) => return Change::Of(r),
+        Change::Nothing => {}
+    }
+    noise(old, new)
+}
+
 // The first condition of the lighter plan that does not hold between two plans, refused or not.
 pub fn changes(old: Sheet, new: Sheet) -> Change
     ensures { λ r. ⌜ r ≡ rule.changes (planOf old) (planOf new) ⌝ }
@@ -270,15 +296,7 @@ pub fn changes(old: Sheet, new: Sheet) -> Change
         Change::Of(r) => return Change::Of(r),
         Change::Nothing => {}
     }
-    match streams(old, new) {
-        Change::Of(r) => return Change::Of(r),
-        Change::Nothing => {}
-    }
-    match urgency(old, new) {
-        Change::Of(r) => return Change::Of(r),
-        Change::Nothing => {}
-    }
-    noise(old, new)
+    streams_and_gaps(old, new)
 }
 
 // The answer to two plans that were looked at already: the first is reported first.

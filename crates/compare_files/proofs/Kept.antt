@@ -24,9 +24,10 @@ use Rattle.checks.specs.Checks.{judge, lines}
 use Rattle.promise.specs.Lighter.{at, NotRefused, Kept}
 use Rattle.file.specs.declared.ReadPlan.{ReadPlan}
 use Rattle.file.specs.File as file
-use Rattle.file.proofs.Rows.{length-flat, in-piece}
+use Rattle.fields.proofs.Pieces.{length-flat, in-piece}
 use Rattle.file.proofs.Reading.{fine-read, one-sheet}
 use Rattle.answers.specs.Words.{words, rowWords, answerWords, tooFew, answerAs, answerOf, answerRead, answerFileOf}
+use Rattle.rows.specs.Words.{answerWith}
 use Rattle.compare.proofs.Exactly.{one-row}
 use Rattle.compare.proofs.Said.{said-exactly, said-kept, fine-not-refused}
 use Rattle.compare_files.specs.Files.{planFrom, comparedFiles}
@@ -59,7 +60,7 @@ as-words (Refused r) n p out e = absurd (let z : _≡_ {A = ℕ} 0 1 = cc in ome
 
 read-words : (c : Checked) (s : Sheet) (out : List ℕ) → answerRead c s out .0 ≡ Fine
     → answerRead c s out .1 ≡ answerWords (planOf s) ++ drop (words * s .count) out
-unfolding answerOf
+unfolding answerOf answerWith
 read-words Fine s out e = as-words (judge (lines (s .count) (s .sources) (planOf s) ++ tooFew (s .count) out)) (s .count) (planOf s) out e
 read-words (Refused r) s out e = absurd (let z : _≡_ {A = ℕ} 0 1 = cc in omega arith)
 

@@ -1,4 +1,5 @@
 pub mod Layout
 pub mod Fields
+pub mod Words
 pub mod Claims
 pub mod Private

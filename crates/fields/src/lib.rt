@@ -1,7 +1,8 @@
-// The fields of a plan in the order of its file: where each stands, its limits, and the lowest that is outside them.
+// The fields of a plan in the order of its file: where each stands, its limits, the lowest that is outside them, and a
+// sheet's values as the file's words.
 //
 // Every function answers for every value that it is given, and its contract determines the answer. Nothing is assumed. This
-// crate knows of names, laws and a plan's values; it must not know of bytes, of lent memory or of the other refusals.
+// crate knows of names, laws and a plan's values; it must not know of bytes or of the other refusals.
 use laws::Found;
 use laws::smaller;
 use names::BITS;
@@ -15,13 +16,16 @@ use plan::Stream;
 use plan::Timing;
 ghost use mathlib.Core.Path.{_≡_};
 ghost use mathlib.Core.List.{map, flatMap};
-ghost use Prim.Native.Nat.{_+_, _-_, _^_, _*_, _≤_};
-ghost use lib.ListN.{length, take};
+ghost use Prim.Native.Nat.{_+_, _-_, _^_, _*_, min, _≤_};
+ghost use lib.ListN.{length, getD};
+ghost use lib.Seq.{paste};
 ghost use Rattle.names.specs.Limits as limit;
 ghost use Rattle.laws.specs.declared.Found.the-variants.{At};
+ghost use Rattle.laws.specs.Lists.{rows};
 ghost use Rattle.plan.specs.Plan.{planOf};
 ghost use Rattle.fields.specs.Layout as layout;
 ghost use Rattle.fields.specs.Fields.{timingFields, streamFields, gapField, fields, timingWords, streamWords, lowest};
+ghost use Rattle.fields.specs.Words.{timingIn, streamIn, planIn, inPlaces};
 ghost use Rattle.fields.specs.Private.{fieldsOf};
 
 // A word's bytes, and the words of the contents, of the timing and of a stream. A noise gap is one word.
@@ -32,6 +36,9 @@ pub const CONTENTS: usize = 11;
 pub const TIMING: usize = 9;
 
 pub const STREAM: usize = 6;
+
+// The words of the largest file.
+pub const WORDS: usize = CONTENTS + TIMING + STREAM * STREAMS + SOURCES;
 
 // The byte offset of word k of the file.
 fn at_word(k: usize) -> Found
@@ -57,18 +64,11 @@ fn words_outside<'a>(words: &'a [u32], least: &'a [u32], most: &'a [u32], k: usi
     Found::Nothing
 }
 
-// The timing's words in file order.
-pub fn timing_words(t: Timing) -> [u32; TIMING]
-    ensures { λ r. ⌜ r ≡ timingWords t ⌝ }
-{
-    [t.f, t.e, t.tfcs, t.swx, t.h, t.g, t.etg, t.lag, t.nb]
-}
-
 // F to LAG are at most 65,535, and NB is 1 to 32.
-fn timing_outside(t: Timing) -> Found
-    ensures { λ r. ⌜ r ≡ lowest layout.contents (timingFields t) ⌝ }
+fn timing_outside(words: &[u32]) -> Found
+    requires { ⌜ length (now words) ≡ layout.largest ⌝ }
+    ensures { λ r. ⌜ r ≡ lowest layout.contents (timingFields (timingIn (now (words .entry)) layout.contents)) ⌝ }
 {
-    let words = timing_words(t);
     let least = [0, 0, 0, 0, 0, 0, 0, 0, 1];
     let most = [
         CONSTANT,
@@ -81,7 +81,7 @@ fn timing_outside(t: Timing) -> Found
         CONSTANT,
         BITS,
     ];
-    words_outside(&words, &least, &most, CONTENTS)
+    words_outside(&words[CONTENTS..CONTENTS + TIMING], &least, &most, CONTENTS)
 }
 
 // 2^NB - 1, in 64 bits, where 2^32 has room.
@@ -90,6 +90,60 @@ fn largest_priority(nb: u32) -> u32
     ensures { λ r. ⌜ r ≡ 2 ^ nb - 1 ⌝ }
 {
     ((1u64 << nb) - 1) as u32
+}
+
+// The streams, which all have one row of limits. Every word is a label.
+fn streams_outside(words: &[u32], n: usize, nb: u32) -> Found
+    requires { ⌜ (length (now words) ≡ layout.largest) × (n ≤ limit.streams) × (nb ≤ limit.bits) ⌝ }
+    ensures { λ r. ⌜ r ≡ lowest (layout.streamAt 0) (flatMap (streamFields nb) (rows n (λ k. streamIn (now (words .entry)) (layout.streamAt k)))) ⌝ }
+{
+    let any = TICKS as u32;
+    let least = [0, 0, 1, 0, 1, 1];
+    let most = [any, largest_priority(nb), any, any, PAYLOAD, any];
+    for r in 0..n {
+        let at = CONTENTS + TIMING + STREAM * r;
+        match words_outside(&words[at..at + STREAM], &least, &most, at) {
+            Found::At(p) => return Found::At(p),
+            Found::Nothing => {}
+        }
+    }
+    Found::Nothing
+}
+
+// The gaps, which start where stream n would.
+fn gaps_outside(words: &[u32], n: usize, m: usize) -> Found
+    requires { ⌜ (length (now words) ≡ layout.largest) × (n ≤ limit.streams) × (m ≤ limit.sources) ⌝ }
+    ensures { λ r. ⌜ r ≡ lowest (layout.streamAt n) (map gapField (rows m (λ k. getD (now (words .entry)) (layout.gapAt n k) 0))) ⌝ }
+{
+    let least = [1; SOURCES];
+    let most = [TICKS as u32; SOURCES];
+    let at = CONTENTS + TIMING + STREAM * n;
+    words_outside(&words[at..at + m], &least[..m], &most[..m], at)
+}
+
+// The byte offset of the lowest field that is outside its limits, of the plan of n streams and m gaps in the words of a file; of
+// counts past the limits the plan has as many as it may. No number is raised to the power NB before NB is known to be in its limits.
+pub fn outside(words: &[u32; WORDS], n: usize, m: usize) -> Found
+    ensures { λ r. ⌜ r ≡ lowest layout.contents (fields (planIn (min n limit.streams) (min m limit.sources) (now (words .entry)))) ⌝ }
+{
+    let rows = smaller(n, STREAMS);
+    match timing_outside(words) {
+        Found::At(p) => return Found::At(p),
+        Found::Nothing => {}
+    }
+    let nb = words[CONTENTS + TIMING - 1];
+    match streams_outside(words, rows, nb) {
+        Found::At(p) => return Found::At(p),
+        Found::Nothing => {}
+    }
+    gaps_outside(words, rows, smaller(m, SOURCES))
+}
+
+// The timing's words in file order.
+pub fn timing_words(t: Timing) -> [u32; TIMING]
+    ensures { λ r. ⌜ r ≡ timingWords t ⌝ }
+{
+    [t.f, t.e, t.tfcs, t.swx, t.h, t.g, t.etg, t.lag, t.nb]
 }
 
 // A stream's words in file order.
@@ -106,65 +160,48 @@ pub fn stream_words(s: Stream) -> [u32; STREAM]
     ]
 }
 
-// The stream that starts at word k of the file. Every word is a label.
-fn stream_outside(s: Stream, nb: u32, k: usize) -> Found
-    requires { ⌜ (nb ≤ limit.bits) × (k + layout.stream ≤ layout.largest) ⌝ }
-    ensures { λ r. ⌜ r ≡ lowest k (streamFields nb s) ⌝ }
+// The words from word k on.
+fn lay<'a>(out: &'a mut [u32], k: usize, words: &'a [u32])
+    requires { ⌜ k + length (now words) ≤ length (now out) ⌝ }
+    ensures { λ _. ⌜ now (out .exit) ≡ paste (now (out .entry)) k (now (words .entry)) (length (now (words .entry))) ⌝ }
 {
-    let any = TICKS as u32;
-    let words = stream_words(s);
-    let least = [0, 0, 1, 0, 1, 1];
-    let most = [any, largest_priority(nb), any, any, PAYLOAD, any];
-    words_outside(&words, &least, &most, k)
-}
-
-fn streams_outside(streams: [Stream; STREAMS], n: usize, nb: u32) -> Found
-    requires { ⌜ (n ≤ limit.streams) × (nb ≤ limit.bits) ⌝ }
-    ensures { λ r. ⌜ r ≡ lowest (layout.streamAt 0) (flatMap (streamFields nb) (take n streams)) ⌝ }
-{
-    for r in 0..n {
-        let s = streams[r];
-        match stream_outside(s, nb, CONTENTS + TIMING + STREAM * r) {
-            Found::At(p) => return Found::At(p),
-            Found::Nothing => {}
-        }
+    for i in 0..words.len() {
+        out[k + i] = words[i];
     }
-    Found::Nothing
 }
 
-// The gaps, which start where stream n would.
-fn gaps_outside(gaps: [u32; SOURCES], m: usize, n: usize) -> Found
-    requires { ⌜ (m ≤ limit.sources) × (n ≤ limit.streams) ⌝ }
-    ensures { λ r. ⌜ r ≡ lowest (layout.streamAt n) (map gapField (take m gaps)) ⌝ }
-{
-    let least = [1; SOURCES];
-    let most = [TICKS as u32; SOURCES];
-    words_outside(
-        &gaps[..m],
-        &least[..m],
-        &most[..m],
-        CONTENTS + TIMING + STREAM * n,
-    )
-}
-
-// The byte offset of the lowest field of a sheet's plan that is outside its limits. No number is raised to the power NB
-// before NB is known to be in its limits.
-pub fn outside(sheet: Sheet) -> Found
-    ensures { λ r. ⌜ r ≡ lowest layout.contents (fields (planOf sheet)) ⌝ }
+// The words of a sheet's plan where its file has them. Of counts past the places all places are taken.
+pub fn words_of(sheet: Sheet) -> [u32; WORDS]
+    ensures { λ r. ⌜ r ≡ inPlaces (planOf sheet) ⌝ }
 {
     let n = smaller(sheet.count, STREAMS);
     let m = smaller(sheet.sources, SOURCES);
-    let timing = sheet.timing;
-    let nb = timing.nb;
-    match timing_outside(timing) {
-        Found::At(p) => return Found::At(p),
-        Found::Nothing => {}
-    }
-    let streams = sheet.streams;
-    match streams_outside(streams, n, nb) {
-        Found::At(p) => return Found::At(p),
-        Found::Nothing => {}
+    let mut out = [0; WORDS];
+    let timing = timing_words(sheet.timing);
+    lay(&mut out, CONTENTS, &timing);
+    for r in 0..n {
+        let s = sheet.streams[r];
+        let words = stream_words(s);
+        lay(&mut out, CONTENTS + TIMING + STREAM * r, &words);
     }
     let gaps = sheet.gaps;
-    gaps_outside(gaps, m, n)
+    lay(&mut out, CONTENTS + TIMING + STREAM * n, &gaps[..m]);
+    out
+}
+
+// The timing in the words of a file.
+pub fn timing_in(words: &[u32; WORDS]) -> Timing
+    ensures { λ r. ⌜ r ≡ timingIn (now (words .entry)) layout.contents ⌝ }
+{
+    Timing {
+        f: words[CONTENTS],
+        e: words[CONTENTS + 1],
+        tfcs: words[CONTENTS + 2],
+        swx: words[CONTENTS + 3],
+        h: words[CONTENTS + 4],
+        g: words[CONTENTS + 5],
+        etg: words[CONTENTS + 6],
+        lag: words[CONTENTS + 7],
+        nb: words[CONTENTS + 8],
+    }
 }

@@ -2,6 +2,7 @@ pub mod Rows
 pub mod Same
 pub mod Bodies
 pub mod Reading
+pub mod Carried
 pub mod Writing
 pub mod RoundTrip
 pub mod Numbers

@@ -27,7 +27,7 @@ use Rattle.checks.proofs.Fine.{fine-if-right, own-counts}
 use Rattle.file.specs.declared.ReadPlan.{ReadPlan}
 use Rattle.file.specs.declared.Written.{Written}
 use Rattle.file.specs.declared.Written.the-variants.{Bytes}
-use Rattle.file.specs.File.{contents, words, fileOf, streamsIn, gapsIn, planIn, sheetOf, readAs, readOf, linesOut, writeAs, writeOf}
+use Rattle.file.specs.File.{contents, words, fileOf, streamsIn, gapsIn, planIn, sheetOf, readAs, readOf, linesOut, writeAs, writeWith, writeOf}
 use Rattle.file.specs.Claims.{ReadsAsItsValues, ReadsWhatWasWritten, WritesWhatWasRead, ReadsOneSheet}
 use Rattle.file.proofs.Same.{same-refl}
 use Rattle.file.proofs.Reading.{read-values, ReadFine, fine-read, one-sheet, checked-sheet}
@@ -111,10 +111,11 @@ same-count : (a b : ℕ) → _≡_ {A = Written} (Bytes a) (Bytes b) → a ≡ b
 same-count a b e = cc
 
 pub reads-what-was-written : ReadsWhatWasWritten
-unfolding writeOf
-reads-what-was-written s buf n e = go (judge (linesOut s buf)) refl e
+unfolding writeOf writeWith
+reads-what-was-written s buf n e = go (judge (linesOut (s .count) (s .sources) (planOf s) buf)) refl e
   where
-    go : (c : Checked) → judge (linesOut s buf) ≡ c → writeAs c s buf .0 ≡ Bytes n → readOf (take n (writeAs c s buf .1)) ≡ record { answer = Fine; sheet = sheetOf (planOf s) }
+    go : (c : Checked) → judge (linesOut (s .count) (s .sources) (planOf s) buf) ≡ c → writeAs c (s .count) (s .sources) (planOf s) buf .0 ≡ Bytes n
+        → readOf (take n (writeAs c (s .count) (s .sources) (planOf s) buf .1)) ≡ record { answer = Fine; sheet = sheetOf (planOf s) }
     go Fine j e =
         let p = planOf s in
         let r = fine-if-right (s .count) (s .sources) p .0 (fine-parts (lines (s .count) (s .sources) p) _ j .0) in
@@ -139,6 +140,7 @@ file-back bs small f =
     ap bytesOf (words-of-plan (wordsOf bs) (f .n) (f .m) long (f .contents)) ∙ W.bytes-words k bs small (f .size)
 
 pub writes-what-was-read : WritesWhatWasRead
+unfolding writeOf checkedOf
 writes-what-was-read bs buf small e h =
     let f = fine-read bs e in
     let p = planIn (f .n) (f .m) (wordsOf bs) in
@@ -148,5 +150,5 @@ writes-what-was-read bs buf small e h =
     let long : layout.size n m ≡ length bs = ap₂ layout.size (r .count) (r .sources) ∙ sym (f .size) in
     let fine : checkedOf (sheetOf p) ≡ Fine = checked-sheet (f .n) (f .m) p (r .count) (r .sources) ∙ f .values in
     ap (λ (r : ReadPlan). writeOf (r .sheet) buf) (f .read)
-    ∙ write-fine (sheetOf p) buf fine (omega arith)
+    ∙ write-fine n m (planOf (sheetOf p)) buf fine (omega arith)
     ∙ ap₂ (λ k (bytes : List ℕ). (Bytes k, bytes ++ drop k buf)) long (ap fileOf (one-sheet p) ∙ file-back bs small f)

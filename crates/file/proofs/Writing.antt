@@ -1,32 +1,53 @@
--- What writing gives, answer by answer. Assumes nothing.
-use mathlib.Core.Path.{_≡_, ap, _∙_}
-use mathlib.Core.List.{List, _++_}
+-- What writing gives, answer by answer; and a sheet and its words are written alike. Assumes nothing.
+use mathlib.Core.Path.{_≡_, refl, sym, ap, _∙_}
+use mathlib.Core.List.{List, [], _∷_, _++_}
 use Prim.Native.Nat.{ℕ, _≤_, _<_}
 use borrow.Author.Tests.{le-leb, lt-leb}
+use lib.Dec.{leb}
 use lib.ListN.{length, drop}
 use Rattle.names.specs.declared.Refusal.{Refusal}
 use Rattle.plan.specs.declared.Sheet.{Sheet}
-use Rattle.plan.specs.Plan.{planOf}
+use Rattle.plan.specs.Plan.{Plan, planOf}
 use Rattle.fields.specs.Layout as layout
+use Rattle.fields.proofs.Places.{Owned}
+use Rattle.checks.specs.declared.Checked.{Checked}
 use Rattle.checks.specs.declared.Checked.the-variants.{Fine, Refused}
-use Rattle.checks.specs.Checks.{unless, checkedOf}
+use Rattle.checks.specs.Checks.{Line, judge, unless, lines}
 use Rattle.checks.proofs.Judge.{given, passed, nothing-given, fine-then, refused-then}
+use Rattle.checks.proofs.Words.{planInWords, same-lines, same-plan-if-fine}
 use Rattle.file.specs.declared.Written.the-variants.{Bytes, Refused as Written·Refused}
-use Rattle.file.specs.File.{fileOf, writeAs, writeOf}
+use Rattle.file.specs.File.{fileOf, linesOut, writeAs, writeWith, writeOf}
 
-module _ (s : Sheet) (buf : List ℕ) where
+module _ (n m : ℕ) (p : Plan) (buf : List ℕ) where
   -- a line of the values is given
-  pub write-refused : (r : Refusal) → checkedOf s ≡ Refused r → writeOf s buf ≡ (Written·Refused r, buf)
-  unfolding writeOf checkedOf
-  write-refused r e = ap (λ c. writeAs c s buf) (refused-then _ _ r e)
+  pub write-refused : (r : Refusal) → judge (lines n m p) ≡ Refused r → writeWith n m p buf ≡ (Written·Refused r, buf)
+  unfolding writeWith
+  write-refused r e = ap (λ c. writeAs c n m p buf) (refused-then _ _ r e)
 
-  module _ (fine : checkedOf s ≡ Fine) where
+  module _ (fine : judge (lines n m p) ≡ Fine) where
     -- 6
-    pub write-no-room : length buf < layout.size (s .count) (s .sources) → writeOf s buf ≡ (Written·Refused (record { number = 6; place = 0 }), buf)
-    unfolding writeOf checkedOf
-    write-no-room h = ap (λ c. writeAs c s buf) (fine-then _ _ fine ∙ given _ _ 0 (ap unless (lt-leb _ _ h)))
+    pub write-no-room : length buf < layout.size n m → writeWith n m p buf ≡ (Written·Refused (record { number = 6; place = 0 }), buf)
+    unfolding writeWith
+    write-no-room h = ap (λ c. writeAs c n m p buf) (fine-then _ _ fine ∙ given _ _ 0 (ap unless (lt-leb _ _ h)))
 
-    pub write-fine : layout.size (s .count) (s .sources) ≤ length buf
-        → writeOf s buf ≡ (Bytes (layout.size (s .count) (s .sources)), fileOf (planOf s) ++ drop (layout.size (s .count) (s .sources)) buf)
-    unfolding writeOf checkedOf
-    write-fine h = ap (λ c. writeAs c s buf) (fine-then _ _ fine ∙ passed _ _ (ap unless (le-leb _ _ h)) ∙ nothing-given)
+    pub write-fine : layout.size n m ≤ length buf → writeWith n m p buf ≡ (Bytes (layout.size n m), fileOf p ++ drop (layout.size n m) buf)
+    unfolding writeWith
+    write-fine h = ap (λ c. writeAs c n m p buf) (fine-then _ _ fine ∙ passed _ _ (ap unless (le-leb _ _ h)) ∙ nothing-given)
+
+-- ---- a sheet and its words
+pub same-writing : (s : Sheet) (o : Owned s) (buf : List ℕ) → writeWith (s .count) (s .sources) (planInWords s o) buf ≡ writeOf s buf
+unfolding writeWith writeOf
+same-writing s o buf = go (judge (linesOut n m (planOf s) buf)) refl
+  where
+    n : ℕ
+    n = s .count
+
+    m : ℕ
+    m = s .sources
+
+    six : List Line
+    six = record { number = 6; place = unless (leb (layout.size n m) (length buf)) } ∷ []
+
+    go : (c : Checked) → judge (linesOut n m (planOf s) buf) ≡ c → writeWith n m (planInWords s o) buf ≡ writeWith n m (planOf s) buf
+    go Fine e = ap (λ p. writeWith n m p buf) (same-plan-if-fine s o six e)
+    go (Refused r) e = ap (λ c. writeAs c n m (planInWords s o) buf) (same-lines s o six ∙ e) ∙ sym (ap (λ c. writeAs c n m (planOf s) buf) e)

@@ -5,18 +5,19 @@ use Prim.Native.Nat.{ℕ, _+_, _-_, _*_, _/_}
 use lib.Dec.{leb, eqb}
 use lib.ListN.{length, getD, take, drop, replicate}
 use Rattle.names.specs.Limits.{streams, sources}
-use Rattle.laws.specs.Lists.{rows}
 use Rattle.words.specs.Words.{wordsOf, bytesOf}
-use Rattle.plan.specs.declared.Timing.{Timing}
-use Rattle.plan.specs.declared.Stream.{Stream}
 use Rattle.plan.specs.declared.Sheet.{Sheet}
 use Rattle.plan.specs.Plan.{Plan, planOf, blank}
 use Rattle.fields.specs.Layout as layout
 use Rattle.fields.specs.Fields.{fields}
+pub use Rattle.fields.specs.Words.{timingIn, streamIn}
+unfoldable pub use Rattle.fields.specs.Words.{planIn}
 use Rattle.checks.specs.declared.Checked.{Checked}
 use Rattle.checks.specs.declared.Checked.the-variants.{Fine, Refused}
 use Rattle.checks.specs.Checks.{Line, judge, unless, lines}
 use Rattle.file.specs.declared.ReadPlan.{ReadPlan}
+use Rattle.file.specs.declared.Counts.{Counts}
+use Rattle.file.specs.declared.Counts.the-variants.{Of, Refused as Counts·Refused}
 use Rattle.file.specs.declared.Written.{Written}
 use Rattle.file.specs.declared.Written.the-variants.{Bytes, Refused as Written·Refused}
 
@@ -51,41 +52,7 @@ streamsIn ws = getD ws 7 0 / bytes layout.stream
 abbrev pub gapsIn : List ℕ → ℕ
 gapsIn ws = getD ws 10 0 / layout.word
 
--- F, E, TFCS, SWX, H, G, ETG, LAG, NB from word k on
-abbrev pub timingIn : List ℕ → ℕ → Timing
-timingIn ws k =
-    record {
-      f = getD ws k 0;
-      e = getD ws (k + 1) 0;
-      tfcs = getD ws (k + 2) 0;
-      swx = getD ws (k + 3) 0;
-      h = getD ws (k + 4) 0;
-      g = getD ws (k + 5) 0;
-      etg = getD ws (k + 6) 0;
-      lag = getD ws (k + 7) 0;
-      nb = getD ws (k + 8) 0;
-    }
-
--- label, priority, T, J, C, D from word k on
-abbrev pub streamIn : List ℕ → ℕ → Stream
-streamIn ws k =
-    record {
-      label = record { 0 = getD ws k 0 };
-      priority = record { 0 = getD ws (k + 1) 0 };
-      period = getD ws (k + 2) 0;
-      jitter = getD ws (k + 3) 0;
-      payload = getD ws (k + 4) 0;
-      deadline = getD ws (k + 5) 0;
-    }
-
--- the plan of n streams and m gaps in the words of a file
-unfoldable pub planIn : ℕ → ℕ → List ℕ → Plan
-planIn n m ws =
-    record {
-      timing = timingIn ws layout.contents;
-      streams = rows n (λ r. streamIn ws (layout.streamAt r));
-      gaps = rows m (λ k. getD ws (layout.gapAt n k) 0);
-    }
+-- .. and the plan of so many streams and gaps is `planIn` of the crate fields
 
 -- ---- reading
 
@@ -110,6 +77,31 @@ linesIn n m bs =
     record { number = 1; place = unless (sizeRight bs) }
     ∷ record { number = 2; place = unless (contentsRight n m bs) }
     ∷ lines n m (planIn n m (wordsOf bs))
+
+-- also 2: there are more than 64 streams or 8 gaps
+abbrev pub rangesRight : ℕ → ℕ → Bool
+rangesRight n m = leb n streams && leb m sources
+
+-- the lines of the contents alone, before any value is read
+abbrev pub linesFirst : ℕ → ℕ → List ℕ → List Line
+linesFirst n m bs =
+    record { number = 1; place = unless (sizeRight bs) }
+    ∷ record { number = 2; place = unless (contentsRight n m bs) }
+    ∷ record { number = 2; place = unless (rangesRight n m) }
+    ∷ []
+
+-- an answer with the counts that it is about
+abbrev pub countsAs : Checked → ℕ → ℕ → Counts
+countsAs Fine n m = Of n m
+countsAs (Refused r) n m = Counts·Refused r
+
+-- what the contents of any bytes at all say
+unfoldable pub countsOf : List ℕ → Counts
+countsOf bs =
+    let ws = wordsOf bs in
+    let n = streamsIn ws in
+    let m = gapsIn ws in
+    countsAs (judge (linesFirst n m bs)) n m
 
 -- a list at the front of c places, with b in the unused ones
 unfoldable pub filled : {A : Type 0} → ℕ → A → List A → List A
@@ -151,17 +143,21 @@ readOf bs =
 
 -- ---- writing
 
--- the lines of writing a sheet: those of its values, and 6: the lent buffer is too small
-abbrev pub linesOut : Sheet → List ℕ → List Line
-linesOut s buf =
-    lines (s .count) (s .sources) (planOf s)
-    ++ (record { number = 6; place = unless (leb (layout.size (s .count) (s .sources)) (length buf)) } ∷ [])
+-- the lines of writing a plan as one of n streams and m gaps: those of its values, and 6: the lent buffer is too small
+abbrev pub linesOut : ℕ → ℕ → Plan → List ℕ → List Line
+linesOut n m p buf =
+    lines n m p
+    ++ (record { number = 6; place = unless (leb (layout.size n m) (length buf)) } ∷ [])
 
 -- the answer, and the lent bytes after it: the file at the start and the rest as it was, or all as it was
-abbrev pub writeAs : Checked → Sheet → List ℕ → Written × List ℕ
-writeAs Fine s buf = (Bytes (layout.size (s .count) (s .sources)), fileOf (planOf s) ++ drop (layout.size (s .count) (s .sources)) buf)
-writeAs (Refused r) s buf = (Written·Refused r, buf)
+abbrev pub writeAs : Checked → ℕ → ℕ → Plan → List ℕ → Written × List ℕ
+writeAs Fine n m p buf = (Bytes (layout.size n m), fileOf p ++ drop (layout.size n m) buf)
+writeAs (Refused r) n m p buf = (Written·Refused r, buf)
 
--- what writing gives for any sheet and any buffer
+-- what writing gives for any two counts, any plan and any buffer, ..
+unfoldable pub writeWith : ℕ → ℕ → Plan → List ℕ → Written × List ℕ
+writeWith n m p buf = writeAs (judge (linesOut n m p buf)) n m p buf
+
+-- .. and for any sheet: its counts and its plan
 unfoldable pub writeOf : Sheet → List ℕ → Written × List ℕ
-writeOf s buf = writeAs (judge (linesOut s buf)) s buf
+writeOf s buf = writeWith (s .count) (s .sources) (planOf s) buf

@@ -19,6 +19,12 @@ pub struct ReadPlan {
     pub sheet: Sheet,
 }
 
+// What the contents of a file say: n streams and m noise gaps, or why they say nothing.
+pub enum Counts {
+    Of(usize, usize),
+    Refused(Refusal),
+}
+
 // What a writer hands back: how many bytes it wrote, or why none.
 pub enum Written {
     Bytes(usize),

@@ -15,12 +15,14 @@ use checks::Checked;
 use compare::Compared;
 use compare::Reason;
 use compare_files::lighter_files;
+use fields::WORDS;
+use file::Counts;
 use file::Written;
 use names::Label;
 use names::Priority;
 use names::Refusal;
 use plan::Stream;
-use reader::read;
+use reader::counts;
 use screen::screen;
 use states::marks_into;
 use states::priorities_from;
@@ -34,7 +36,9 @@ use tournament_state::Answer;
 use tournament_state::Phase;
 use values::sheet_from;
 use values::timing_from;
+use words::words_into;
 use writer::write;
+use writer::write_words;
 
 // 0 and what was asked for, or the number of a refusal and its place.
 #[repr(C)]
@@ -98,15 +102,16 @@ pub extern "C" fn livnakesh_answers(file: &[u8], out: &mut [u64]) -> Said
 pub extern "C" fn livnakesh_rewrite(file: &[u8], out: &mut [u8]) -> Said
     ensures { λ s. ⌜ (s ≡ number.written (number.rewriteOf (now (file .entry)) (now (out .entry)) .0)) × (now (out .exit) ≡ number.rewriteOf (now (file .entry)) (now (out .entry)) .1) ⌝ }
 {
-    let found = read(file);
-    let answer = found.answer;
-    let sheet = found.sheet;
-    match answer {
-        Checked::Refused(r) => refused(r),
-        Checked::Fine => match write(sheet, out) {
-            Written::Bytes(n) => done(n as u64),
-            Written::Refused(r) => refused(r),
-        },
+    match counts(file) {
+        Counts::Refused(r) => refused(r),
+        Counts::Of(n, m) => {
+            let mut words = [0; WORDS];
+            words_into(file, &mut words);
+            match write_words(&words, n, m, out) {
+                Written::Bytes(bytes) => done(bytes as u64),
+                Written::Refused(r) => refused(r),
+            }
+        }
     }
 }
 

@@ -1,13 +1,17 @@
 // The reader of plan files: any bytes at all give a plan or a refusal.
 //
-// `read` answers for bytes of any length, exactly as the definition of the file says; a refused file has the sheet that is all
-// zero. Nothing is assumed. This crate only goes from bytes to values: the values' own refusals are the crate checks'.
+// `counts` says what the contents of bytes of any length say, and `read` what the whole file does, exactly as the definition of
+// the file has it; a refused file has the sheet that is all zero. Nothing is assumed. This crate only goes from bytes to values:
+// the values' own refusals are the crate checks'.
 use checks::Checked;
-use checks::check;
+use checks::check_words;
 use fields::CONTENTS;
 use fields::STREAM;
 use fields::TIMING;
 use fields::WORD;
+use fields::WORDS;
+use fields::timing_in;
+use file::Counts;
 use file::ReadPlan;
 use file::contents;
 use file::size;
@@ -20,6 +24,7 @@ use plan::Sheet;
 use plan::Stream;
 use plan::Timing;
 use words::word_at;
+use words::words_into;
 ghost use mathlib.Core.Path.{_≡_};
 ghost use Prim.Native.Nat.{_+_, _*_, _≤_};
 ghost use lib.ListN.{length, getD, take, replicate};
@@ -29,6 +34,7 @@ ghost use Rattle.words.specs.Words.{wordsOf};
 ghost use Rattle.plan.specs.Plan.{blank};
 ghost use Rattle.checks.specs.declared.Checked.the-variants.{Refused as CheckedRefused};
 ghost use Rattle.fields.specs.Layout as layout;
+ghost use Rattle.file.specs.declared.Counts.the-variants.{Refused as CountsRefused};
 ghost use Rattle.file.specs.File as spec;
 
 // The words of the contents that have the lengths of the streams' body and of the noise body, in bytes.
@@ -36,34 +42,18 @@ const STREAMS_LENGTH: usize = 7;
 
 const NOISE_LENGTH: usize = 10;
 
-fn timing_in(bytes: &[u8]) -> Timing
-    ensures { λ r. ⌜ r ≡ spec.timingIn (wordsOf (now (bytes .entry))) layout.contents ⌝ }
-{
-    Timing {
-        f: word_at(bytes, CONTENTS),
-        e: word_at(bytes, CONTENTS + 1),
-        tfcs: word_at(bytes, CONTENTS + 2),
-        swx: word_at(bytes, CONTENTS + 3),
-        h: word_at(bytes, CONTENTS + 4),
-        g: word_at(bytes, CONTENTS + 5),
-        etg: word_at(bytes, CONTENTS + 6),
-        lag: word_at(bytes, CONTENTS + 7),
-        nb: word_at(bytes, CONTENTS + 8),
-    }
-}
-
 // The stream that starts at word k of the file.
-fn stream_in(bytes: &[u8], k: usize) -> Stream
+fn stream_in(words: &[u32; WORDS], k: usize) -> Stream
     requires { ⌜ k + layout.stream ≤ layout.largest ⌝ }
-    ensures { λ r. ⌜ r ≡ spec.streamIn (wordsOf (now (bytes .entry))) k ⌝ }
+    ensures { λ r. ⌜ r ≡ spec.streamIn (now (words .entry)) k ⌝ }
 {
     Stream {
-        label: Label(word_at(bytes, k)),
-        priority: Priority(word_at(bytes, k + 1)),
-        period: word_at(bytes, k + 2),
-        jitter: word_at(bytes, k + 3),
-        payload: word_at(bytes, k + 4),
-        deadline: word_at(bytes, k + 5),
+        label: Label(words[k]),
+        priority: Priority(words[k + 1]),
+        period: words[k + 2],
+        jitter: words[k + 3],
+        payload: words[k + 4],
+        deadline: words[k + 5],
     }
 }
 
@@ -81,35 +71,35 @@ fn no_streams() -> [Stream; STREAMS]
     [blank; STREAMS]
 }
 
-fn streams_in(bytes: &[u8], n: usize) -> [Stream; STREAMS]
+fn streams_in(words: &[u32; WORDS], n: usize) -> [Stream; STREAMS]
     requires { ⌜ n ≤ limit.streams ⌝ }
-    ensures { λ r. ⌜ r ≡ spec.filled limit.streams blank (rows n (λ k. spec.streamIn (wordsOf (now (bytes .entry))) (layout.streamAt k))) ⌝ }
+    ensures { λ r. ⌜ r ≡ spec.filled limit.streams blank (rows n (λ k. spec.streamIn (now (words .entry)) (layout.streamAt k))) ⌝ }
 {
     let mut out = no_streams();
     for r in 0..n {
-        out[r] = stream_in(bytes, CONTENTS + TIMING + STREAM * r);
+        out[r] = stream_in(words, CONTENTS + TIMING + STREAM * r);
     }
     out
 }
 
-fn gaps_in(bytes: &[u8], n: usize, m: usize) -> [u32; SOURCES]
+fn gaps_in(words: &[u32; WORDS], n: usize, m: usize) -> [u32; SOURCES]
     requires { ⌜ (n ≤ limit.streams) × (m ≤ limit.sources) ⌝ }
-    ensures { λ r. ⌜ r ≡ spec.filled limit.sources 0 (rows m (λ k. getD (wordsOf (now (bytes .entry))) (layout.gapAt n k) 0)) ⌝ }
+    ensures { λ r. ⌜ r ≡ spec.filled limit.sources 0 (rows m (λ k. getD (now (words .entry)) (layout.gapAt n k) 0)) ⌝ }
 {
     let mut out = [0; SOURCES];
     for k in 0..m {
-        out[k] = word_at(bytes, CONTENTS + TIMING + STREAM * n + k);
+        out[k] = words[CONTENTS + TIMING + STREAM * n + k];
     }
     out
 }
 
-fn sheet_in(bytes: &[u8], n: usize, m: usize) -> Sheet
+fn sheet_in(words: &[u32; WORDS], n: usize, m: usize) -> Sheet
     requires { ⌜ (n ≤ limit.streams) × (m ≤ limit.sources) ⌝ }
-    ensures { λ r. ⌜ r ≡ spec.sheetOf (spec.planIn n m (wordsOf (now (bytes .entry)))) ⌝ }
+    ensures { λ r. ⌜ r ≡ spec.sheetOf (spec.planIn n m (now (words .entry))) ⌝ }
 {
-    let timing = timing_in(bytes);
-    let streams = streams_in(bytes, n);
-    let gaps = gaps_in(bytes, n, m);
+    let timing = timing_in(words);
+    let streams = streams_in(words, n);
+    let gaps = gaps_in(words, n, m);
     Sheet {
         timing: timing,
         streams: streams,
@@ -159,6 +149,40 @@ fn contents_in(bytes: &[u8], n: usize, m: usize) -> bool
     true
 }
 
+fn refused_counts(number: u32) -> Counts
+    ensures { λ r. ⌜ r ≡ CountsRefused (record { number = number; place = 0 }) ⌝ }
+{
+    Counts::Refused(Refusal { number, place: 0 })
+}
+
+// How many streams and noise gaps the contents say, or the refusal of the contents.
+pub fn counts(bytes: &[u8]) -> Counts
+    ensures { λ r. ⌜ r ≡ spec.countsOf (now (bytes .entry)) ⌝ }
+{
+    let length = bytes.len();
+    if length < WORD * CONTENTS {
+        return refused_counts(1);
+    }
+    if size(STREAMS as u16, SOURCES as u16) < length {
+        return refused_counts(1);
+    }
+    let n = word_at(bytes, STREAMS_LENGTH) as usize / (WORD * STREAM);
+    let m = word_at(bytes, NOISE_LENGTH) as usize / WORD;
+    if STREAMS < n {
+        return refused_counts(2);
+    }
+    if SOURCES < m {
+        return refused_counts(2);
+    }
+    if !contents_in(bytes, n, m) {
+        return refused_counts(2);
+    }
+    if length != size(n as u16, m as u16) {
+        return refused_counts(2);
+    }
+    Counts::Of(n, m)
+}
+
 fn refused(r: Refusal) -> ReadPlan
     ensures { λ p. ⌜ p ≡ record { answer = CheckedRefused r; sheet = spec.noSheet } ⌝ }
 {
@@ -173,51 +197,18 @@ fn refused(r: Refusal) -> ReadPlan
 pub fn read(bytes: &[u8]) -> ReadPlan
     ensures { λ r. ⌜ r ≡ spec.readOf (now (bytes .entry)) ⌝ }
 {
-    let length = bytes.len();
-    if length < WORD * CONTENTS {
-        return refused(Refusal {
-            number: 1,
-            place: 0,
-        });
-    }
-    if size(STREAMS as u16, SOURCES as u16) < length {
-        return refused(Refusal {
-            number: 1,
-            place: 0,
-        });
-    }
-    let n = word_at(bytes, STREAMS_LENGTH) as usize / (WORD * STREAM);
-    let m = word_at(bytes, NOISE_LENGTH) as usize / WORD;
-    if STREAMS < n {
-        return refused(Refusal {
-            number: 2,
-            place: 0,
-        });
-    }
-    if SOURCES < m {
-        return refused(Refusal {
-            number: 2,
-            place: 0,
-        });
-    }
-    if !contents_in(bytes, n, m) {
-        return refused(Refusal {
-            number: 2,
-            place: 0,
-        });
-    }
-    if length != size(n as u16, m as u16) {
-        return refused(Refusal {
-            number: 2,
-            place: 0,
-        });
-    }
-    let sheet = sheet_in(bytes, n, m);
-    match check(sheet) {
-        Checked::Fine => ReadPlan {
-            answer: Checked::Fine,
-            sheet: sheet,
-        },
-        Checked::Refused(r) => refused(r),
+    match counts(bytes) {
+        Counts::Refused(r) => refused(r),
+        Counts::Of(n, m) => {
+            let mut words = [0; WORDS];
+            words_into(bytes, &mut words);
+            match check_words(&words, n, m) {
+                Checked::Fine => ReadPlan {
+                    answer: Checked::Fine,
+                    sheet: sheet_in(&words, n, m),
+                },
+                Checked::Refused(r) => refused(r),
+            }
+        }
     }
 }

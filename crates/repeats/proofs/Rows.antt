@@ -6,6 +6,7 @@ use mathlib.Core.Logic.{_⊎_, inl, inr, ⊎-elim}
 use Prim.Native.Nat.{ℕ, zero, suc, _+_, _≤_, _<_}
 use native.Mathlib.Nat.{le-refl, le-antisymm, eq-or-lt-of-le, lt-of-not-le}
 use native.Mathlib.Decide.{decLe}
+use native.Mathlib.Numerals.{add-one}
 use native.Mathlib.Omega.{arith}
 use borrow.Author.Count.{below-none, below-more}
 use Rattle.laws.specs.declared.Found.{Found}
@@ -25,6 +26,10 @@ or-split false y e = inr e
 or-right : (x y : Bool) → y ≡ true → x || y ≡ true
 or-right true y e = refl
 or-right false y e = e
+
+or-false : (x : Bool) → x ≡ x || false
+or-false true = refl
+or-false false = refl
 
 passing : (t : ℕ → Bool) (n : ℕ) → some t n ≡ true → (i : ℕ) × (i < n) × (t i ≡ true)
 unfolding some
@@ -105,3 +110,15 @@ some-at = passed
 
 pub some-none : (t : ℕ → Bool) (n i : ℕ) → NoneBelow t i → n ≤ i → some t n ≡ false
 some-none t n i h l = is-false (some t n) (λ e. let (k, b, p) = passing t n e in true≢false (sym p ∙ h k (omega arith)))
+
+-- ---- a loop that looks at every row and keeps in a flag whether one passed
+pub flag-none : (t : ℕ → Bool) → false ≡ some t 0
+unfolding some
+flag-none t = refl
+
+pub flag-up : (t : ℕ → Bool) (i : ℕ) {b : Bool} → t i ≡ true → b ≡ true → b ≡ some t (i + 1)
+flag-up t i e d = d ∙ sym (some-at t (i + 1) i (omega arith) e)
+
+pub flag-kept : (t : ℕ → Bool) (i : ℕ) {a b : Bool} → a ≡ some t i → t i ≡ false → b ≡ a → b ≡ some t (i + 1)
+unfolding some
+flag-kept t i h e d = d ∙ h ∙ rw (add-one, e) (or-false (some t i))

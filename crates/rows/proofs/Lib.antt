@@ -1,4 +1,5 @@
 pub mod Gather
 pub mod Terms
 pub mod Places
+pub mod Outcome
 pub mod Unique

@@ -5,117 +5,128 @@ use mathlib.Core.List.{List, _∷_, map}
 use Prim.Native.Nat.{ℕ, max, _+_, _-_, _^_, _≤_, _<_}
 use native.Mathlib.Omega.{arith}
 use lib.Dec.{ltb}
-use lib.ListN.{length, take, getD}
-use Rattle.names.specs.Limits.{sources}
+use lib.ListN.{length, getD}
+use Rattle.names.specs.Limits.{streams}
 use Rattle.laws.specs.Lists.{largestOf, those, rows}
-use Rattle.laws.proofs.Lists.{largest-those, largest-map, rows-map, rows-same, rows-take}
-use Rattle.bound.specs.Terms.{Share, Terms}
+use Rattle.laws.proofs.Lists.{largest-those, largest-map, rows-map, rows-same}
+use Rattle.bound.specs.Terms as bound
 use Rattle.bound.specs.Bound.{answer}
 use Rattle.bound.specs.declared.Answer.{Answer}
 use Rattle.analysis.specs.declared.Gathered.{Gathered}
 use Rattle.analysis.specs.declared.Answered.{Answered}
 use Rattle.analysis.specs.declared.Answered.the-variants.{Outside, Row}
-use Rattle.analysis.specs.Gathered.{termsOf, cost, fits, answered}
+use Rattle.analysis.specs.Gathered.{Lent, lent, termsOf, cost, fits, answered}
 use Rattle.analysis.specs.Stairs as Small
+use Rattle.analysis.proofs.Fit.{fit-shown}
 use Rattle.plan.specs.declared.Stream.{Stream}
-use Rattle.plan.specs.declared.Sheet.{Sheet}
-use Rattle.plan.specs.Plan.{planOf, StreamWithin}
+use Rattle.plan.specs.Plan.{Plan}
 use Rattle.plan.specs.Rules as rule
+use Rattle.fields.specs.Layout as layout
+use Rattle.fields.specs.Words.{timingIn, planIn}
 use Rattle.rows.specs.declared.Frame.{Frame}
-use Rattle.rows.specs.declared.Urgent.{Urgent}
-use Rattle.rows.specs.Gather.{Fine, Framed, Gathers, blocks, shareOf, shareAt}
+use Rattle.rows.specs.Gather.{Fine, Framed, Gathers, After, Terms, blocks, shareOf, shareAt, streamAt}
 
-module _ (s : Sheet) (c : Frame) (i : Stream) (fine : Fine s) (framed : Framed (s .timing) c) where
-  abbrev p : ℕ
-  p = i .priority .0
+module _ (ws : List ℕ) (n m k : ℕ) (c : Frame) (fine : Fine ws n m) (framed : Framed (timingIn ws layout.contents) c) (among : k < n) where
+  abbrev p : Plan
+  p = planIn n m ws
 
-  blocking-is : largestOf (blocks (c .u) p) (take (s .count) (s .streams)) ≡ rule.B (planOf s) i
-  unfolding rule.B
+  abbrev i : Stream
+  i = streamAt ws k
+
+  blocking-is : largestOf (blocks (c .u) (i .priority .0)) (rows n (streamAt ws)) ≡ rule.B p i
+  unfolding rule.B planIn
   blocking-is =
-      largest-those (λ j. j .payload + c .u - 1) (λ j. ltb p (j .priority .0)) (take (s .count) (s .streams))
-      ∙ ap (λ u. largestOf (λ j. j .payload + u - 1) (rule.lp (planOf s) i)) (framed .u)
+      largest-those (λ j. j .payload + c .u - 1) (λ j. ltb (i .priority .0) (j .priority .0)) (rows n (streamAt ws))
+      ∙ ap (λ u. largestOf (λ j. j .payload + u - 1) (rule.lp p i)) (framed .u)
 
-  cost-is : (j : Stream) → c .v + (j .payload + c .u) ≡ rule.C″ (planOf s) j
+  cost-is : (j : Stream) → c .v + c .u + j .payload ≡ rule.C″ p j
+  unfolding planIn
   cost-is j = omega (arith, framed .v, framed .u)
 
-  urgent-is : map (shareOf c) (rule.hp (planOf s) i) ≡ map (rule.share (planOf s)) (rule.hp (planOf s) i)
-  urgent-is =
-      ap₂ (λ v u. map (λ (j : Stream). record { C″ = v + (j .payload + u); T = j .period; J = j .jitter }) (rule.hp (planOf s) i)) (framed .v) (framed .u)
+  share-is : (j : Stream) → shareOf (c .v + c .u) j ≡ rule.share p j
+  share-is j = λ x. record { C″ = cost-is j x; T = j .period; J = j .jitter }
 
-  -- the costs of hp(i), as gathered
-  costs-are : (u : Urgent) → Gathers s c p u → largestOf (λ x. x) (rows (u .count) (λ k. getD (u .costs) k 0)) ≡ largestOf (rule.C″ (planOf s)) (rule.hp (planOf s) i)
-  costs-are u g =
-      ap (largestOf (λ x. x)) (sym (rows-map (λ j. j .C″) (u .count) (shareAt (u .costs) (u .periods) (u .jitters))))
-      ∙ largest-map (λ x. x) (λ j. j .C″) (rows (u .count) (shareAt (u .costs) (u .periods) (u .jitters)))
-      ∙ ap (largestOf (λ j. j .C″)) (g .is ∙ urgent-is)
-      ∙ largest-map (λ j. j .C″) (rule.share (planOf s)) (rule.hp (planOf s) i)
+  urgent-is : map (shareOf (c .v + c .u)) (rule.hp p i) ≡ map (rule.share p) (rule.hp p i)
+  urgent-is = ap (λ f. map f (rule.hp p i)) (λ x j. share-is j x)
 
-  gaps-are : (gaps : List ℕ) → ((k : ℕ) → k < sources → getD gaps k 0 ≡ getD (s .gaps) k 0) → rows (s .sources) (λ k. getD gaps k 0) ≡ take (s .sources) (s .gaps)
-  gaps-are gaps h =
-      rows-same (s .sources) _ (λ k. getD (s .gaps) k 0) (λ k l. h k (omega (arith, fine .quiet))) ∙ rows-take (s .gaps) 0 (s .sources) (fine .gaps-long)
+  module _ (costs₀ periods₀ jitters costs periods : List ℕ) (urgent own hit b period jitter : ℕ)
+      (eb : (b ≡ largestOf (blocks (c .u) (i .priority .0)) (rows n (streamAt ws))) × (b ≤ cost)) (eo : own ≡ c .v + c .u + i .payload)
+      (eg : Gathers ws n (i .priority .0) (c .v + c .u) costs₀ periods₀ jitters urgent)
+      (eh : (hit ≡ max own (largestOf (λ x. x) (rows urgent (λ j. getD costs₀ j 0)))) × (hit ≤ cost))
+      (ec : After (λ j. hit) m urgent costs₀ costs) (ep : After (λ j. getD ws (layout.streamAt n + j) 0) m urgent periods₀ periods)
+      (et : (period ≡ i .period) × (period < 2 ^ 32)) (ej : (jitter ≡ i .jitter) × (jitter < 2 ^ 32)) where
+    abbrev row : Gathered
+    row = record { blocking = b; cost = own; period = period; jitter = jitter; urgent = urgent; sources = m; hit = hit; late = c .v; last = own }
 
-  module _ (b own period jitter hit : ℕ) (u : Urgent) (gaps : List ℕ)
-      (eb : (b ≡ largestOf (blocks (c .u) p) (take (s .count) (s .streams))) × (b ≤ cost)) (eo : (own ≡ c .v + (i .payload + c .u)) × (own ≤ cost))
-      (ep : (period ≡ i .period) × (period < 2 ^ 32)) (ej : (jitter ≡ i .jitter) × (jitter < 2 ^ 32)) (eu : Gathers s c p u)
-      (eh : (hit ≡ max own (largestOf (λ x. x) (rows (u .count) (λ k. getD (u .costs) k 0)))) × (hit ≤ cost))
-      (eg : (k : ℕ) → k < sources → getD gaps k 0 ≡ getD (s .gaps) k 0) where
-    abbrev gathered : Gathered
-    gathered =
-        record {
-          blocking = b;
-          cost = own;
-          period = period;
-          jitter = jitter;
-          urgent = u .count;
-          costs = u .costs;
-          periods = u .periods;
-          jitters = u .jitters;
-          sources = s .sources;
-          gaps = gaps;
-          hit = hit;
-          late = c .v;
-          last = own;
-        }
+    abbrev given : Lent
+    given = lent row costs periods jitters
 
-    own-is : own ≡ rule.C″ (planOf s) i
-    own-is = eo .0 ∙ cost-is i
+    -- the shares of hp(i), once the noise stands after them
+    shares-are : rows urgent (shareAt costs periods jitters) ≡ map (rule.share p) (rule.hp p i)
+    unfolding planIn
+    shares-are = rows-same urgent _ _ (λ j h. rw (ec .front j h, ep .front j h) refl) ∙ eg .is ∙ urgent-is
 
-    hit-is : hit ≡ rule.hit (planOf s) i
+    costs-are : largestOf (λ x. x) (rows urgent (λ j. getD costs₀ j 0)) ≡ largestOf (rule.C″ p) (rule.hp p i)
+    unfolding planIn
+    costs-are =
+        ap (largestOf (λ x. x)) (sym (rows-map (λ (j : bound.Share). j .C″) urgent (shareAt costs₀ periods₀ jitters)))
+        ∙ largest-map (λ x. x) (λ (j : bound.Share). j .C″) (rows urgent (shareAt costs₀ periods₀ jitters))
+        ∙ ap (largestOf (λ (j : bound.Share). j .C″)) (eg .is ∙ urgent-is)
+        ∙ largest-map (λ (j : bound.Share). j .C″) (rule.share p) (rule.hp p i)
+
+    own-is : own ≡ rule.C″ p i
+    own-is = eo ∙ cost-is i
+
+    hit-is : hit ≡ rule.hit p i
     unfolding rule.hit largestOf
-    hit-is = eh .0 ∙ ap₂ max own-is (costs-are u eu)
+    hit-is = eh .0 ∙ ap₂ max own-is costs-are
 
-    pub terms-are : termsOf gathered ≡ rule.terms (planOf s) i
-    unfolding rule.terms
+    terms-are : termsOf given ≡ rule.terms p i
+    unfolding rule.terms planIn
     terms-are = λ j.
         record {
           B = (eb .0 ∙ blocking-is) j;
-          own = record { C″ = own-is j; T = ep .0 j; J = ej .0 j };
-          urgent = (eu .is ∙ urgent-is) j;
-          gaps = gaps-are gaps eg j;
+          own = record { C″ = own-is j; T = et .0 j; J = ej .0 j };
+          urgent = shares-are j;
+          gaps = rows-same m (λ h. getD periods (urgent + h) 0) (λ h. getD ws (layout.gapAt n h) 0) (ep .put) j;
           hit = hit-is j;
           late = framed .v j;
           last = own-is j;
         }
 
-    pub terms-fit : StreamWithin (s .timing .nb) i → Small.Fit gathered
-    terms-fit w =
+    terms-fit : Small.Fit given
+    terms-fit =
+        let w = fine .rows .stream k among in
+        let small : own ≤ cost = omega (arith, eo, framed .small, w .payload) in
         record {
-          blocking = eb .1;
-          hit = eh .1;
-          late = omega (arith, eo .0, w .some-payload);
-          ends = omega (arith, eo .0, w .some-payload);
-          last = omega arith;
-          own = record { cost = eo .1; some = omega (arith, ep .0, w .some-period); period = omega (arith, ep .1); jitter = omega (arith, ej .1) };
-          few = eu .few;
-          urgent = eu .fits;
+          row =
+              record {
+                blocking = eb .1;
+                hit = eh .1;
+                late = omega (arith, eo, w .some-payload);
+                ends = omega (arith, eo, w .some-payload);
+                last = omega arith;
+                own = record { cost = small; some = omega (arith, et .0, w .some-period); period = omega (arith, et .1); jitter = omega (arith, ej .1) };
+              };
+          few = omega (arith, eg .few, fine .rows .few);
+          urgent = λ j h. rw (ec .front j h, ep .front j h) (eg .fits j h);
           quiet = fine .quiet;
-          some-gap = λ k h. rw (eg k (omega (arith, fine .quiet))) (fine .gap k h .some-gap);
-          gap = λ k h. rw (eg k (omega (arith, fine .quiet))) (fine .gap k h .gap);
+          some-gap = λ j h. rw (ep .put j h) (fine .gap j h .some-gap);
+          gap = λ j h. rw (ep .put j h) (fine .gap j h .gap);
+          each = ec .put;
+        }
+
+    pub gathered-is : Terms ws n m k given
+    gathered-is =
+        record {
+          long = record { of-costs = ec .long ∙ eg .long .of-costs; of-periods = ep .long ∙ eg .long .of-periods; of-jitters = eg .long .of-jitters };
+          fits = fit-shown given terms-fit;
+          is = terms-are;
         }
 
 -- ---- the analysis' answer to such terms is the rules' answer
-pub answered-is : (g : Gathered) (t : Terms) (d D : ℕ) → termsOf g ≡ t → fits g ≡ true → d ≡ D → answered g d ≡ Row (answer t D)
-answered-is g t d D e f q = simp f (ap₂ (λ x y. Row (answer x y)) e q)
+pub answered-is : (t : Lent) (D : ℕ) → fits t ≡ true → answered t D ≡ Row (answer (termsOf t) D)
+answered-is t D f = simp f
 
 pub row-is : (r : Answered) (a b : Answer) → r ≡ Row a → r ≡ Row b → a ≡ b
 row-is r a b p q = cc

@@ -1,18 +1,14 @@
 -- What is proved of the sheet in plain words; the proofs are in proofs/Same.antt and proofs/Counts.antt.
 use mathlib.Core.Path.{_≡_}
-use mathlib.Core.List.{List, map}
+use mathlib.Core.List.{List}
 use Prim.Native.Nat.{ℕ, _≤_, _<_}
 use lib.ListN.{length}
 use Rattle.names.specs.Limits.{streams, sources}
 use Rattle.plan.specs.Plan.{Plan, planOf}
-use Rattle.fields.specs.Fields.{fields}
+pub use Rattle.fields.specs.Words.{valuesOf}
 use Rattle.file.specs.declared.Written.the-variants.{Refused}
 use Rattle.file.specs.File.{sheetOf, writeOf}
 use Rattle.values.specs.Values.{sheetFrom}
-
--- the words of a plan's bodies
-abbrev pub valuesOf : Plan → List ℕ
-valuesOf p = map (λ f. f .word) (fields p)
 
 -- of at most 64 streams and 8 gaps, a plan's words give its one sheet, and so the plan
 abbrev pub SamePlan : Type 0

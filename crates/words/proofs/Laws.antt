@@ -1,15 +1,16 @@
--- Words and bytes are each other's inverse: lengths; the word at an index; words to bytes and back; bytes to words and back; words
--- that are written one after the other. Assumes nothing.
+-- Words and bytes are each other's inverse: lengths; the word at an index; words laid onto a list; words to bytes and back; bytes to
+-- words and back; words that are written one after the other. Assumes nothing.
 use mathlib.Core.Path.{_≡_, refl, sym, ap, _∙_}
 use mathlib.Core.List.{List, [], _∷_, _++_, append-assoc}
-use Prim.Native.Nat.{ℕ, zero, suc, _+_, _-_, _*_, _/_, _%_, _^_, _≤_, _<_}
-use native.Mathlib.Nat.{div-add-mod', div-div-eq-div-mul}
+use Prim.Native.Nat.{ℕ, zero, suc, _+_, _-_, _*_, _/_, _%_, _^_, min, _≤_, _<_}
+use native.Mathlib.Nat.{div-add-mod', div-div-eq-div-mul, lt-of-not-le}
+use native.Mathlib.Decide.{decLe}
 use native.Mathlib.Numerals.{add-one}
 use native.Mathlib.Omega.{arith}
 use borrow.Author.Tests.{le-leb, lt-leb}
-use lib.ListN.{length, getD, set, take, drop, length-append, length-drop, List·getD-eq-default, take-append-drop}
-use lib.Seq.{length-take-le, take-suc, take-at, drop-append-add, drop-drop, sets-eq}
-use Rattle.words.specs.Words.{joinedOf, wordsOf, bytesOf, put, putWords, Below}
+use lib.ListN.{length, getD, set, take, drop, replicate, length-append, length-take, length-drop, length-replicate, drop-of-length-le, List·getD-append, List·getD-eq-default, take-append-drop}
+use lib.Seq.{length-take-le, take-all, take-suc, take-at, drop-cons, append-snoc, set-at, getD-drop, getD-append-add, drop-append-add, drop-drop, sets-eq}
+use Rattle.words.specs.Words.{joinedOf, wordsOf, laidOnto, bytesOf, put, putWords, Below}
 
 -- ---- lengths
 pub length-words : (bytes : List ℕ) → length (wordsOf bytes) ≡ length bytes / 4
@@ -41,6 +42,57 @@ word-is [] k h = absurd (omega arith)
 
 pub word-past : (bytes : List ℕ) (k : ℕ) → length bytes / 4 ≤ k → getD (wordsOf bytes) k 0 ≡ 0
 word-past bytes k h = List·getD-eq-default (wordsOf bytes) 0 (omega (arith, length-words bytes))
+
+-- ---- words laid onto a list
+module _ (ws out : List ℕ) where
+  pub length-laid : length (laidOnto ws out) ≡ length out
+  unfolding laidOnto
+  length-laid =
+      length-append (take (length out) ws) (drop (length ws) out)
+      ∙ omega (arith, length-take (length out) ws, length-drop (length ws) out)
+
+  -- a loop that lays them, one word a turn
+  pub laid-next : (i : ℕ) {o : List ℕ} {w : ℕ} → i < length ws → i < length out → o ≡ take i ws ++ drop i out → w ≡ getD ws i 0
+      → set o i w ≡ take (i + 1) ws ++ drop (i + 1) out
+  laid-next i h k e d =
+      let at = set-at (take i ws) (getD out i 0) (drop (suc i) out) (getD ws i 0) i (length-take-le i ws (omega arith)) in
+      rw (e, d, add-one i, take-suc ws i 0 h, drop-cons out i 0 k) (at ∙ sym (append-snoc (take i ws) (getD ws i 0) (drop (suc i) out)))
+
+  -- .. until there are no more, or no more room
+  pub laid-all : (i : ℕ) → i ≡ min (length ws) (length out) → take i ws ++ drop i out ≡ laidOnto ws out
+  unfolding laidOnto
+  laid-all i e =
+      elim (decLe (length ws) (length out)) [
+        | yes h ↦
+            let d : i ≡ length ws = omega arith in
+            rw (d, take-all (length ws) ws (omega arith), take-all (length out) ws h) refl
+        | no h ↦
+            let g = lt-of-not-le h in
+            let d : i ≡ length out = omega arith in
+            rw (d, drop-of-length-le out {i = length out} (omega arith), drop-of-length-le out {i = length ws} (omega arith)) refl
+      ]
+
+zeros : (c i : ℕ) → _≡_ {A = ℕ} (getD (replicate c 0) i 0) 0
+zeros zero i = refl
+zeros (suc c) zero = refl
+zeros (suc c) (suc i) = zeros c i
+
+-- laid onto zeros, where all have room, they read as they did: a word past the end is 0 in both
+pub laid-reads : (ws : List ℕ) (c k : ℕ) → length ws ≤ c → getD (laidOnto ws (replicate c 0)) k 0 ≡ getD ws k 0
+unfolding laidOnto
+laid-reads ws c k h =
+    let rest : List ℕ = drop (length ws) (replicate c 0) in
+    rw (length-replicate, take-all c ws h)
+    (elim (decLe (length ws) k) [
+      | yes g ↦
+          let e : length ws + (k - length ws) ≡ k = omega arith in
+          ap (λ j. getD (ws ++ rest) j 0) (sym e)
+          ∙ getD-append-add ws rest (k - length ws) 0
+          ∙ getD-drop (length ws) (replicate c 0) (k - length ws) 0
+          ∙ zeros c (length ws + (k - length ws))
+          ∙ sym (List·getD-eq-default ws 0 g)
+      | no g ↦ List·getD-append ws rest 0 k (lt-of-not-le g)
+    ])
 
 -- ---- a word to four bytes and back
 -- three carries: each quotient is what the next digit leaves

@@ -17,6 +17,10 @@ wordsOf (a ∷ b ∷ []) = []
 wordsOf (a ∷ []) = []
 wordsOf [] = []
 
+-- words at the front of a list, as many as have room, and the rest of the list as it was
+unfoldable pub laidOnto : List ℕ → List ℕ → List ℕ
+laidOnto words out = take (length out) words ++ drop (length words) out
+
 -- the bytes of words
 unfoldable pub bytesOf : List ℕ → List ℕ
 bytesOf [] = []

@@ -2,11 +2,12 @@
 //
 // Every function answers for all that it is lent: a word past the end reads as 0, and words that have no
 // room are not written. Nothing is assumed. This crate knows of no plan, no file and no limit.
+use laws::smaller;
 ghost use mathlib.Core.Path.{_≡_};
 ghost use mathlib.Core.List.{[], _∷_};
 ghost use Prim.Native.Nat.{_+_, _≤_};
 ghost use lib.ListN.{length, getD};
-ghost use Rattle.words.specs.Words.{wordsOf, joinedOf, put, putWords};
+ghost use Rattle.words.specs.Words.{wordsOf, joinedOf, laidOnto, put, putWords};
 
 // A word of its four bytes, the least first.
 fn joined(a: u8, b: u8, c: u8, d: u8) -> u32
@@ -24,6 +25,17 @@ pub fn word_at(bytes: &[u8], k: usize) -> u32
     }
     let at = 4 * k;
     joined(bytes[at], bytes[at + 1], bytes[at + 2], bytes[at + 3])
+}
+
+// The words of the bytes, from the front of what is lent: as many as both have, and the rest as it was.
+pub fn words_into(bytes: &[u8], out: &mut [u32])
+    ensures { λ _. ⌜ now (out .exit) ≡ laidOnto (wordsOf (now (bytes .entry))) (now (out .entry)) ⌝ }
+{
+    let n = smaller(bytes.len() / 4, out.len());
+    for i in 0..n {
+        let at = 4 * i;
+        out[i] = joined(bytes[at], bytes[at + 1], bytes[at + 2], bytes[at + 3]);
+    }
 }
 
 // The four bytes of a word, from byte `at` on.

@@ -76,6 +76,7 @@ fn thousands(nanoseconds: f64) -> String {
 }
 
 fn row(name: &str, rounds: u32, proved: &mut dyn FnMut(), plain: &mut dyn FnMut()) {
+    if let Ok(only) = std::env::var("ONLY") { if !name.contains(&only) { return; } }
     let calls = calls_for(proved).min(calls_for(plain));
     let (mut best_proved, mut best_plain) = (f64::MAX, f64::MAX);
     for _ in 0..rounds {

@@ -1,20 +1,16 @@
--- Each turn takes one stair on to x: the sum gains its rise, the edge goes on; a stair that x has not passed gains nothing.
+-- Each turn takes one stair on to x: the sum gains its rise, and the edge goes on by as many periods.
 use borrow.Author.Needs.{needs}
-use mathlib.Core.Path.{_≡_, refl, sym, ap, _∙_}
-use mathlib.Core.Logic.{⊎-elim}
+use mathlib.Core.Path.{_≡_, ap, _∙_}
 use Prim.Native.Nat.{_+_, _-_, _*_, _^_, _≤_, _<_}
-use native.Mathlib.Nat.{zero-mul}
+use native.Mathlib.Nat.{le-refl}
 use native.Mathlib.Omega.{arith}
 use lib.ListN.{getD}
-use Rattle.laws.specs.Lists.{ceil, sumTo}
+use Rattle.laws.specs.Lists.{sumTo}
 use Rattle.laws.proofs.Lists.{sumTo-none, sumTo-le}
 use Rattle.analysis.specs.Stairs.{stair, height}
-use Rattle.analysis.proofs.Stairs.{not-yet, step-over, Pass, pass-start, pass-still, pass-on, pass-height, pass-moved}
+use Rattle.analysis.proofs.Stairs.{onward, onward-below, Pass, pass-start, pass-on, pass-height, pass-moved}
 use Rattle.analysis.proofs.climbed.Statement.{statement}
 use Rattle.analysis.proofs.climbed.Tie as tie
-use Rattle.analysis.proofs.climbed.Reads as reads
-use Rattle.analysis.proofs.climbed.Lts as lts
-use Rattle.analysis.proofs.passed.Reads as passed-reads
 
 abbrev Inv-loop : tie.InvT-loop
 Inv-loop x n costs periods edges₀ sum total₀ k₀ edges total k =
@@ -38,21 +34,35 @@ mul-period c = search needs
 element-copy-out-period : tie.Need-element-copy-out-period Inv-loop μ-loop
 element-copy-out-period c = search needs
 
-passed-requires : tie.Need-passed-requires Inv-loop μ-loop
-passed-requires c κs =
-    let s = c .before .before .before .before .before in
-    let h = c .before .before .before .loop-test .taken in
-    (s .pre .0 .some _ h, s .pre .0 .period _ h, omega (arith, s .pre .2))
+-- a stair that waits is where it was
+waits : (c : tie.In-loop Inv-loop μ-loop) → getD (c .before .loop .edges) (c .before .loop .k) 0 < 2 ^ 34
+waits c =
+    let l = c .before .loop in
+    rw (l .inv .2 .waits (l .k) (le-refl (l .k))) (c .before .before .pre .1 .below (l .k) (c .loop-test .taken))
 
--- the new edge is less than a period past x
-reach : (c : tie.After-passed Inv-loop μ-loop)
-    → getD (c .before .before .before .before .before .loop .edges) (c .before .before .before .before .before .loop .k) 0
-    + c .passed .result * getD (c .before .before .before .before .before .before .args .periods .now) (c .before .before .before .before .before .loop .k) 0 < 2 ^ 35
+risen-requires : tie.Need-risen-requires Inv-loop μ-loop
+risen-requires c κs =
+    let d = c .before .before in
+    let s = d .before .before in
+    let h = d .loop-test .taken in
+    (s .pre .0 .some _ h, s .pre .0 .period _ h, omega (arith, s .pre .2), waits d)
+
+-- where the edge goes on to
+on : (c : tie.After-risen Inv-loop μ-loop)
+    → let l = c .before .before .before .before .loop in
+    let p = getD (c .before .before .before .before .before .args .periods .now) (l .k) 0 in
+    getD (l .edges) (l .k) 0 + c .risen .result * p ≡ onward (getD (l .edges) (l .k) 0) p (c .before .before .before .before .before .args .x)
+on c =
+    let l = c .before .before .before .before .loop in
+    ap (λ d. getD (l .edges) (l .k) 0 + d * getD (c .before .before .before .before .before .args .periods .now) (l .k) 0) (c .risen .ensures)
+
+reach : (c : tie.After-risen Inv-loop μ-loop)
+    → let l = c .before .before .before .before .loop in
+    getD (l .edges) (l .k) 0 + c .risen .result * getD (c .before .before .before .before .before .args .periods .now) (l .k) 0 < 2 ^ 34
 reach c =
-    let s = c .before .before .before .before .before .before in
-    let l = c .before .before .before .before .before .loop in
-    let p = getD (s .args .periods .now) (l .k) 0 in
-    omega (arith, step-over (c .passed .result) (s .args .x) (getD (l .edges) (l .k) 0) p (c .passed .ensures), s .pre .0 .period (l .k) (c .before .before .before .before .loop-test .taken), s .pre .2, c .before .before .if1 .taken)
+    let d = c .before .before .before in
+    let s = d .before .before in
+    rw (on c) (onward-below _ _ _ (waits d) (s .pre .0 .period _ (d .loop-test .taken)) (s .pre .2))
 
 mul-edges : tie.Need-mul-edges Inv-loop μ-loop
 mul-edges c = omega (arith, reach c)
@@ -73,15 +83,25 @@ element-copy-out-total : tie.Need-element-copy-out-total Inv-loop μ-loop
 element-copy-out-total c = search needs
 
 -- what is gained so far is part of the whole
+gained : (c : tie.After-risen Inv-loop μ-loop)
+    → let l = c .before .before .before .before .loop in
+    let a = c .before .before .before .before .before .args in
+    sumTo (stair (a .costs .now) (a .periods .now) (a .edges .now) (a .x)) (l .k + 1)
+    ≡ sumTo (stair (a .costs .now) (a .periods .now) (a .edges .now) (a .x)) (l .k) + c .risen .result * getD (a .costs .now) (l .k) 0
+gained c =
+    let l = c .before .before .before .before .loop in
+    let a = c .before .before .before .before .before .args in
+    pass-height (a .costs .now) (a .periods .now) (a .edges .now) (l .edges) (a .x) (l .k) (c .risen .result) (c .risen .ensures) (l .inv .2)
+
 rest : (c : tie.After-total Inv-loop μ-loop)
-    → c .before .before .before .before .before .before .loop .total
-    + c .before .passed .result * getD (c .before .before .before .before .before .before .before .args .costs .now) (c .before .before .before .before .before .before .loop .k) 0 < 2 ^ 64
+    → let l = c .before .before .before .before .before .loop in
+    l .total + c .before .risen .result * getD (c .before .before .before .before .before .before .args .costs .now) (l .k) 0 < 2 ^ 64
 unfolding height
 rest c =
-    let s = c .before .before .before .before .before .before .before in
-    let l = c .before .before .before .before .before .before .loop in
-    let f = stair (s .args .costs .now) (s .args .periods .now) (s .args .edges .now) (s .args .x) in
-    omega (arith, pass-height (s .args .costs .now) (s .args .periods .now) (s .args .edges .now) (l .edges) (s .args .x) (l .k) (c .before .passed .result) (c .before .passed .ensures) (l .inv .2), sumTo-le f (l .k + 1) (s .args .n) (omega arith), s .pre .3)
+    let d = c .before .before .before .before in
+    let s = d .before .before in
+    let l = d .before .loop in
+    omega (arith, gained (c .before), l .inv .1, sumTo-le (stair (s .args .costs .now) (s .args .periods .now) (s .args .edges .now) (s .args .x)) (l .k + 1) (s .args .n) (omega (arith, d .loop-test .taken)), s .pre .3)
 
 mul-total-2 : tie.Need-mul-total-2 Inv-loop μ-loop
 mul-total-2 c = omega (arith, rest c)
@@ -97,22 +117,13 @@ loop-less c = search needs
 
 loop-again : tie.Need-loop-again Inv-loop μ-loop
 loop-again c =
-    let s = c .before .before .before .before in
-    let a = s .args in
-    let l = c .before .before .before .loop in
-    let h = pass-height (a .costs .now) (a .periods .now) (a .edges .now) (l .edges) (a .x) (l .k) in
-    ⊎-elim
-    (λ w. (
+    let r = c .before in
+    let l = r .before .before .before .before .loop in
+    let s = r .before .before .before .before .before in (
       omega arith,
-      w .5 ∙ omega (arith, h (w .2 .result) (w .2 .ensures) (l .inv .2), l .inv .1),
-      rw (w .4) (pass-on _ _ _ _ _ _ (omega (arith, s .pre .1 .long, s .pre .0 .few)) (ap (λ d. getD (l .edges) (l .k) 0 + d * getD (a .periods .now) (l .k) 0) (w .2 .ensures)) (l .inv .2)),
-    ))
-    (λ w. (
-      omega arith,
-      w .2 ∙ omega (arith, h 0 (not-yet _ _ _ (w .0 .left)) (l .inv .2), l .inv .1, zero-mul (getD (a .costs .now) (l .k) 0)),
-      rw (w .1) (pass-still _ _ _ _ _ (w .0 .left) (l .inv .2)),
-    ))
-    (c .if1 .came)
+      omega (arith, gained r, l .inv .1),
+      pass-on _ _ _ _ _ _ (omega (arith, s .pre .1 .long, s .pre .0 .few)) (on r) (l .inv .2),
+    )
 
 returns : tie.Need-returns Inv-loop μ-loop
 unfolding height
@@ -135,7 +146,7 @@ climbed-spec =
     element-copy-out-edge
     mul-period
     element-copy-out-period
-    passed-requires
+    risen-requires
     mul-edges
     add-edges
     mul-edges-2

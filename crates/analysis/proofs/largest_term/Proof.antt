@@ -3,7 +3,7 @@
 use borrow.Author.Needs.{needs}
 use mathlib.Core.Path.{_≡_, refl, sym, ap, ap₂, _∙_, subst}
 use Prim.Native.Nat.{ℕ, _+_, _-_, _*_, _^_, _≤_, _<_}
-use native.Mathlib.Nat.{zero-mul}
+use native.Mathlib.Nat.{zero-mul, add-assoc}
 use native.Mathlib.Omega.{arith}
 use lib.IntN.{pos, natAbs, _-ℤ_}
 use mir.Syntax.{w64}
@@ -11,60 +11,85 @@ use mir.Val.{toZ, Fits, SFits}
 use mir.Facts.{toZ-ofZ, fits-ofZ, fits-natAbs, sfits-toZ}
 use Rattle.names.specs.Limits.{ticks}
 use Rattle.laws.specs.Signed.{maxZ, largestTo}
-use Rattle.laws.proofs.Round.{ceil-room, ceil-le}
 use Rattle.laws.proofs.Signed.{largest-start, largest-more}
+use Rattle.bound.specs.Terms.{Terms}
 use Rattle.bound.specs.Bound as rule
+use Rattle.bound.specs.Claims.{Sound}
 use Rattle.bound.proofs.Sides.{busy-is-least}
 use Rattle.bound.proofs.Largest.{some-instance, largest-pos}
-use Rattle.analysis.specs.Gathered.{termsOf}
-use Rattle.analysis.specs.Stairs.{restW, Kept}
+use Rattle.analysis.specs.Gathered.{Lent, lent, termsOf}
+use Rattle.analysis.specs.Stairs.{restW, Laid, Kept}
 use Rattle.analysis.proofs.Kept.{kept-start}
 use Rattle.analysis.proofs.Fit.{fit-sound}
-use Rattle.analysis.proofs.Waits.{first-from, next-from, above-base, w-small, bounded, is-w, goes-on, term-is, base-more}
+use Rattle.analysis.proofs.Laying.{laid}
+use Rattle.analysis.proofs.Waits.{first-from, next-from, above-base, w-small, bounded, is-w, goes-on, gone-small, term-is, base-more}
 use Rattle.analysis.proofs.largest_term.Statement.{statement}
 use Rattle.analysis.proofs.largest_term.Tie as tie
-use Rattle.analysis.proofs.largest_term.Reads as reads
-use Rattle.analysis.proofs.largest_term.Lts as lts
-use Rattle.analysis.proofs.larger.Reads as larger-reads
-use Rattle.analysis.proofs.settled.Reads as settled-reads
-use Rattle.analysis.proofs.term.Reads as term-reads
 
 abbrev Inv-loop : tie.InvT-loop
-Inv-loop g l n costs periods edges₀ count ends cost base₀ wait₀ best₀ q₀ edges base wait best q =
-    (q < count) × (base ≡ g .blocking + q * g .cost) × (wait ≡ rule.w (termsOf g) q) × Kept costs periods edges n (restW (termsOf g)) wait (wait - base)
-    × (toZ w64 best ≡ largestTo (rule.term (termsOf g)) q) × Fits w64 best
+Inv-loop g l costs periods jitters edges₀ n count ends cost base₀ wait₀ best₀ q₀ edges base wait best q =
+    (q < count) × (base ≡ g .blocking + q * g .cost) × (wait ≡ rule.w (termsOf (lent g costs periods jitters)) q) × Kept costs periods edges n (restW (termsOf (lent g costs periods jitters))) wait (wait - base)
+    × (toZ w64 best ≡ largestTo (rule.term (termsOf (lent g costs periods jitters))) q) × Fits w64 best
 
 abbrev μ-loop : tie.MeasureT-loop
-μ-loop g l n costs periods edges₀ count ends cost base₀ wait₀ best₀ q₀ edges base wait best q = count - q
+μ-loop g l costs periods jitters edges₀ n count ends cost base₀ wait₀ best₀ q₀ edges base wait best q = count - q
 
--- the function's entry, seen from the first search and from the loop
-abbrev entry : tie.After-settled Inv-loop μ-loop → tie.Start Inv-loop μ-loop
-entry c = c .before .before .before .before .before .before
+-- what is lent to the function, its terms, and that the theory's conditions hold
+abbrev given : tie.Start Inv-loop μ-loop → Lent
+given s = lent (s .args .g) (s .args .costs .now) (s .args .periods .now) (s .args .jitters .now)
+
+abbrev terms : tie.Start Inv-loop μ-loop → Terms
+terms s = termsOf (given s)
+
+sound : (s : tie.Start Inv-loop μ-loop) → Sound (terms s)
+sound s = fit-sound (given s) (s .pre .0 .row)
+
+-- the function's entry, seen from where the stairs have started, from the first search and from the loop
+abbrev entry : tie.After-start-edges Inv-loop μ-loop → tie.Start Inv-loop μ-loop
+entry c = c .before .before .before .before
+
+abbrev edged : tie.After-settled Inv-loop μ-loop → tie.After-start-edges Inv-loop μ-loop
+edged c = c .before .before .before .before
 
 abbrev begun : tie.At-loop Inv-loop μ-loop → tie.Start Inv-loop μ-loop
-begun c = entry (c .before .before)
+begun c = entry (edged (c .before .before))
+
+-- how many instances there are, as counted
+counted : (c : tie.At-loop Inv-loop μ-loop) → (c .before .before .before .before .before .instances .result ≡ rule.Q (terms (begun c)) (begun c .args .l)) × (c .before .before .before .before .before .instances .result < 2 ^ 34)
+counted c = c .before .before .before .before .before .instances .ensures
 
 -- the busy period is within the limit, and has an instance
 within : (s : tie.Start Inv-loop μ-loop) → s .args .l ≤ ticks
-within s = busy-is-least (termsOf (s .args .g)) (s .args .l) .0 (s .pre .1) .0
+within s = busy-is-least (terms s) (s .args .l) .0 (s .pre .1) .0
 
-some : (s : tie.Start Inv-loop μ-loop) → 0 < rule.Q (termsOf (s .args .g)) (s .args .l)
-some s = some-instance _ (fit-sound _ (s .pre .0)) _ (busy-is-least (termsOf (s .args .g)) (s .args .l) .0 (s .pre .1) .1 .above)
+some : (s : tie.Start Inv-loop μ-loop) → 0 < rule.Q (terms s) (s .args .l)
+some s = some-instance _ (sound s) _ (busy-is-least (terms s) (s .args .l) .0 (s .pre .1) .1 .above)
 
-add-count : tie.Need-add-count Inv-loop μ-loop
-add-count c = omega (arith, within (c .before), c .before .pre .0 .own .jitter)
+add-n : tie.Need-add-n Inv-loop μ-loop
+add-n c = let f = c .before .pre .0 in omega (arith, f .few, f .quiet)
 
-sub-count : tie.Need-sub-count Inv-loop μ-loop
-sub-count c = omega (arith, c .before .before .pre .0 .own .some)
+add-start-edges : tie.Need-add-start-edges Inv-loop μ-loop
+add-start-edges c = let f = c .before .before .pre .0 .row in omega (arith, f .late, f .own .cost)
 
-add-count-2 : tie.Need-add-count-2 Inv-loop μ-loop
-add-count-2 c = let s = c .before .before in omega (arith, within s, s .pre .0 .own .jitter, s .pre .0 .own .period)
+start-edges-requires : tie.Need-start-edges-requires Inv-loop μ-loop
+start-edges-requires c κs =
+    let s = c .before .before .before in
+    let f = s .pre .0 in
+    (f .few, omega arith, omega (arith, f .few, f .quiet), omega (arith, f .row .late, f .row .own .cost), omega (arith, f .row .own .cost), (λ k h. f .urgent k h .jitter), s .pre .2)
 
-div-count : tie.Need-div-count Inv-loop μ-loop
-div-count c = c .before .before .before .pre .0 .own .some
+-- for w a release V after a cycle's start still counts, and the noise's window is C'' longer
+started : (c : tie.After-start-edges Inv-loop μ-loop) → Laid (given (entry c) .costs) (given (entry c) .periods) (c .start-edges .last .1 .1 .1 .1 .1 .0) (given (entry c) .row .urgent + given (entry c) .row .sources) (restW (terms (entry c)))
+started c =
+    let t = given (entry c) in
+    let r = termsOf t in
+    let f = entry c .pre .0 in
+    laid t f (r .late + 1) (r .own .C″) (omega (arith, f .row .late, f .row .own .cost)) (f .row .own .cost) _ (c .start-edges .ensures) (restW r) (λ x. ap (λ z. rule.demand (r .urgent) z + rule.E r (x + r .own .C″)) (sym (add-assoc x (r .late) 1)))
+
+instances-requires : tie.Need-instances-requires Inv-loop μ-loop
+instances-requires c κs = let s = entry c in let o = s .pre .0 .row .own in (within s, o .jitter, o .some, o .period)
 
 add-ends : tie.Need-add-ends Inv-loop μ-loop
-add-ends c = let f = c .before .before .before .before .pre .0 in omega (arith, f .own .jitter, f .last, f .own .cost)
+add-ends c = let f = entry (c .before .before) .pre .0 .row in omega (arith, f .own .jitter, f .last, f .own .cost)
 
 -- no instance has waited yet: B + 0 × C'' is B
 none-yet : (b c : ℕ) → b ≡ b + 0 * c
@@ -72,61 +97,60 @@ none-yet b c = omega (arith, zero-mul c)
 
 settled-requires : tie.Need-settled-requires Inv-loop μ-loop
 settled-requires c κs =
-    let s = c .before .before .before .before .before in
-    let g = s .args .g in
-    let r = termsOf g in
-    let lay = s .pre .2 in (
+    let e = c .before .before .before in
+    let s = entry e in
+    let lay = started e in (
       lay .stairs,
       lay .known,
-      bounded r (fit-sound g (s .pre .0)) (s .args .l) (s .pre .1) _ _ _ _ 0 (g .blocking) 0 0 0 (some s) (none-yet _ _) (kept-start _ _ _ _ _ 0 lay) (omega arith) (first-from r (fit-sound g (s .pre .0)) (s .args .l) (s .pre .1)),
+      bounded (terms s) (sound s) (s .args .l) (s .pre .1) _ _ _ _ 0 (s .args .g .blocking) 0 0 0 (some s) (none-yet _ _) (kept-start _ _ _ _ _ 0 lay) (omega arith) (first-from (terms s) (sound s) (s .args .l) (s .pre .1)),
     )
 
 add-term : tie.Need-add-term Inv-loop μ-loop
-add-term c = let f = entry c .pre .0 in omega (arith, f .own .jitter, f .last, f .own .cost, c .settled .ensures .small)
+add-term c = let f = entry (edged c) .pre .0 .row in omega (arith, f .own .jitter, f .last, f .own .cost, c .settled .ensures .small)
 
 term-requires : tie.Need-term-requires Inv-loop μ-loop
 term-requires c κs =
-    let f = entry c .pre .0 in (omega (arith, f .own .jitter, f .last, f .own .cost, c .settled .ensures .small), omega arith)
+    let f = entry (edged c) .pre .0 .row in (omega (arith, f .own .jitter, f .last, f .own .cost, c .settled .ensures .small), omega arith)
 
 loop-holds : tie.Need-loop-holds Inv-loop μ-loop
 loop-holds c =
-    let s = entry (c .before) in
+    let d = c .before in
+    let s = entry (edged d) in
     let g = s .args .g in
-    let r = termsOf g in
-    let h = some s in
-    let k = kept-start _ _ _ _ _ 0 (s .pre .2) in
-    let f = first-from r (fit-sound g (s .pre .0)) (s .args .l) (s .pre .1) in
-    let w = is-w r (fit-sound g (s .pre .0)) (s .args .l) (s .pre .1) _ _ _ _ 0 (g .blocking) 0 0 0 h (none-yet _ _) k (omega arith) f _ _ (c .before .settled .ensures) in
+    let r = terms s in
+    let k = kept-start _ _ _ _ _ 0 (started (edged d)) in
+    let f = first-from r (sound s) (s .args .l) (s .pre .1) in
+    let w = is-w r (sound s) (s .args .l) (s .pre .1) _ _ _ _ 0 (g .blocking) 0 0 0 (some s) (none-yet _ _) k (omega arith) f _ _ (d .settled .ensures) in
     let t : SFits w64 (c .term .result) = record { sfits = c .term .ok } in (
-      h,
+      omega (arith, some s, d .before .before .before .instances .ensures .0),
       none-yet _ _,
       w,
-      goes-on r (fit-sound g (s .pre .0)) (s .args .l) (s .pre .1) _ _ _ _ 0 (g .blocking) 0 0 0 h (none-yet _ _) k (omega arith) f _ _ (c .before .settled .ensures),
-      toZ-ofZ t ∙ c .term .ensures ∙ ap (λ z. pos (g .jitter + g .last + c .before .settled .result) -ℤ pos z) (sym (zero-mul (g .period))) ∙ term-is r 0 _ w ∙ sym (largest-start (rule.term r)),
+      goes-on r (sound s) (s .args .l) (s .pre .1) _ _ _ _ 0 (g .blocking) 0 0 0 (some s) (none-yet _ _) k (omega arith) f _ _ (d .settled .ensures),
+      toZ-ofZ t ∙ c .term .ensures ∙ ap (λ z. pos (g .jitter + g .last + d .settled .result) -ℤ pos z) (sym (zero-mul (g .period))) ∙ term-is r 0 _ w ∙ sym (largest-start (rule.term r)),
       fits-ofZ t,
     )
 
--- every count is below 2^34
-count-small : (s : tie.Start Inv-loop μ-loop) → rule.Q (termsOf (s .args .g)) (s .args .l) < 2 ^ 34
-count-small s =
-    let o = s .pre .0 .own in
-    omega (arith, ceil-le (s .args .l + s .args .g .jitter) (s .args .g .period) (o .some), within s, o .jitter)
-
 add-loop : tie.Need-add-loop Inv-loop μ-loop
-add-loop c = omega (arith, count-small (begun c), c .loop .inv .0)
+add-loop c = omega (arith, counted c .1, c .loop .inv .0)
+
+-- q and the next one are instances of the busy period
+this : (c : tie.In-loop Inv-loop μ-loop) → c .before .loop .q < rule.Q (terms (begun (c .before))) (begun (c .before) .args .l)
+this c = omega (arith, counted (c .before) .0, c .before .loop .inv .0)
+
+next : (c : tie.In-loop Inv-loop μ-loop) → c .before .loop .q + 1 < rule.Q (terms (begun (c .before))) (begun (c .before) .args .l)
+next c = omega (arith, counted (c .before) .0, c .loop-test .taken)
 
 -- what is known of w(q) and of w(q + 1) in the loop
 low : (c : tie.In-loop Inv-loop μ-loop) → c .before .loop .base ≤ c .before .loop .wait
 low c =
     let s = begun (c .before) in
     let i = c .before .loop .inv in
-    omega (arith, above-base (termsOf (s .args .g)) (fit-sound _ (s .pre .0)) (s .args .l) (s .pre .1) (c .before .loop .q) (i .0), i .1, i .2)
+    omega (arith, above-base (terms s) (sound s) (s .args .l) (s .pre .1) (c .before .loop .q) (this c), i .1, i .2)
 
 high : (c : tie.In-loop Inv-loop μ-loop) → c .before .loop .wait + begun (c .before) .args .g .cost ≤ ticks
 high c =
     let s = begun (c .before) in
-    let i = c .before .loop .inv in
-    omega (arith, w-small (termsOf (s .args .g)) (fit-sound _ (s .pre .0)) (s .args .l) (s .pre .1) (c .before .loop .q) (i .0), i .2)
+    omega (arith, w-small (terms s) (sound s) (s .args .l) (s .pre .1) (c .before .loop .q) (this c), c .before .loop .inv .2)
 
 sub-sum : tie.Need-sub-sum Inv-loop μ-loop
 sub-sum c = low c
@@ -139,11 +163,12 @@ add-settled c = omega (arith, high c)
 
 -- the next search may start at w(q) + C''
 from-next : (c : tie.In-loop Inv-loop μ-loop)
-    → (c .before .loop .wait + begun (c .before) .args .g .cost ≤ rule.w (termsOf (begun (c .before) .args .g)) (c .before .loop .q + 1))
-    × (c .before .loop .wait + begun (c .before) .args .g .cost ≤ rule.sideW (termsOf (begun (c .before) .args .g)) (c .before .loop .q + 1) (c .before .loop .wait + begun (c .before) .args .g .cost))
+    → let s = begun (c .before) in
+    let from = c .before .loop .wait + s .args .g .cost in
+    (from ≤ rule.w (terms s) (c .before .loop .q + 1)) × (from ≤ rule.sideW (terms s) (c .before .loop .q + 1) from)
 from-next c =
     let s = begun (c .before) in
-    rw (c .before .loop .inv .2) (next-from (termsOf (s .args .g)) (fit-sound _ (s .pre .0)) (s .args .l) (s .pre .1) (c .before .loop .q) (c .loop-test .taken))
+    rw (c .before .loop .inv .2) (next-from (terms s) (sound s) (s .args .l) (s .pre .1) (c .before .loop .q) (next c))
 
 settled-requires-2 : tie.Need-settled-requires-2 Inv-loop μ-loop
 settled-requires-2 c κs =
@@ -151,24 +176,23 @@ settled-requires-2 c κs =
     let s = begun (d .before) in
     let g = s .args .g in
     let l = d .before .loop in (
-      s .pre .2 .stairs,
+      started (edged (d .before .before .before)) .stairs,
       l .inv .3 .known,
-      bounded (termsOf g) (fit-sound g (s .pre .0)) (s .args .l) (s .pre .1) _ _ _ _ (l .q + 1) (l .base + g .cost) (l .wait - l .base) (l .wait) (l .wait + g .cost) (d .loop-test .taken) (base-more _ _ _ _ (l .inv .1)) (l .inv .3) (omega arith) (from-next d),
+      bounded (terms s) (sound s) (s .args .l) (s .pre .1) _ _ _ _ (l .q + 1) (l .base + g .cost) (l .wait - l .base) (l .wait) (l .wait + g .cost) (next d) (base-more _ _ _ _ (l .inv .1)) (l .inv .3) (omega arith) (from-next d),
     )
 
 add-q : tie.Need-add-q Inv-loop μ-loop
-add-q c = let d = c .before .before in omega (arith, count-small (begun (d .before)), d .before .loop .inv .0)
+add-q c = let d = c .before .before in omega (arith, counted (d .before) .1, d .loop-test .taken)
 
 add-term-2 : tie.Need-add-term-2 Inv-loop μ-loop
 add-term-2 c =
-    let f = begun (c .before .before .before) .pre .0 in omega (arith, f .own .jitter, f .last, f .own .cost, c .settled2 .ensures .small)
+    let f = begun (c .before .before .before) .pre .0 .row in omega (arith, f .own .jitter, f .last, f .own .cost, c .settled2 .ensures .small)
 
--- q × T is within L + J
 late : (c : tie.In-loop Inv-loop μ-loop) → (c .before .loop .q + 1) * begun (c .before) .args .g .period < 2 ^ 63
 late c =
     let s = begun (c .before) in
-    let o = s .pre .0 .own in
-    omega (arith, ceil-room (c .before .loop .q + 1) (s .args .l + s .args .g .jitter) (s .args .g .period) (o .some) (c .loop-test .taken), within s, o .jitter)
+    let o = s .pre .0 .row .own in
+    gone-small (s .args .l) _ _ _ (within s) (o .jitter) (o .some) (next c)
 
 mul-term : tie.Need-mul-term Inv-loop μ-loop
 mul-term c = omega (arith, late (c .before .before .before))
@@ -176,7 +200,7 @@ mul-term c = omega (arith, late (c .before .before .before))
 term-requires-2 : tie.Need-term-requires-2 Inv-loop μ-loop
 term-requires-2 c κs =
     let d = c .before .before .before in
-    let f = begun (d .before) .pre .0 in
+    let f = begun (d .before) .pre .0 .row in
     (omega (arith, f .own .jitter, f .last, f .own .cost, c .before .settled2 .ensures .small), late d)
 
 larger-requires : tie.Need-larger-requires Inv-loop μ-loop
@@ -190,18 +214,18 @@ loop-again c =
     let d = c .before .before .before .before .before in
     let s = begun (d .before) in
     let g = s .args .g in
-    let r = termsOf g in
+    let r = terms s in
     let l = d .before .loop in
     let i = l .inv in
     let t = c .before .before .before .settled2 .ensures in
     let e = base-more _ _ _ _ (i .1) in
-    let w = is-w r (fit-sound g (s .pre .0)) (s .args .l) (s .pre .1) _ _ _ _ (l .q + 1) (l .base + g .cost) (l .wait - l .base) (l .wait) (l .wait + g .cost) (d .loop-test .taken) e (i .3) (omega arith) (from-next d) _ _ t in
+    let w = is-w r (sound s) (s .args .l) (s .pre .1) _ _ _ _ (l .q + 1) (l .base + g .cost) (l .wait - l .base) (l .wait) (l .wait + g .cost) (next d) e (i .3) (omega arith) (from-next d) _ _ t in
     let u : SFits w64 (c .before .term2 .result) = record { sfits = c .before .term2 .ok } in
     let v : SFits w64 (c .larger .result) = record { sfits = c .larger .ok } in (
       d .loop-test .taken,
       e,
       w,
-      goes-on r (fit-sound g (s .pre .0)) (s .args .l) (s .pre .1) _ _ _ _ (l .q + 1) (l .base + g .cost) (l .wait - l .base) (l .wait) (l .wait + g .cost) (d .loop-test .taken) e (i .3) (omega arith) (from-next d) _ _ t,
+      goes-on r (sound s) (s .args .l) (s .pre .1) _ _ _ _ (l .q + 1) (l .base + g .cost) (l .wait - l .base) (l .wait) (l .wait + g .cost) (next d) e (i .3) (omega arith) (from-next d) _ _ t,
       toZ-ofZ v ∙ c .larger .ensures ∙ ap₂ maxZ (i .4) (toZ-ofZ u ∙ c .before .term2 .ensures ∙ term-is r (l .q + 1) _ w) ∙ largest-more (rule.term r) (l .q),
       fits-ofZ v,
     )
@@ -210,15 +234,15 @@ cast-result : tie.Need-cast-result Inv-loop μ-loop
 cast-result c =
     let s = begun (c .before) in
     let i = c .before .loop .inv in
-    (rw (i .4) (largest-pos _ (fit-sound _ (s .pre .0)) _ .0), fits-natAbs tt (sfits-toZ (i .5)))
+    (rw (i .4) (largest-pos _ (sound s) _ .0), fits-natAbs tt (sfits-toZ (i .5)))
 
 returns : tie.Need-returns Inv-loop μ-loop
 unfolding rule.bound
 returns c =
     let s = begun (c .before) in
     let i = c .before .loop .inv in
-    let e : c .before .loop .q ≡ rule.Q (termsOf (s .args .g)) (s .args .l) - 1 = omega (arith, i .0, c .loop-test .left) in
-    ap natAbs (i .4 ∙ ap (largestTo (rule.term (termsOf (s .args .g)))) e)
+    let e : c .before .loop .q ≡ rule.Q (terms s) (s .args .l) - 1 = omega (arith, i .0, c .loop-test .left, counted (c .before) .0) in
+    ap natAbs (i .4 ∙ ap (largestTo (rule.term (terms s))) e)
 
 pub largest-term-spec : {M : Type 1} → statement M
 largest-term-spec =
@@ -226,10 +250,10 @@ largest-term-spec =
     (tie.spec
     Inv-loop
     μ-loop
-    add-count
-    sub-count
-    add-count-2
-    div-count
+    add-n
+    add-start-edges
+    start-edges-requires
+    instances-requires
     add-ends
     settled-requires
     add-term

@@ -1,37 +1,40 @@
 -- After k turns the first k places have the numbers of the first k labels. Assumes nothing.
-use mathlib.Core.Path.{_≡_, sym, ap, _∙_}
-use mathlib.Core.List.{_++_}
-use Prim.Native.Nat.{ℕ, _-_, _≤_, _<_}
+use mathlib.Core.Path.{_≡_, _∙_}
+use mathlib.Core.List.{List}
+use Prim.Native.Nat.{ℕ, _-_, _≤_}
 use native.Mathlib.Omega.{arith}
 use borrow.Author.Needs.{needs}
-use lib.ListN.{length, replicate}
+use lib.ListN.{length}
 use Rattle.names.specs.Limits.{streams}
-use Rattle.laws.specs.Lists.{rows}
-use Rattle.laws.proofs.Lists.{lay-none, lay-more}
+use Rattle.plan.specs.declared.Stream.{Stream}
 use Rattle.plan.specs.Plan.{planOf}
-use Rattle.fields.proofs.Places.{streams-taken, row-in-place}
-use Rattle.compare.specs.Changes.{number}
-use Rattle.compare.specs.Private.{numberOf, numbersOf}
+use Rattle.fields.proofs.Places.{streams-taken}
+use Rattle.compare.specs.Private.{numberBy}
+use Rattle.compare.proofs.Places.{laidTo, laid-none, laid-more, laid-all}
 use Rattle.compare.proofs.numbers.Statement.{statement}
 use Rattle.compare.proofs.numbers.Tie as tie
 
+abbrev had : List ℕ → List ℕ → Stream → ℕ
+had labels numbers s = numberBy labels numbers (s .label)
+
 abbrev Inv-loop : tie.InvT-loop
-Inv-loop old new n was₀ k₀ was k =
-    (k ≤ n) × (n ≤ streams) × (n ≡ length (planOf new .streams)) × (was ≡ rows k (numberOf (planOf old) (planOf new)) ++ replicate (streams - k) 0)
+Inv-loop labels numbers new n was₀ k₀ was k =
+    (k ≤ n) × (n ≤ streams) × (n ≡ length (planOf new .streams)) × (was ≡ laidTo k (had labels numbers) (planOf new))
 
 abbrev μ-loop : tie.MeasureT-loop
-μ-loop old new n was₀ k₀ was k = n - k
+μ-loop labels numbers new n was₀ k₀ was k = n - k
 
 smaller-requires : tie.Need-smaller-requires Inv-loop μ-loop
 smaller-requires c κs = search needs
 
 loop-holds : tie.Need-loop-holds Inv-loop μ-loop
-loop-holds c = (
-  omega arith,
-  omega (arith, c .smaller .ensures),
-  streams-taken (c .before .args .t2) (_, c .before .good .1 .0 .1 .1) _ (c .smaller .ensures) .0,
-  lay-none _ 0 streams,
-)
+loop-holds c =
+    let b = c .before .before .before in (
+      omega arith,
+      omega (arith, c .smaller .ensures),
+      streams-taken (b .args .t3) (_, b .good .1 .1 .0 .1 .1) _ (c .smaller .ensures) .0,
+      laid-none (had (b .args .labels .now) (b .args .numbers .now)) (planOf (b .args .t3)),
+    )
 
 mul-row : tie.Need-mul-row Inv-loop μ-loop
 mul-row c = search needs
@@ -57,18 +60,18 @@ loop-less c = search needs
 loop-again : tie.Need-loop-again Inv-loop μ-loop
 loop-again c =
     let l = c .before .before .before .before in
-    let a = l .before .before .args in
-    let e : c .number .result ≡ numberOf (planOf (a .old)) (planOf (a .t2)) (l .loop .k) =
-    c .number .ensures ∙ ap (λ s. number (planOf (a .old)) (s .label)) (sym (row-in-place (a .t2) (l .loop .k) (omega arith))) in
-    (omega arith, l .loop .inv .1, l .loop .inv .2, rw (l .loop .inv .3, e) (lay-more _ 0 streams (l .loop .k) (omega arith)))
+    let a = l .before .before .before .before .args in (
+      omega arith,
+      l .loop .inv .1,
+      l .loop .inv .2,
+      laid-more (had (a .labels .now) (a .numbers .now)) (a .t3) (l .loop .k) (omega arith) (omega arith) (l .loop .inv .3) (c .number .ensures),
+    )
 
 returns : tie.Need-returns Inv-loop μ-loop
-unfolding numbersOf
 returns c =
     let l = c .before .loop in
-    let a = c .before .before .before .args in
-    let e : l .k ≡ length (planOf (a .t2) .streams) = omega arith in
-    l .inv .3 ∙ ap (λ k. rows k (numberOf (planOf (a .old)) (planOf (a .t2))) ++ replicate (streams - k) 0) e
+    let a = c .before .before .before .before .before .args in
+    l .inv .3 ∙ laid-all (had (a .labels .now) (a .numbers .now)) (planOf (a .t3)) (l .k) (omega arith)
 
 pub numbers-spec : {M : Type 1} → statement M
 numbers-spec =

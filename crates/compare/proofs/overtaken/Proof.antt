@@ -1,61 +1,50 @@
--- No row before j overtakes the stream. Assumes nothing.
-use mathlib.Core.Path.{_≡_, sym, ap, _∙_}
-use mathlib.Core.Bool.{Bool, true, false, _&&_}
+-- After j turns the flag says whether one of the first j rows overtakes the stream. Assumes nothing.
+use mathlib.Core.Path.{_≡_, refl, ap, _∙_}
+use mathlib.Core.Bool.{true, false}
+use mathlib.Core.Logic.{⊎-elim}
+use mathlib.Core.List.{List}
 use Prim.Native.Nat.{ℕ, _-_, _≤_, _<_}
 use native.Mathlib.Omega.{arith}
 use borrow.Author.Needs.{needs}
-use lib.Dec.{ltb, leb}
+use borrow.Author.Tests.{lt-ltb, le-ltb, le-leb, lt-leb}
 use lib.ListN.{length, getD}
 use Rattle.repeats.specs.Rows.{some}
-use Rattle.repeats.proofs.Rows.{NoneBelow, none-yet, none-more, some-at, some-none}
-use Rattle.plan.specs.Plan.{planOf, blank}
-use Rattle.fields.proofs.Places.{streams-taken, row-in-place}
-use Rattle.promise.specs.Lighter.{at}
+use Rattle.repeats.proofs.Rows.{flag-none, flag-up, flag-kept}
 use Rattle.compare.specs.Private.{overtakesBy}
 use Rattle.compare.proofs.overtaken.Statement.{statement}
 use Rattle.compare.proofs.overtaken.Tie as tie
 
+-- one row, by the tests of its numbers
+module _ (was is : List ℕ) (q than j : ℕ) where
+  ahead : getD is j 0 < q → than ≤ getD was j 0 → overtakesBy was is q than j ≡ true
+  ahead h l = rw (lt-ltb _ _ h, le-leb _ _ l) refl
+
+  was-ahead : getD is j 0 < q → getD was j 0 < than → overtakesBy was is q than j ≡ false
+  was-ahead h l = rw (lt-ltb _ _ h, lt-leb _ _ l) refl
+
+  behind : q ≤ getD is j 0 → overtakesBy was is q than j ≡ false
+  behind h = rw (le-ltb _ _ h) refl
+
 abbrev Inv-loop : tie.InvT-loop
-Inv-loop q than was plan n j₀ j = (j ≤ n) × (n ≡ length (planOf plan .streams)) × NoneBelow (overtakesBy was (planOf plan) q than) j
+Inv-loop was is q than found₀ j₀ j-end found j = (j ≤ j-end) × (found ≡ some (overtakesBy was is q than) j)
 
 abbrev μ-loop : tie.MeasureT-loop
-μ-loop q than was plan n j₀ j = n - j
-
--- what the test of row j said
-test : (c : tie.After-overtakes Inv-loop μ-loop) → let l = c .before .before .before .before in let a = l .before .before .args in
-    overtakesBy (a .t1) (planOf (a .t2)) (a .q) (a .than) (l .loop .j) ≡ c .overtakes .result
-test c =
-    let l = c .before .before .before .before in
-    let a = l .before .before .args in
-    let e = row-in-place (a .t2) (l .loop .j) (omega arith) in
-    ap (λ s. ltb (s .priority .0) (a .q .0) && leb (a .than) (getD (a .t1) (l .loop .j) 0)) e ∙ sym (c .overtakes .ensures)
-
-smaller-requires : tie.Need-smaller-requires Inv-loop μ-loop
-smaller-requires c κs = search needs
+μ-loop was is q than found₀ j₀ j-end found j = j-end - j
 
 loop-holds : tie.Need-loop-holds Inv-loop μ-loop
-loop-holds c = (omega arith, streams-taken (c .before .args .t2) (_, c .before .good .1 .0 .1 .1) _ (c .smaller .ensures) .0, none-yet _)
+loop-holds c = (omega arith, flag-none _)
 
-mul-s : tie.Need-mul-s Inv-loop μ-loop
-mul-s c = search needs
+mul-if1 : tie.Need-mul-if1 Inv-loop μ-loop
+mul-if1 c = search needs
 
-element-copy-out-s : tie.Need-element-copy-out-s Inv-loop μ-loop
-element-copy-out-s c = search needs
+shared-slice-read-if1 : tie.Need-shared-slice-read-if1 Inv-loop μ-loop
+shared-slice-read-if1 c = search needs
 
-mul-overtakes : tie.Need-mul-overtakes Inv-loop μ-loop
-mul-overtakes c = search needs
+mul-if2 : tie.Need-mul-if2 Inv-loop μ-loop
+mul-if2 c = search needs
 
-array-read-overtakes : tie.Need-array-read-overtakes Inv-loop μ-loop
-array-read-overtakes c = search needs
-
-overtakes-requires : tie.Need-overtakes-requires Inv-loop μ-loop
-overtakes-requires c κs = search needs
-
-returns : tie.Need-returns Inv-loop μ-loop
-returns c =
-    let l = c .before .before .before .before .before in
-    let a = l .before .before .args in
-    sym (some-at (overtakesBy (a .t1) (planOf (a .t2)) (a .q) (a .than)) _ (l .loop .j) (omega arith) (test (c .before) ∙ c .if1 .taken))
+shared-slice-read-if2 : tie.Need-shared-slice-read-if2 Inv-loop μ-loop
+shared-slice-read-if2 c = search needs
 
 add-j : tie.Need-add-j Inv-loop μ-loop
 add-j c = search needs
@@ -65,14 +54,24 @@ loop-less c = search needs
 
 loop-again : tie.Need-loop-again Inv-loop μ-loop
 loop-again c =
-    let l = c .before .before .before .before .before in
-    (omega arith, l .loop .inv .1, none-more _ (l .loop .j) (l .loop .inv .2) (test (c .before) ∙ c .if1 .left))
+    let l = c .before .before .before .loop in
+    let a = c .before .before .before .before .args in
+    let was = a .was .now in
+    let is = a .is .now in
+    let t = overtakesBy was is (a .q) (a .than) in
+    ⊎-elim
+    (λ w. (omega arith, flag-up t (l .j) (ahead was is (a .q) (a .than) (l .j) (w .0 .taken) (omega (arith, w .2 .taken))) (w .3)))
+    (⊎-elim
+    (λ w. (omega arith, flag-kept t (l .j) (l .inv .1) (was-ahead was is (a .q) (a .than) (l .j) (w .0 .taken) (omega (arith, w .2 .left))) (w .3)))
+    (λ w. (omega arith, flag-kept t (l .j) (l .inv .1) (behind was is (a .q) (a .than) (l .j) (w .0 .left)) (w .1))))
+    (c .if1 .came)
 
-returns-2 : tie.Need-returns-2 Inv-loop μ-loop
-returns-2 c =
+returns : tie.Need-returns Inv-loop μ-loop
+returns c =
     let l = c .before .loop in
-    let a = c .before .before .before .args in
-    sym (some-none (overtakesBy (a .t1) (planOf (a .t2)) (a .q) (a .than)) _ (l .j) (l .inv .2) (omega arith))
+    let a = c .before .before .args in
+    let e : l .j ≡ length (a .is .now) = omega arith in
+    l .inv .1 ∙ ap (some (overtakesBy (a .was .now) (a .is .now) (a .q) (a .than))) e
 
 pub overtaken-spec : {M : Type 1} → statement M
 overtaken-spec =
@@ -80,15 +79,12 @@ overtaken-spec =
     (tie.spec
     Inv-loop
     μ-loop
-    smaller-requires
     loop-holds
-    mul-s
-    element-copy-out-s
-    mul-overtakes
-    array-read-overtakes
-    overtakes-requires
-    returns
+    mul-if1
+    shared-slice-read-if1
+    mul-if2
+    shared-slice-read-if2
     add-j
     loop-less
     loop-again
-    returns-2)
+    returns)

@@ -1,93 +1,75 @@
 -- No row before k was overtaken. Assumes nothing.
-use mathlib.Core.Path.{_≡_, sym, ap, _∙_}
-use mathlib.Core.Bool.{Bool, true, false, not, _&&_}
-use Prim.Native.Nat.{ℕ, _-_, _≤_, _<_}
+use mathlib.Core.Path.{_≡_, refl, sym, ap, _∙_}
+use mathlib.Core.Bool.{Bool, true, false, not}
+use Prim.Native.Nat.{_-_, _≤_, _<_}
 use native.Mathlib.Omega.{arith}
 use borrow.Author.Needs.{needs}
-use lib.Dec.{ltb, leb}
-use lib.ListN.{length, getD}
+use lib.ListN.{length}
 use Rattle.names.specs.Limits.{streams}
-use Rattle.repeats.specs.Rows.{some}
-use Rattle.plan.specs.declared.Sheet.{Sheet}
-use Rattle.plan.specs.Plan.{planOf, blank}
+use Rattle.plan.specs.Plan.{planOf}
 use Rattle.fields.proofs.Places.{streams-taken, row-in-place}
 use Rattle.promise.specs.Lighter.{at}
-use Rattle.compare.specs.declared.Change.{Change}
 use Rattle.compare.specs.declared.Change.the-variants.{Of, Nothing}
 use Rattle.compare.specs.declared.Reason.the-variants.{LessUrgent}
-use Rattle.compare.specs.Changes.{unless, firstGiven, urgency}
-use Rattle.compare.specs.Private.{overtakesBy}
+use Rattle.compare.specs.Changes.{unless, firstGiven}
+use Rattle.compare.specs.Private.{overtakenBy, urgencyBy}
 use Rattle.compare.proofs.First.{given-none, given-more, given-here}
-use Rattle.compare.proofs.Standing.{urgencyBy, as-urgency}
 use Rattle.compare.proofs.urgency.Statement.{statement}
 use Rattle.compare.proofs.urgency.Tie as tie
 
 abbrev Inv-loop : tie.InvT-loop
-Inv-loop new n was k₀ k =
-    (k ≤ n) × (n ≤ streams) × (n ≡ length (planOf new .streams)) × (firstGiven (urgencyBy was (planOf new)) k ≡ Nothing)
+Inv-loop was is new k₀ k-end k = (k ≤ k-end) × (firstGiven (urgencyBy was is (planOf new)) k ≡ Nothing)
 
 abbrev μ-loop : tie.MeasureT-loop
-μ-loop new n was k₀ k = n - k
+μ-loop was is new k₀ k-end k = k-end - k
 
 -- what was said of row k
 said : (c : tie.After-overtaken Inv-loop μ-loop) (t : Bool) → c .overtaken .result ≡ t
-    → let l = c .before .before .before .before in let p = planOf (l .before .before .before .args .t2) in
-    urgencyBy (l .before .numbers .result) p (l .loop .k) ≡ unless (not t) (LessUrgent (at p (l .loop .k) .label))
+    → let l = c .before .before .before .before in let a = l .before .before .before .args in
+    unless (not t) (LessUrgent (at (planOf (a .t1)) (l .loop .k) .label)) ≡ urgencyBy (a .was .now) (a .is .now) (planOf (a .t1)) (l .loop .k)
 said c t e =
     let l = c .before .before .before .before in
-    let s = l .before .before .before .args .t2 in
-    let was = l .before .numbers .result in
-    let d = row-in-place s (l .loop .k) (omega arith) in
-    ap (λ b. unless (not b) (LessUrgent (at (planOf s) (l .loop .k) .label)))
-    (ap (λ a. some (overtakesBy was (planOf s) (a .priority) (getD was (l .loop .k) 0)) (length (planOf s .streams))) d ∙ sym (c .overtaken .ensures) ∙ e)
+    let a = l .before .before .before .args in
+    let o : t ≡ overtakenBy (a .was .now) (a .is .now) (l .loop .k) = rw e at (c .overtaken .ensures) in
+    ap (λ b. unless (not b) (LessUrgent (at (planOf (a .t1)) (l .loop .k) .label))) o
 
--- and of all rows, by the first plan
-by-plans : (c : tie.After-numbers Inv-loop μ-loop) → let a = c .before .before .args in
-    firstGiven (urgencyBy (c .numbers .result) (planOf (a .t2))) (length (planOf (a .t2) .streams))
-    ≡ firstGiven (urgency (planOf (a .old)) (planOf (a .t2))) (length (planOf (a .t2) .streams))
-by-plans c =
-    let a = c .before .before .args in
-    ap (λ was. firstGiven (urgencyBy was (planOf (a .t2))) (length (planOf (a .t2) .streams))) (c .numbers .ensures) ∙ as-urgency (planOf (a .old)) (planOf (a .t2))
-
-smaller-requires : tie.Need-smaller-requires Inv-loop μ-loop
-smaller-requires c κs = search needs
-
-numbers-requires : tie.Need-numbers-requires Inv-loop μ-loop
-numbers-requires c κs = search needs
+-- row k is one of the places of the sheet
+place : (c : tie.Then1 Inv-loop μ-loop) → c .before .before .before .before .before .loop .k < streams
+place c =
+    let b = c .before .before .before .before .before .before .before .before in
+    omega (arith, b .pre .1, streams-taken (b .args .t1) (_, b .good .0 .1 .1) _ refl .0)
 
 loop-holds : tie.Need-loop-holds Inv-loop μ-loop
-loop-holds c =
-    let b = c .before .before in (
-      omega arith,
-      omega (arith, c .before .smaller .ensures),
-      streams-taken (b .args .t2) (_, b .good .1 .0 .1 .1) _ (c .before .smaller .ensures) .0,
-      given-none _,
-    )
-
-mul-s : tie.Need-mul-s Inv-loop μ-loop
-mul-s c = search needs
-
-element-copy-out-s : tie.Need-element-copy-out-s Inv-loop μ-loop
-element-copy-out-s c = search needs
+loop-holds c = (omega arith, given-none _)
 
 mul-overtaken : tie.Need-mul-overtaken Inv-loop μ-loop
 mul-overtaken c = search needs
 
-array-read-overtaken : tie.Need-array-read-overtaken Inv-loop μ-loop
-array-read-overtaken c = search needs
+shared-slice-read-overtaken : tie.Need-shared-slice-read-overtaken Inv-loop μ-loop
+shared-slice-read-overtaken c = search needs
+
+mul-overtaken-2 : tie.Need-mul-overtaken-2 Inv-loop μ-loop
+mul-overtaken-2 c = search needs
+
+shared-slice-read-overtaken-2 : tie.Need-shared-slice-read-overtaken-2 Inv-loop μ-loop
+shared-slice-read-overtaken-2 c = search needs
 
 overtaken-requires : tie.Need-overtaken-requires Inv-loop μ-loop
 overtaken-requires c κs = search needs
 
+mul-s : tie.Need-mul-s Inv-loop μ-loop
+mul-s c = let h = place c in search needs
+
+element-copy-out-s : tie.Need-element-copy-out-s Inv-loop μ-loop
+element-copy-out-s c = place c
+
 returns : tie.Need-returns Inv-loop μ-loop
 returns c =
-    let t = c .before .before in
+    let t = c .before .before .before in
     let l = t .before .before .before .before in
-    let s = l .before .before .before .args .t2 in
-    let d = row-in-place s (l .loop .k) (omega arith) in
-    ap (λ a. Of (LessUrgent (a .label))) (sym d)
-    ∙ sym (given-here (urgencyBy (l .before .numbers .result) (planOf s)) _ (l .loop .k) _ (omega arith) (l .loop .inv .3) (said t true (c .before .if1 .taken)))
-    ∙ by-plans (l .before)
+    let a = l .before .before .before .args in
+    ap (λ s. Of (LessUrgent (s .label))) (sym (row-in-place (a .t1) (l .loop .k) (omega (arith, l .before .before .before .pre .1))))
+    ∙ sym (given-here (urgencyBy (a .was .now) (a .is .now) (planOf (a .t1))) _ (l .loop .k) _ (omega (arith, l .before .before .before .pre .1)) (l .loop .inv .1) (sym (said t true (c .before .before .if1 .taken))))
 
 add-k : tie.Need-add-k Inv-loop μ-loop
 add-k c = search needs
@@ -97,15 +79,15 @@ loop-less c = search needs
 
 loop-again : tie.Need-loop-again Inv-loop μ-loop
 loop-again c =
-    let l = c .before .before .before .before .before in
-    (omega arith, l .loop .inv .1, l .loop .inv .2, given-more _ (l .loop .k) (l .loop .inv .3) (said (c .before) false (c .if1 .left)))
+    let l = c .before .before .before .before .before .loop in
+    (omega arith, given-more _ (l .k) (l .inv .1) (sym (said (c .before) false (c .if1 .left))))
 
 returns-2 : tie.Need-returns-2 Inv-loop μ-loop
 returns-2 c =
-    let l = c .before in
-    let a = l .before .before .before .args in
-    let e : l .loop .k ≡ length (planOf (a .t2) .streams) = omega arith in
-    sym (l .loop .inv .3) ∙ ap (firstGiven (urgencyBy (l .before .numbers .result) (planOf (a .t2)))) e ∙ by-plans (l .before)
+    let l = c .before .loop in
+    let b = c .before .before .before .before in
+    let e : l .k ≡ length (planOf (b .args .t1) .streams) = omega (arith, b .pre .1) in
+    sym (l .inv .1) ∙ ap (firstGiven (urgencyBy (b .args .was .now) (b .args .is .now) (planOf (b .args .t1)))) e
 
 pub urgency-spec : {M : Type 1} → statement M
 urgency-spec =
@@ -113,14 +95,14 @@ urgency-spec =
     (tie.spec
     Inv-loop
     μ-loop
-    smaller-requires
-    numbers-requires
     loop-holds
+    mul-overtaken
+    shared-slice-read-overtaken
+    mul-overtaken-2
+    shared-slice-read-overtaken-2
+    overtaken-requires
     mul-s
     element-copy-out-s
-    mul-overtaken
-    array-read-overtaken
-    overtaken-requires
     returns
     add-k
     loop-less

@@ -1,12 +1,17 @@
 -- All gaps have one pair of limits, so two arrays of one number stand beside them. Assumes nothing.
-use mathlib.Core.Path.{sym, ap, _∙_}
+use mathlib.Core.Path.{_≡_, sym, ap, _∙_}
+use mathlib.Core.List.{map}
+use Prim.Native.Nat.{ℕ, _+_, _-_, _≤_}
 use native.Mathlib.Omega.{arith}
-use lib.ListN.{replicate}
+use denote.Ref.{now}
+use lib.ListN.{length, take, drop, replicate}
 use lib.Seq.{length-take-le}
 use Rattle.names.specs.Limits.{sources, ticks}
 use Rattle.fields.specs.Layout as layout
-use Rattle.fields.specs.Fields.{lowest}
+use Rattle.fields.specs.Fields.{gapField, lowest}
+use Rattle.fields.specs.Private.{fieldsOf}
 use Rattle.fields.proofs.Lowest.{alike}
+use Rattle.fields.proofs.Words.{gaps-back}
 use borrow.Author.Needs.{needs}
 use Rattle.fields.proofs.gaps_outside.Statement.{statement}
 use Rattle.fields.proofs.gaps_outside.Tie as tie
@@ -14,23 +19,14 @@ use Rattle.fields.proofs.gaps_outside.Tie as tie
 cast-most : tie.Need-cast-most
 cast-most c = search needs
 
-array-share-prefix-gaps : tie.Need-array-share-prefix-gaps
-array-share-prefix-gaps c = search needs
+add-at : tie.Need-add-at
+add-at c = search needs
 
-slice-aggregate-words-outside : tie.Need-slice-aggregate-words-outside
-slice-aggregate-words-outside c = sym (length-take-le _ _ (omega arith))
+mul-at : tie.Need-mul-at
+mul-at c = search needs
 
-array-share-prefix-least : tie.Need-array-share-prefix-least
-array-share-prefix-least c = search needs
-
-slice-aggregate-words-outside-2 : tie.Need-slice-aggregate-words-outside-2
-slice-aggregate-words-outside-2 c = sym (length-take-le _ _ (omega arith))
-
-array-share-prefix-most : tie.Need-array-share-prefix-most
-array-share-prefix-most c = search needs
-
-slice-aggregate-words-outside-3 : tie.Need-slice-aggregate-words-outside-3
-slice-aggregate-words-outside-3 c = sym (length-take-le _ _ (omega arith))
+add-at-2 : tie.Need-add-at-2
+add-at-2 c = search needs
 
 add-words-outside : tie.Need-add-words-outside
 add-words-outside c = search needs
@@ -38,33 +34,63 @@ add-words-outside c = search needs
 mul-words-outside : tie.Need-mul-words-outside
 mul-words-outside c = search needs
 
-add-words-outside-2 : tie.Need-add-words-outside-2
-add-words-outside-2 c = search needs
+sub-words-outside : tie.Need-sub-words-outside
+sub-words-outside c = search needs
+
+part-words-outside-start : tie.Need-part-words-outside-start
+part-words-outside-start c = search needs
+
+part-words-outside-end : tie.Need-part-words-outside-end
+part-words-outside-end c = search needs
+
+array-share-prefix-least : tie.Need-array-share-prefix-least
+array-share-prefix-least c = search needs
+
+slice-aggregate-words-outside : tie.Need-slice-aggregate-words-outside
+slice-aggregate-words-outside c = sym (length-take-le _ _ (omega arith))
+
+array-share-prefix-most : tie.Need-array-share-prefix-most
+array-share-prefix-most c = search needs
+
+slice-aggregate-words-outside-2 : tie.Need-slice-aggregate-words-outside-2
+slice-aggregate-words-outside-2 c = sym (length-take-le _ _ (omega arith))
 
 words-outside-requires : tie.Need-words-outside-requires
 words-outside-requires c κs =
-    let a = c .before .before .before .args in
-    let g = length-take-le (a .m) (a .t1) (omega arith) in
-    (length-take-le (a .m) (replicate sources 1) (omega arith) ∙ sym g, length-take-le (a .m) (replicate sources ticks) (omega arith) ∙ sym g, omega (arith, g))
+    let a = c .before .before .before .before .args in
+    let g = c .before .before .words-outside-arg .given in
+    let l = length-take-le (a .m) (replicate {A = ℕ} sources 1) (omega arith) in
+    let h = length-take-le (a .m) (replicate {A = ℕ} sources ticks) (omega arith) in
+    (omega (arith, g, l), omega (arith, g, h), omega (arith, g))
 
 returns : tie.Need-returns
 returns c =
-    let a = c .before .before .before .before .args in
-    c .words-outside .ensures ∙ ap (lowest (layout.streamAt (a .n))) (alike 1 ticks sources (a .m) (a .t1) (omega arith))
+    let a = c .before .before .before .before .before .args in
+    let at = layout.streamAt (a .n) in
+    let ws = now (a .words) in
+    let part : at + a .m - at ≡ a .m = omega arith in
+    let long : layout.gapAt (a .n) (a .m) ≤ length ws = omega arith in
+    c .words-outside .ensures
+    ∙ ap (λ k. lowest at (fieldsOf (take k (drop at ws)) (take (a .m) (replicate sources 1)) (take (a .m) (replicate sources ticks)))) part
+    ∙ ap (lowest at) (alike 1 ticks sources (a .m) (drop at ws) (omega arith))
+    ∙ ap (λ l. lowest at (map gapField l)) (sym (gaps-back ws (a .n) (a .m) long))
 
 pub gaps-outside-spec : {M : Type 1} → statement M
 gaps-outside-spec =
     tie.close
     (tie.spec
     cast-most
-    array-share-prefix-gaps
-    slice-aggregate-words-outside
-    array-share-prefix-least
-    slice-aggregate-words-outside-2
-    array-share-prefix-most
-    slice-aggregate-words-outside-3
+    add-at
+    mul-at
+    add-at-2
     add-words-outside
     mul-words-outside
-    add-words-outside-2
+    sub-words-outside
+    part-words-outside-start
+    part-words-outside-end
+    array-share-prefix-least
+    slice-aggregate-words-outside
+    array-share-prefix-most
+    slice-aggregate-words-outside-2
     words-outside-requires
     returns)

@@ -1,34 +1,42 @@
--- The timing comes first, then the streams, then the gaps; a count past the places of a sheet takes all of them. Assumes nothing.
+-- The timing comes first, then the streams, then the gaps; of counts past the limits as many are taken as a plan may have. Assumes nothing.
 use mathlib.Core.Path.{_≡_, sym, ap, _∙_}
 use mathlib.Core.List.{map, flatMap}
+use Prim.Native.Nat.{min}
 use native.Mathlib.Omega.{arith}
 use borrow.Author.Needs.{needs}
-use lib.ListN.{length, take}
+use denote.Ref.{now}
+use lib.ListN.{getD}
+use Rattle.names.specs.Limits.{streams, sources}
+use Rattle.laws.specs.Lists.{rows}
+use Rattle.laws.proofs.Lists.{length-rows}
 use Rattle.laws.specs.declared.Found.the-variants.{Nothing}
-use Rattle.plan.specs.Plan.{planOf}
+use Rattle.plan.specs.Plan.{Plan}
 use Rattle.fields.specs.Layout as layout
 use Rattle.fields.specs.Fields.{timingFields, streamFields, gapField, lowest}
+use Rattle.fields.specs.Words.{timingIn, streamIn, planIn}
 use Rattle.fields.proofs.Lowest.{timing-here, streams-here, gaps-left}
-use Rattle.fields.proofs.Places.{streams-taken, gaps-taken}
 use Rattle.fields.proofs.Inside.{inside-if-within, nothing-if-inside}
 use Rattle.fields.proofs.outside.Statement.{statement}
 use Rattle.fields.proofs.outside.Tie as tie
 
--- the counts are those of the plan
-rows-are : (c : tie.After-smaller) → let s = c .before .args .sheet in (c .smaller .result ≡ length (planOf s .streams)) × (take (c .smaller .result) (s .streams) ≡ planOf s .streams)
-rows-are c = streams-taken (c .before .args .sheet) (_, c .before .good .0 .1 .1) _ (c .smaller .ensures)
+-- the plan that is asked about
+abbrev asked : tie.Start → Plan
+asked b = planIn (min (b .args .n) streams) (min (b .args .m) sources) (now (b .args .words))
 
-gaps-are : (c : tie.After-smaller2) → let s = c .before .before .args .sheet in take (c .smaller2 .result) (s .gaps) ≡ planOf s .gaps
-gaps-are c = gaps-taken (c .before .before .args .sheet) (_, c .before .before .good .0 .1 .1) _ (c .smaller2 .ensures) .1
-
-timing-inside : (c : tie.After-enum-told) → lowest layout.contents (timingFields (c .before .before .before .before .before .before .args .sheet .timing)) ≡ Nothing
+timing-inside : (c : tie.After-enum-told) → lowest layout.contents (timingFields (timingIn (now (c .before .before .before .before .before .args .words)) layout.contents)) ≡ Nothing
 timing-inside c = sym (c .before .before .timing-outside .ensures) ∙ c .enum-told .given .1
+
+-- the streams of the plan are those that were looked at
+streams-are : (c : tie.After-streams-outside) → let b = c .before .before .before .before .before .before .before .before in
+    lowest (layout.streamAt 0) (flatMap (streamFields (asked b .timing .nb)) (asked b .streams)) ≡ c .streams-outside .result
+unfolding planIn
+streams-are c =
+    let s = c .before .before .before .before .before .before .before in
+    let ws = now (s .before .args .words) in
+    ap (λ k. lowest (layout.streamAt 0) (flatMap (streamFields (timingIn ws layout.contents .nb)) (rows k (λ r. streamIn ws (layout.streamAt r))))) (sym (s .smaller .ensures)) ∙ sym (c .streams-outside .ensures)
 
 smaller-requires : tie.Need-smaller-requires
 smaller-requires c κs = search needs
-
-smaller-requires-2 : tie.Need-smaller-requires-2
-smaller-requires-2 c κs = search needs
 
 timing-outside-requires : tie.Need-timing-outside-requires
 timing-outside-requires c κs = search needs
@@ -37,67 +45,83 @@ enum-known-p : tie.Need-enum-known-p
 enum-known-p c = search needs
 
 returns : tie.Need-returns
+unfolding planIn
 returns c =
     let p = c .before .before .before in
-    let s = p .before .before .before .before .args .sheet in
-    sym (timing-here (planOf s) _ (sym (p .timing-outside .ensures) ∙ c .before .p .given .1))
+    sym (timing-here (asked (p .before .before .before)) _ (sym (p .timing-outside .ensures) ∙ c .before .p .given .1))
 
 enum-told : tie.Need-enum-told
 enum-told c = search needs
 
+add-nb : tie.Need-add-nb
+add-nb c = search needs
+
+sub-nb : tie.Need-sub-nb
+sub-nb c = search needs
+
+mul-nb : tie.Need-mul-nb
+mul-nb c = search needs
+
+element-copy-out-nb : tie.Need-element-copy-out-nb
+element-copy-out-nb c = search needs
+
 streams-outside-requires : tie.Need-streams-outside-requires
 streams-outside-requires c κs =
-    let t = c .before in
+    let t = c .before .before in
     let b = t .before .before .before .before in
-    let timing = timingFields (b .before .before .args .sheet .timing) in
-    (omega (arith, b .before .smaller .ensures), inside-if-within _ .0 (nothing-if-inside layout.contents timing .0 (timing-inside t) 8 (omega arith)) .1)
+    let timing = timingFields (timingIn (now (b .before .args .words)) layout.contents) in
+    (search needs, omega (arith, b .smaller .ensures), inside-if-within _ .0 (nothing-if-inside layout.contents timing .0 (timing-inside t) 8 (omega arith)) .1)
 
 enum-known-p-2 : tie.Need-enum-known-p-2
 enum-known-p-2 c = search needs
 
 returns-2 : tie.Need-returns-2
+unfolding planIn
 returns-2 c =
     let q = c .before .before .before in
-    let t = q .before .before in
-    let b = t .before .before .before .before in
-    let s = b .before .before .args .sheet in
-    let e = ap (λ l. lowest (layout.streamAt 0) (flatMap (streamFields (s .timing .nb)) l)) (sym (rows-are (b .before) .1)) in
-    sym (streams-here (planOf s) (timing-inside t) _ (e ∙ sym (q .streams-outside .ensures) ∙ c .before .p2 .given .1))
+    let t = q .before .before .before in
+    sym (streams-here (asked (t .before .before .before .before .before)) (timing-inside t) _ (streams-are q ∙ c .before .p2 .given .1))
 
 enum-told-2 : tie.Need-enum-told-2
 enum-told-2 c = search needs
 
+smaller-requires-2 : tie.Need-smaller-requires-2
+smaller-requires-2 c κs = search needs
+
 gaps-outside-requires : tie.Need-gaps-outside-requires
-gaps-outside-requires c κs =
-    let b = c .before .before .before .before .before .before .before .before .before in
-    omega (arith, b .before .smaller .ensures, b .smaller2 .ensures)
+gaps-outside-requires c κs = search needs
 
 returns-3 : tie.Need-returns-3
+unfolding planIn
 returns-3 c =
-    let u = c .before .before in
+    let d = c .before in
+    let u = d .before .before in
     let q = u .before .before in
-    let t = q .before .before in
-    let b = t .before .before .before .before in
-    let s = b .before .before .args .sheet in
-    let e = ap (λ l. lowest (layout.streamAt 0) (flatMap (streamFields (s .timing .nb)) l)) (sym (rows-are (b .before) .1)) in
+    let t = q .before .before .before in
+    let s = t .before .before .before .before in
+    let ws = now (s .before .args .words) in
+    let n = min (s .before .args .n) streams in
     c .gaps-outside .ensures
-    ∙ ap (λ l. lowest (layout.streamAt (b .before .smaller .result)) (map gapField l)) (gaps-are b)
-    ∙ ap (λ n. lowest (layout.streamAt n) (map gapField (take (s .sources) (s .gaps)))) (rows-are (b .before) .0)
-    ∙ sym (gaps-left (planOf s) (timing-inside t) (e ∙ sym (q .streams-outside .ensures) ∙ u .enum-told2 .given .1))
+    ∙ rw (s .smaller .ensures, d .smaller2 .ensures) (ap (λ k. lowest (layout.streamAt k) (map gapField (rows (min (s .before .args .m) sources) (λ k. getD ws (layout.gapAt n k) 0)))) (sym (length-rows n (λ r. streamIn ws (layout.streamAt r)))))
+    ∙ sym (gaps-left (asked (s .before)) (timing-inside t) (streams-are q ∙ u .enum-told2 .given .1))
 
 pub outside-spec : {M : Type 1} → statement M
 outside-spec =
     tie.close
     (tie.spec
     smaller-requires
-    smaller-requires-2
     timing-outside-requires
     enum-known-p
     returns
     enum-told
+    add-nb
+    sub-nb
+    mul-nb
+    element-copy-out-nb
     streams-outside-requires
     enum-known-p-2
     returns-2
     enum-told-2
+    smaller-requires-2
     gaps-outside-requires
     returns-3)

@@ -1,47 +1,90 @@
 -- All streams before r are inside, so what is found from r on is what is found from the start. Assumes nothing.
-use mathlib.Core.Path.{_≡_, refl, sym, _∙_}
-use mathlib.Core.List.{flatMap}
-use Prim.Native.Nat.{_-_, _≤_}
+use mathlib.Core.Path.{_≡_, refl, sym, ap, _∙_}
+use mathlib.Core.List.{List, [], _∷_, flatMap, append-nil}
+use Prim.Native.Nat.{ℕ, _+_, _-_, _^_, _≤_, _<_}
 use native.Mathlib.Omega.{arith}
-use borrow.Author.Needs.{needs}
-use lib.ListN.{take, drop}
-use lib.Seq.{getD-take, length-take-le}
+use denote.Ref.{now}
+use lib.ListN.{length, getD, take, drop}
+use Rattle.laws.specs.Lists.{rows}
+use Rattle.laws.proofs.Lists.{rows-front, length-rows}
+use Rattle.names.specs.Limits.{payload, ticks}
+use Rattle.plan.specs.declared.Stream.{Stream}
 use Rattle.plan.specs.Plan.{blank}
 use Rattle.fields.specs.Layout as layout
 use Rattle.fields.specs.Fields.{streamFields, lowest}
+use Rattle.fields.specs.Words.{streamIn}
+use Rattle.fields.specs.Private.{fieldsOf}
+use Rattle.fields.proofs.Words.{six-back}
 use Rattle.fields.proofs.Lowest.{stream-here, stream-not-here, streams-done}
+use borrow.Author.Needs.{needs}
 use Rattle.fields.proofs.streams_outside.Statement.{statement}
 use Rattle.fields.proofs.streams_outside.Tie as tie
 
+-- the streams in a file's words
+abbrev inWords : List ℕ → ℕ → List Stream
+inWords words n = rows n (λ k. streamIn words (layout.streamAt k))
+
+-- stream r of them, found as its six words with their limits beside them
+module _ (words : List ℕ) (n nb r : ℕ) {top : ℕ} (h : r < n) (long : layout.streamAt n ≤ length words) (e : top ≡ 2 ^ nb - 1) where
+  stream-found : lowest (layout.streamAt r) (fieldsOf (take (layout.streamAt r + layout.stream - layout.streamAt r) (drop (layout.streamAt r) words)) (0 ∷ 0 ∷ 1 ∷ 0 ∷ 1 ∷ 1 ∷ []) (ticks ∷ top ∷ ticks ∷ ticks ∷ payload ∷ ticks ∷ []))
+      ≡ lowest (layout.streamAt r) (streamFields nb (getD (inWords words n) r blank))
+  unfolding fieldsOf
+  stream-found =
+      let at = layout.streamAt r in
+      let part : at + layout.stream - at ≡ layout.stream = omega arith in
+      let row : getD (inWords words n) r blank ≡ streamIn words at = ap (λ l. getD l r blank) (sym (append-nil (inWords words n))) ∙ rows-front (λ k. streamIn words (layout.streamAt k)) [] blank n r h in
+      rw (part, e, row, ← six-back words at (omega arith)) refl
+
 abbrev Inv-loop : tie.InvT-loop
-Inv-loop n nb streams r₀ r =
+Inv-loop words n nb any least most r₀ r =
     (r ≤ n)
-    × (lowest (layout.streamAt 0) (flatMap (streamFields nb) (take n streams))
-    ≡ lowest (layout.streamAt r) (flatMap (streamFields nb) (drop r (take n streams))))
+    × (lowest (layout.streamAt 0) (flatMap (streamFields nb) (inWords words n))
+    ≡ lowest (layout.streamAt r) (flatMap (streamFields nb) (drop r (inWords words n))))
 
 abbrev μ-loop : tie.MeasureT-loop
-μ-loop n nb streams r₀ r = n - r
+μ-loop words n nb any least most r₀ r = n - r
+
+cast-any : tie.Need-cast-any Inv-loop μ-loop
+cast-any c = search needs
+
+largest-priority-requires : tie.Need-largest-priority-requires Inv-loop μ-loop
+largest-priority-requires c κs = search needs
 
 loop-holds : tie.Need-loop-holds Inv-loop μ-loop
 loop-holds c = (omega arith, refl)
 
-mul-s : tie.Need-mul-s Inv-loop μ-loop
-mul-s c = search needs
+add-at : tie.Need-add-at Inv-loop μ-loop
+add-at c = search needs
 
-array-copy-out-s : tie.Need-array-copy-out-s Inv-loop μ-loop
-array-copy-out-s c = search needs
+mul-at : tie.Need-mul-at Inv-loop μ-loop
+mul-at c = search needs
 
-add-stream-outside : tie.Need-add-stream-outside Inv-loop μ-loop
-add-stream-outside c = search needs
+add-at-2 : tie.Need-add-at-2 Inv-loop μ-loop
+add-at-2 c = search needs
 
-mul-stream-outside : tie.Need-mul-stream-outside Inv-loop μ-loop
-mul-stream-outside c = search needs
+add-words-outside : tie.Need-add-words-outside Inv-loop μ-loop
+add-words-outside c = search needs
 
-add-stream-outside-2 : tie.Need-add-stream-outside-2 Inv-loop μ-loop
-add-stream-outside-2 c = search needs
+mul-words-outside : tie.Need-mul-words-outside Inv-loop μ-loop
+mul-words-outside c = search needs
 
-stream-outside-requires : tie.Need-stream-outside-requires Inv-loop μ-loop
-stream-outside-requires c κs = search needs
+sub-words-outside : tie.Need-sub-words-outside Inv-loop μ-loop
+sub-words-outside c = search needs
+
+part-words-outside-start : tie.Need-part-words-outside-start Inv-loop μ-loop
+part-words-outside-start c = search needs
+
+part-words-outside-end : tie.Need-part-words-outside-end Inv-loop μ-loop
+part-words-outside-end c = search needs
+
+slice-aggregate-words-outside : tie.Need-slice-aggregate-words-outside Inv-loop μ-loop
+slice-aggregate-words-outside c = search needs
+
+slice-aggregate-words-outside-2 : tie.Need-slice-aggregate-words-outside-2 Inv-loop μ-loop
+slice-aggregate-words-outside-2 c = search needs
+
+words-outside-requires : tie.Need-words-outside-requires Inv-loop μ-loop
+words-outside-requires c κs = search needs
 
 enum-known-p : tie.Need-enum-known-p Inv-loop μ-loop
 enum-known-p c = search needs
@@ -49,11 +92,12 @@ enum-known-p c = search needs
 returns : tie.Need-returns Inv-loop μ-loop
 returns c =
     let p = c .before .before .before in
-    let l = p .before .before .before .loop in
-    let a = p .before .before .before .before .args in
-    let s = getD-take (a .n) (a .t1) (l .r) blank (omega arith) in
-    sym (stream-here (a .nb) (take (a .n) (a .t1)) (l .r) blank (omega (arith, length-take-le (a .n) (a .t1) (omega arith))) (l .inv .1) _
-    (rw s (sym (p .stream-outside .ensures) ∙ c .before .p .given .1)))
+    let l = p .before .before .before .before .before .loop in
+    let t = p .before .before .before .before .before .before .largest-priority in
+    let a = p .before .before .before .before .before .before .before .before .args in
+    let ws = now (a .words) in
+    sym (stream-here (a .nb) (inWords ws (a .n)) (l .r) blank (omega (arith, length-rows (a .n) (λ k. streamIn ws (layout.streamAt k)))) (l .inv .1) _
+    (sym (stream-found ws (a .n) (a .nb) (l .r) (omega arith) (omega arith) (t .ensures)) ∙ sym (p .words-outside .ensures) ∙ c .before .p .given .1))
 
 enum-told : tie.Need-enum-told Inv-loop μ-loop
 enum-told c = search needs
@@ -67,19 +111,21 @@ loop-less c = search needs
 loop-again : tie.Need-loop-again Inv-loop μ-loop
 loop-again c =
     let p = c .before .before in
-    let l = p .before .before .before .loop in
-    let a = p .before .before .before .before .args in
-    let s = getD-take (a .n) (a .t1) (l .r) blank (omega arith) in (
+    let l = p .before .before .before .before .before .loop in
+    let t = p .before .before .before .before .before .before .largest-priority in
+    let a = p .before .before .before .before .before .before .before .before .args in
+    let ws = now (a .words) in (
       omega arith,
-      stream-not-here (a .nb) (take (a .n) (a .t1)) (l .r) blank (omega (arith, length-take-le (a .n) (a .t1) (omega arith))) (l .inv .1)
-          (rw s (sym (p .stream-outside .ensures) ∙ c .enum-told .given .1)),
+      stream-not-here (a .nb) (inWords ws (a .n)) (l .r) blank (omega (arith, length-rows (a .n) (λ k. streamIn ws (layout.streamAt k)))) (l .inv .1)
+          (sym (stream-found ws (a .n) (a .nb) (l .r) (omega arith) (omega arith) (t .ensures)) ∙ sym (p .words-outside .ensures) ∙ c .enum-told .given .1),
     )
 
 returns-2 : tie.Need-returns-2 Inv-loop μ-loop
 returns-2 c =
     let l = c .before .loop in
-    let a = c .before .before .args in
-    sym (l .inv .1 ∙ streams-done (a .nb) (take (a .n) (a .t1)) (layout.streamAt (l .r)) (l .r) (omega (arith, length-take-le (a .n) (a .t1) (omega arith))))
+    let a = c .before .before .before .before .args in
+    let s = inWords (now (a .words)) (a .n) in
+    sym (l .inv .1 ∙ streams-done (a .nb) s (layout.streamAt (l .r)) (l .r) (omega (arith, length-rows (a .n) (λ k. streamIn (now (a .words)) (layout.streamAt k)))))
 
 pub streams-outside-spec : {M : Type 1} → statement M
 streams-outside-spec =
@@ -87,13 +133,20 @@ streams-outside-spec =
     (tie.spec
     Inv-loop
     μ-loop
+    cast-any
+    largest-priority-requires
     loop-holds
-    mul-s
-    array-copy-out-s
-    add-stream-outside
-    mul-stream-outside
-    add-stream-outside-2
-    stream-outside-requires
+    add-at
+    mul-at
+    add-at-2
+    add-words-outside
+    mul-words-outside
+    sub-words-outside
+    part-words-outside-start
+    part-words-outside-end
+    slice-aggregate-words-outside
+    slice-aggregate-words-outside-2
+    words-outside-requires
     enum-known-p
     returns
     enum-told

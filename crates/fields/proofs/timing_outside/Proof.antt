@@ -1,12 +1,24 @@
 -- The timing's words with their limits beside them are its fields. Assumes nothing.
 use mathlib.Core.Path.{refl, _∙_}
+use native.Mathlib.Omega.{arith}
+use denote.Ref.{now}
 use Rattle.fields.specs.Private.{fieldsOf}
+use Rattle.fields.proofs.Words.{timing-back}
 use borrow.Author.Needs.{needs}
 use Rattle.fields.proofs.timing_outside.Statement.{statement}
 use Rattle.fields.proofs.timing_outside.Tie as tie
 
-timing-words-requires : tie.Need-timing-words-requires
-timing-words-requires c κs = search needs
+add-words-outside : tie.Need-add-words-outside
+add-words-outside c = search needs
+
+sub-words-outside : tie.Need-sub-words-outside
+sub-words-outside c = search needs
+
+part-words-outside-start : tie.Need-part-words-outside-start
+part-words-outside-start c = search needs
+
+part-words-outside-end : tie.Need-part-words-outside-end
+part-words-outside-end c = search needs
 
 slice-aggregate-words-outside : tie.Need-slice-aggregate-words-outside
 slice-aggregate-words-outside c = search needs
@@ -14,23 +26,24 @@ slice-aggregate-words-outside c = search needs
 slice-aggregate-words-outside-2 : tie.Need-slice-aggregate-words-outside-2
 slice-aggregate-words-outside-2 c = search needs
 
-slice-aggregate-words-outside-3 : tie.Need-slice-aggregate-words-outside-3
-slice-aggregate-words-outside-3 c = search needs
-
 words-outside-requires : tie.Need-words-outside-requires
 words-outside-requires c κs = search needs
 
 returns : tie.Need-returns
 unfolding fieldsOf
-returns c = c .words-outside .ensures ∙ rw (c .before .before .before .before .timing-words .ensures) refl
+returns c =
+    let a = c .before .before .before .before .before .args in
+    c .words-outside .ensures ∙ rw (← timing-back (now (a .words)) (omega arith)) refl
 
 pub timing-outside-spec : {M : Type 1} → statement M
 timing-outside-spec =
     tie.close
     (tie.spec
-    timing-words-requires
+    add-words-outside
+    sub-words-outside
+    part-words-outside-start
+    part-words-outside-end
     slice-aggregate-words-outside
     slice-aggregate-words-outside-2
-    slice-aggregate-words-outside-3
     words-outside-requires
     returns)

@@ -1,250 +1,114 @@
--- Each return is a line of the file's table, and the tests that led there say that the lines before it are not given. The counts are
--- looked at before the other contents words, which changes nothing: both are 2 at 0. Assumes nothing.
-use mathlib.Core.Path.{_≡_, refl, sym, ap, _∙_}
-use mathlib.Core.Bool.{true, false, and-false}
+-- A refusal of the contents is the file's. Else the words are as many zeros as the largest file has, with the file's laid onto them, so
+-- the plan in them is the file's, and what the checks say of it is the answer. Assumes nothing.
+use mathlib.Core.Path.{_≡_, sym, ap, _∙_}
 use mathlib.Core.List.{List}
-use Prim.Native.Nat.{ℕ, _*_, _/_, _≤_, _<_}
-use native.Mathlib.Omega.{arith}
+use Prim.Native.Nat.{ℕ}
 use borrow.Author.Needs.{needs}
-use borrow.Author.Tests.{le-leb, lt-leb, eq-eqb, ne-eqb, not-true, not-false}
 use denote.Ref.{now}
-use lib.ListN.{length, take}
-use Rattle.names.specs.Limits.{streams, sources}
-use Rattle.words.specs.Words.{wordsOf}
 use Rattle.plan.specs.Plan.{Plan}
-use Rattle.fields.specs.Layout as layout
-use Rattle.laws.proofs.Lists.{length-rows}
 use Rattle.checks.specs.declared.Checked.the-variants.{Fine}
-use Rattle.checks.specs.Checks.{counted, checkedOf}
-use Rattle.checks.proofs.Judge.{too-many, too-noisy}
-use Rattle.file.specs.File.{bytes, streamsIn, gapsIn, planIn, same, contents, sizeRight, contentsRight, readAs, readOf}
-use Rattle.file.proofs.Reading.{refusedRead, read-size, read-contents, read-values, read-counts, checked-sheet}
+use Rattle.file.specs.declared.Counts.the-variants.{Of}
+use Rattle.file.specs.File.{planIn, countsOf, readAs, readOf}
+use Rattle.file.proofs.Reading.{counts-refused, counts-few, counts-checked}
 use Rattle.reader.proofs.read.Statement.{statement}
 use Rattle.reader.proofs.read.Tie as tie
 
-module _ (bs : List ℕ) where
-  too-short : length bs < layout.word * layout.contents → sizeRight bs ≡ false
-  too-short h = simp (lt-leb (layout.word * layout.contents) (length bs) h)
+-- what the contents say
+abbrev bs-at : tie.After-n → List ℕ
+bs-at w = now (w .before .before .before .before .args .bytes)
 
-  too-long : layout.size streams sources < length bs → sizeRight bs ≡ false
-  too-long h = simp (lt-leb (length bs) (layout.size streams sources) h, and-false)
+abbrev n-at : tie.After-n → ℕ
+n-at w = w .n .given .0 .0
 
-  right-size : layout.word * layout.contents ≤ length bs → length bs ≤ layout.size streams sources → sizeRight bs ≡ true
-  right-size h k = simp (le-leb (layout.word * layout.contents) (length bs) h, le-leb (length bs) (layout.size streams sources) k)
+abbrev m-at : tie.After-n → ℕ
+m-at w = w .n .given .0 .1 .0
 
-  module _ (n m : ℕ) where
-    wrong-words : same (take layout.contents (wordsOf bs)) (contents n m) ≡ false → contentsRight n m bs ≡ false
-    wrong-words e = rw e refl
+said : (w : tie.After-n) → countsOf (bs-at w) ≡ Of (n-at w) (m-at w)
+said w = sym (w .before .before .counts .ensures) ∙ w .n .given .1
 
-    wrong-end : (length bs ≡ layout.size n m → ⊥) → contentsRight n m bs ≡ false
-    wrong-end h = simp (ne-eqb (length bs) (layout.size n m) h, and-false)
+-- the words, and the plan in them
+abbrev n-of : tie.After-words-into → tie.After-n
+n-of c = c .before .before .before
 
-    right-contents : same (take layout.contents (wordsOf bs)) (contents n m) ≡ true → length bs ≡ layout.size n m → contentsRight n m bs ≡ true
-    right-contents e h = rw e (eq-eqb (length bs) (layout.size n m) h)
+abbrev p-at : tie.After-words-into → Plan
+p-at c = planIn (n-at (n-of c)) (m-at (n-of c)) (c .words-into .last .1 .0)
 
--- the file's length is that of a file
-one : (c : tie.Else2) → sizeRight (now (c .before .before .before .before .args .bytes)) ≡ true
-one c = right-size (now (c .before .before .before .before .args .bytes)) (omega arith) (omega (arith, c .before .size .ensures))
-
--- what the code has once the two counts are read: the bytes, n, m and the plan
-abbrev bs-at : tie.After-word-at2 → List ℕ
-bs-at w = now (w .before .before .before .before .before .before .args .bytes)
-
-abbrev n-at : tie.After-word-at2 → ℕ
-n-at w = w .before .word-at .result / bytes layout.stream
-
-abbrev m-at : tie.After-word-at2 → ℕ
-m-at w = w .word-at2 .result / layout.word
-
-abbrev p-at : tie.After-word-at2 → Plan
-p-at w = planIn (n-at w) (m-at w) (wordsOf (bs-at w))
-
--- they are those that the contents state
-n-is : (w : tie.After-word-at2) → streamsIn (wordsOf (bs-at w)) ≡ n-at w
-n-is w = ap (λ x. x / bytes layout.stream) (sym (w .before .word-at .ensures))
-
-m-is : (w : tie.After-word-at2) → gapsIn (wordsOf (bs-at w)) ≡ m-at w
-m-is w = ap (λ x. x / layout.word) (sym (w .word-at2 .ensures))
-
-counts-refused : (w : tie.After-word-at2) → counted (n-at w) (m-at w) (p-at w) ≡ false → readOf (bs-at w) ≡ refusedRead 2
-counts-refused w = read-counts (bs-at w) (n-at w) (m-at w) (n-is w) (m-is w) (one (w .before .before))
-
-contents-refused : (w : tie.After-word-at2) → contentsRight (n-at w) (m-at w) (bs-at w) ≡ false → readOf (bs-at w) ≡ refusedRead 2
-contents-refused w = read-contents (bs-at w) (n-at w) (m-at w) (n-is w) (m-is w) (one (w .before .before))
-
--- the contents are those of its n and m, and it ends where they say
-two : (c : tie.Else6) → let w = c .before .before .before .before .before .before in contentsRight (n-at w) (m-at w) (bs-at w) ≡ true
-two c =
-    let k = c .before .before .before in
-    let w = k .before .before .before in
-    right-contents (bs-at w) (n-at w) (m-at w) (sym (k .contents-in .ensures) ∙ not-false (k .contents-in .result) (c .before .before .if5 .left)) (c .if6 .left ∙ c .before .size2 .ensures)
-
--- what `check` says of the sheet is the answer to the values
-judged : (c : tie.After-check) → let w = c .before .before .before .before .before .before .before .before in readOf (bs-at w) ≡ readAs (c .check .result) (p-at w)
-unfolding planIn
+judged : (c : tie.After-check-words) → let i = c .before .before .before in readOf (bs-at (n-of i)) ≡ readAs (c .check-words .result) (p-at i)
 judged c =
-    let e = c .before .before in
-    let w = e .before .before .before .before .before .before in
-    let counts = checked-sheet (n-at w) (m-at w) (p-at w) (length-rows (n-at w) _) (length-rows (m-at w) _) in
-    read-values (bs-at w) (n-at w) (m-at w) (n-is w) (m-is w) (one (w .before .before)) (two e)
-    ∙ ap (λ k. readAs k (p-at w)) (sym counts ∙ ap checkedOf (sym (c .before .sheet-in .ensures)) ∙ sym (c .check .ensures))
+    let i = c .before .before .before in
+    let w = n-of i in
+    counts-checked (bs-at w) (n-at w) (m-at w) (said w) (i .words-into .ensures) (c .check-words .ensures)
 
-mul-if1 : tie.Need-mul-if1
-mul-if1 c = search needs
-
-refused-requires : tie.Need-refused-requires
-refused-requires c κs = search needs
-
-returns : tie.Need-returns
-returns c =
-    let b = now (c .before .before .before .args .bytes) in
-    c .refused .ensures ∙ sym (read-size b (too-short b (c .before .if1 .taken)))
-
-cast-size : tie.Need-cast-size
-cast-size c = search needs
-
-cast-size-2 : tie.Need-cast-size-2
-cast-size-2 c = search needs
-
-size-requires : tie.Need-size-requires
-size-requires c κs = search needs
-
-refused-requires-2 : tie.Need-refused-requires-2
-refused-requires-2 c κs = search needs
-
-returns-2 : tie.Need-returns-2
-returns-2 c =
-    let b = now (c .before .before .before .before .before .args .bytes) in
-    c .refused2 .ensures ∙ sym (read-size b (too-long b (omega (arith, c .before .before .size .ensures, c .before .if2 .taken))))
-
-word-at-requires : tie.Need-word-at-requires
-word-at-requires c κs = search needs
-
-cast-n : tie.Need-cast-n
-cast-n c = search needs
-
-mul-n : tie.Need-mul-n
-mul-n c = search needs
-
-div-n : tie.Need-div-n
-div-n c = search needs
-
-word-at-requires-2 : tie.Need-word-at-requires-2
-word-at-requires-2 c κs = search needs
-
-cast-m : tie.Need-cast-m
-cast-m c = search needs
-
-refused-requires-3 : tie.Need-refused-requires-3
-refused-requires-3 c κs = search needs
-
-returns-3 : tie.Need-returns-3
-returns-3 c =
-    let w = c .before .before in
-    c .refused3 .ensures ∙ sym (counts-refused w (too-many (n-at w) (m-at w) (p-at w) (c .before .if3 .taken)))
-
-refused-requires-4 : tie.Need-refused-requires-4
-refused-requires-4 c κs = search needs
-
-returns-4 : tie.Need-returns-4
-returns-4 c =
-    let w = c .before .before .before in
-    c .refused4 .ensures ∙ sym (counts-refused w (too-noisy (n-at w) (m-at w) (p-at w) (c .before .if4 .taken)))
-
-contents-in-requires : tie.Need-contents-in-requires
-contents-in-requires c κs = search needs
-
-refused-requires-5 : tie.Need-refused-requires-5
-refused-requires-5 c κs = search needs
-
-returns-5 : tie.Need-returns-5
-returns-5 c =
-    let k = c .before .before in
-    let w = k .before .before .before in
-    let differ = sym (k .contents-in .ensures) ∙ not-true (k .contents-in .result) (c .before .if5 .taken) in
-    c .refused5 .ensures ∙ sym (contents-refused w (wrong-words (bs-at w) (n-at w) (m-at w) differ))
-
-cast-size-3 : tie.Need-cast-size-3
-cast-size-3 c = search needs
-
-cast-size-4 : tie.Need-cast-size-4
-cast-size-4 c = search needs
-
-size-requires-2 : tie.Need-size-requires-2
-size-requires-2 c κs = search needs
-
-refused-requires-6 : tie.Need-refused-requires-6
-refused-requires-6 c κs = search needs
-
-returns-6 : tie.Need-returns-6
-returns-6 c =
-    let z = c .before .before in
-    let w = z .before .before .before .before .before in
-    c .refused6 .ensures
-    ∙ sym (contents-refused w (wrong-end (bs-at w) (n-at w) (m-at w) (λ q. c .before .if6 .taken (q ∙ sym (z .size2 .ensures)))))
-
-sheet-in-requires : tie.Need-sheet-in-requires
-sheet-in-requires c κs = search needs
-
-check-requires : tie.Need-check-requires
-check-requires c κs = search needs
-
-enum-told : tie.Need-enum-told
-enum-told c = search needs
+counts-requires : tie.Need-counts-requires
+counts-requires c κs = search needs
 
 enum-known-r : tie.Need-enum-known-r
 enum-known-r c = search needs
 
-refused-requires-7 : tie.Need-refused-requires-7
-refused-requires-7 c κs = search needs
+refused-requires : tie.Need-refused-requires
+refused-requires c κs = search needs
 
-returns-7 : tie.Need-returns-7
-returns-7 c =
-    let k = c .before .before in
-    let w = k .before .before .before .before .before .before .before .before in
-    ap (λ s. record { answer = Fine; sheet = s }) (k .before .sheet-in .ensures)
-    ∙ sym (judged k ∙ ap (λ a. readAs a (p-at w)) (c .enum-told .given .1))
+enum-known-n : tie.Need-enum-known-n
+enum-known-n c = search needs
 
-returns-8 : tie.Need-returns-8
-returns-8 c =
+slice-aggregate-words-into : tie.Need-slice-aggregate-words-into
+slice-aggregate-words-into c = search needs
+
+words-into-requires : tie.Need-words-into-requires
+words-into-requires c κs = search needs
+
+check-words-requires : tie.Need-check-words-requires
+check-words-requires c κs = search needs
+
+enum-told : tie.Need-enum-told
+enum-told c = search needs
+
+sheet-in-requires : tie.Need-sheet-in-requires
+sheet-in-requires c κs =
+    let w = n-of (c .before .before .before .before .before .before) in
+    counts-few (bs-at w) (n-at w) (m-at w) (said w)
+
+enum-known-r-2 : tie.Need-enum-known-r-2
+enum-known-r-2 c = search needs
+
+refused-requires-2 : tie.Need-refused-requires-2
+refused-requires-2 c κs = search needs
+
+returns : tie.Need-returns
+returns c =
     let k = c .before .before .before .before in
-    let w = k .before .before .before .before .before .before .before .before in
-    c .refused7 .ensures ∙ sym (judged k ∙ ap (λ a. readAs a (p-at w)) (c .before .before .r .given .1))
+    let r = c .before .before .r .given in
+    c .refused .ensures ∙ sym (counts-refused (now (k .before .before .args .bytes)) (r .0 .0) (sym (k .counts .ensures) ∙ r .1))
+
+returns-2 : tie.Need-returns-2
+returns-2 c =
+    let told = c .before .before in
+    let k = told .before .before in
+    let p = p-at (k .before .before .before) in
+    ap (λ s. record { answer = Fine; sheet = s }) (c .sheet-in .ensures) ∙ sym (judged k ∙ ap (λ a. readAs a p) (told .enum-told .given .1))
+
+returns-3 : tie.Need-returns-3
+returns-3 c =
+    let r = c .before .before in
+    let k = r .before .before in
+    let p = p-at (k .before .before .before) in
+    c .refused2 .ensures ∙ sym (judged k ∙ ap (λ a. readAs a p) (r .r2 .given .1))
 
 pub read-spec : {M : Type 1} → statement M
 read-spec =
     tie.close
     (tie.spec
-    mul-if1
-    refused-requires
-    returns
-    cast-size
-    cast-size-2
-    size-requires
-    refused-requires-2
-    returns-2
-    word-at-requires
-    cast-n
-    mul-n
-    div-n
-    word-at-requires-2
-    cast-m
-    refused-requires-3
-    returns-3
-    refused-requires-4
-    returns-4
-    contents-in-requires
-    refused-requires-5
-    returns-5
-    cast-size-3
-    cast-size-4
-    size-requires-2
-    refused-requires-6
-    returns-6
-    sheet-in-requires
-    check-requires
-    enum-told
+    counts-requires
     enum-known-r
-    refused-requires-7
-    returns-7
-    returns-8)
+    refused-requires
+    enum-known-n
+    slice-aggregate-words-into
+    words-into-requires
+    check-words-requires
+    enum-told
+    sheet-in-requires
+    enum-known-r-2
+    refused-requires-2
+    returns
+    returns-2
+    returns-3)

@@ -6,7 +6,6 @@ use borrow.Author.Needs.{needs}
 use denote.Ref.{now}
 use Rattle.names.specs.Limits as limit
 use Rattle.laws.specs.Lists.{rows}
-use Rattle.words.specs.Words.{wordsOf}
 use Rattle.plan.specs.Plan.{blank}
 use Rattle.fields.specs.Layout as layout
 use Rattle.file.specs.File.{filled, streamIn}
@@ -15,11 +14,11 @@ use Rattle.reader.proofs.streams_in.Statement.{statement}
 use Rattle.reader.proofs.streams_in.Tie as tie
 
 abbrev Inv-loop : tie.InvT-loop
-Inv-loop bytes n out₀ r₀ out r =
-    (r ≤ n) × (out ≡ filled limit.streams blank (rows r (λ k. streamIn (wordsOf bytes) (layout.streamAt k))))
+Inv-loop words n out₀ r₀ out r =
+    (r ≤ n) × (out ≡ filled limit.streams blank (rows r (λ k. streamIn words (layout.streamAt k))))
 
 abbrev μ-loop : tie.MeasureT-loop
-μ-loop bytes n out₀ r₀ out r = n - r
+μ-loop words n out₀ r₀ out r = n - r
 
 no-streams-requires : tie.Need-no-streams-requires Inv-loop μ-loop
 no-streams-requires c κs = search needs
@@ -54,13 +53,13 @@ loop-less c = search needs
 loop-again : tie.Need-loop-again Inv-loop μ-loop
 loop-again c =
     let l = c .before .before .loop in
-    let a = c .before .before .before .before .before .args in
-    (omega arith, fill-more limit.streams (l .r) (λ k. streamIn (wordsOf (now (a .bytes))) (layout.streamAt k)) blank (omega arith) (l .inv .1) (c .stream-in .ensures))
+    let a = c .before .before .before .before .args in
+    (omega arith, fill-more limit.streams (l .r) (λ k. streamIn (now (a .words)) (layout.streamAt k)) blank (omega arith) (l .inv .1) (c .stream-in .ensures))
 
 returns : tie.Need-returns Inv-loop μ-loop
 returns c =
     let l = c .before .loop in
-    let a = c .before .before .before .before .args in
+    let a = c .before .before .before .args in
     let e : l .r ≡ a .n = omega arith in
     rw (← e) (l .inv .1)
 

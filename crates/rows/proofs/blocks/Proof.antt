@@ -15,7 +15,7 @@ sub-result : tie.Need-sub-result
 sub-result c = search needs
 
 returns : tie.Need-returns
-returns c = (simp (lt-ltb _ _ (c .before .before .if1 .taken)) (omega arith), omega arith)
+returns c = (simp (lt-ltb _ _ (c .before .if1 .taken)) (omega arith), omega arith)
 
 returns-2 : tie.Need-returns-2
 returns-2 c = (simp (le-ltb _ _ (c .if1 .left)), omega arith)

@@ -1,0 +1,58 @@
+-- A sheet and its words are answered alike: counts in range give the same plan, and others are refused 2 either way. Assumes nothing.
+use mathlib.Core.Path.{_≡_, sym, ap, ap₂, _∙_}
+use mathlib.Core.Bool.{false}
+use mathlib.Core.List.{List, [], _++_}
+use Prim.Native.Nat.{_≤_}
+use native.Mathlib.Nat.{lt-of-not-le}
+use native.Mathlib.Decide.{decLe}
+use native.Mathlib.Omega.{arith}
+use lib.Seq.{length-take-le}
+use Rattle.names.specs.Limits.{streams, sources}
+use Rattle.plan.specs.declared.Sheet.{Sheet}
+use Rattle.plan.specs.Plan.{Plan, planOf}
+use Rattle.fields.specs.Words.{planIn, inPlaces}
+use Rattle.fields.proofs.Places.{Owned, stream-places, gap-places}
+use Rattle.fields.proofs.Words.{plan-in-places}
+use Rattle.checks.specs.declared.Checked.the-variants.{Fine}
+use Rattle.checks.specs.Checks.{Line, judge, counted, lines, checkedOf}
+use Rattle.checks.proofs.Judge.{too-many, too-noisy, line-2, refused-then, fine-parts}
+use Rattle.checks.proofs.Fine.{fine-if-right}
+
+module _ (s : Sheet) (o : Owned s) where
+  -- the plan in the sheet's words
+  abbrev pub planInWords : Plan
+  planInWords = planIn (s .count) (s .sources) (inPlaces (planOf s))
+
+  pub same-plan : s .count ≤ streams → s .sources ≤ sources → planInWords ≡ planOf s
+  same-plan few quiet =
+      let n = length-take-le (s .count) (s .streams) (omega (arith, stream-places s o)) in
+      let m = length-take-le (s .sources) (s .gaps) (omega (arith, gap-places s o)) in
+      ap₂ (λ i j. planIn i j (inPlaces (planOf s))) (sym n) (sym m) ∙ plan-in-places (planOf s)
+
+  -- the table of the values, with whatever lines after it
+  module _ (more : List Line) where
+    both-refused : ((p : Plan) → counted (s .count) (s .sources) p ≡ false)
+        → judge (lines (s .count) (s .sources) planInWords ++ more) ≡ judge (lines (s .count) (s .sources) (planOf s) ++ more)
+    both-refused e =
+        let refused : (p : Plan) → judge (lines (s .count) (s .sources) p ++ more) ≡ _ = λ p. refused-then (lines (s .count) (s .sources) p) more _ (line-2 (s .count) (s .sources) p (e p)) in
+        refused planInWords ∙ sym (refused (planOf s))
+
+    pub same-lines : judge (lines (s .count) (s .sources) planInWords ++ more) ≡ judge (lines (s .count) (s .sources) (planOf s) ++ more)
+    same-lines =
+        elim (decLe (s .count) streams) [
+          | yes few ↦
+              elim (decLe (s .sources) sources) [
+                | yes quiet ↦ ap (λ p. judge (lines (s .count) (s .sources) p ++ more)) (same-plan few quiet)
+                | no noisy ↦ both-refused (λ p. too-noisy (s .count) (s .sources) p (lt-of-not-le noisy))
+              ]
+          | no many ↦ both-refused (λ p. too-many (s .count) (s .sources) p (lt-of-not-le many))
+        ]
+
+    pub same-plan-if-fine : judge (lines (s .count) (s .sources) (planOf s) ++ more) ≡ Fine → planInWords ≡ planOf s
+    same-plan-if-fine e =
+        let r = fine-if-right (s .count) (s .sources) (planOf s) .0 (fine-parts (lines (s .count) (s .sources) (planOf s)) more e .0) in
+        same-plan (omega (arith, r .count, r .within .count)) (omega (arith, r .sources, r .within .sources))
+
+  pub same-check : judge (lines (s .count) (s .sources) planInWords) ≡ checkedOf s
+  unfolding checkedOf
+  same-check = same-lines []

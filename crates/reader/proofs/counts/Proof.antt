@@ -1,0 +1,209 @@
+-- Each return is a line of the contents' table, and the tests that led there say that the lines before it are not given. The ranges are
+-- looked at before the other contents words, which changes nothing: both are 2 at 0. Assumes nothing.
+use mathlib.Core.Path.{_≡_, refl, sym, ap, _∙_}
+use mathlib.Core.Bool.{true, false, and-false}
+use mathlib.Core.List.{List}
+use Prim.Native.Nat.{ℕ, _*_, _/_, _≤_, _<_}
+use native.Mathlib.Omega.{arith}
+use borrow.Author.Needs.{needs}
+use borrow.Author.Tests.{le-leb, lt-leb, eq-eqb, ne-eqb, not-true, not-false}
+use denote.Ref.{now}
+use lib.ListN.{length, take}
+use Rattle.names.specs.Limits.{streams, sources}
+use Rattle.words.specs.Words.{wordsOf}
+use Rattle.fields.specs.Layout as layout
+use Rattle.file.specs.File.{bytes, streamsIn, gapsIn, same, contents, sizeRight, contentsRight, rangesRight, countsOf}
+use Rattle.file.proofs.Reading.{refusedCounts, said-size, said-contents, said-ranges, said-counts, in-range}
+use Rattle.reader.proofs.counts.Statement.{statement}
+use Rattle.reader.proofs.counts.Tie as tie
+
+module _ (bs : List ℕ) where
+  too-short : length bs < layout.word * layout.contents → sizeRight bs ≡ false
+  too-short h = simp (lt-leb (layout.word * layout.contents) (length bs) h)
+
+  too-long : layout.size streams sources < length bs → sizeRight bs ≡ false
+  too-long h = simp (lt-leb (length bs) (layout.size streams sources) h, and-false)
+
+  right-size : layout.word * layout.contents ≤ length bs → length bs ≤ layout.size streams sources → sizeRight bs ≡ true
+  right-size h k = simp (le-leb (layout.word * layout.contents) (length bs) h, le-leb (length bs) (layout.size streams sources) k)
+
+  module _ (n m : ℕ) where
+    too-many : streams < n → rangesRight n m ≡ false
+    too-many h = simp (lt-leb n streams h)
+
+    too-noisy : sources < m → rangesRight n m ≡ false
+    too-noisy h = simp (lt-leb m sources h, and-false)
+
+    wrong-words : same (take layout.contents (wordsOf bs)) (contents n m) ≡ false → contentsRight n m bs ≡ false
+    wrong-words e = rw e refl
+
+    wrong-end : (length bs ≡ layout.size n m → ⊥) → contentsRight n m bs ≡ false
+    wrong-end h = simp (ne-eqb (length bs) (layout.size n m) h, and-false)
+
+    right-contents : same (take layout.contents (wordsOf bs)) (contents n m) ≡ true → length bs ≡ layout.size n m → contentsRight n m bs ≡ true
+    right-contents e h = rw e (eq-eqb (length bs) (layout.size n m) h)
+
+-- the file's length is that of a file
+one : (c : tie.Else2) → sizeRight (now (c .before .before .before .before .args .bytes)) ≡ true
+one c = right-size (now (c .before .before .before .before .args .bytes)) (omega arith) (omega (arith, c .before .size .ensures))
+
+-- what the code has once the two counts are read: the bytes, n and m
+abbrev bs-at : tie.After-word-at2 → List ℕ
+bs-at w = now (w .before .before .before .before .before .before .args .bytes)
+
+abbrev n-at : tie.After-word-at2 → ℕ
+n-at w = w .before .word-at .result / bytes layout.stream
+
+abbrev m-at : tie.After-word-at2 → ℕ
+m-at w = w .word-at2 .result / layout.word
+
+-- they are those that the contents state
+n-is : (w : tie.After-word-at2) → streamsIn (wordsOf (bs-at w)) ≡ n-at w
+n-is w = ap (λ x. x / bytes layout.stream) (sym (w .before .word-at .ensures))
+
+m-is : (w : tie.After-word-at2) → gapsIn (wordsOf (bs-at w)) ≡ m-at w
+m-is w = ap (λ x. x / layout.word) (sym (w .word-at2 .ensures))
+
+ranges-refused : (w : tie.After-word-at2) → rangesRight (n-at w) (m-at w) ≡ false → countsOf (bs-at w) ≡ refusedCounts 2
+ranges-refused w = said-ranges (bs-at w) (n-at w) (m-at w) (n-is w) (m-is w) (one (w .before .before))
+
+contents-refused : (w : tie.After-word-at2) → contentsRight (n-at w) (m-at w) (bs-at w) ≡ false → countsOf (bs-at w) ≡ refusedCounts 2
+contents-refused w = said-contents (bs-at w) (n-at w) (m-at w) (n-is w) (m-is w) (one (w .before .before))
+
+-- the contents are those of its n and m, and it ends where they say
+two : (c : tie.Else6) → let w = c .before .before .before .before .before .before in contentsRight (n-at w) (m-at w) (bs-at w) ≡ true
+two c =
+    let k = c .before .before .before in
+    let w = k .before .before .before in
+    right-contents (bs-at w) (n-at w) (m-at w) (sym (k .contents-in .ensures) ∙ not-false (k .contents-in .result) (c .before .before .if5 .left)) (c .if6 .left ∙ c .before .size2 .ensures)
+
+mul-if1 : tie.Need-mul-if1
+mul-if1 c = search needs
+
+refused-counts-requires : tie.Need-refused-counts-requires
+refused-counts-requires c κs = search needs
+
+returns : tie.Need-returns
+returns c =
+    let b = now (c .before .before .before .args .bytes) in
+    c .refused-counts .ensures ∙ sym (said-size b (too-short b (c .before .if1 .taken)))
+
+cast-size : tie.Need-cast-size
+cast-size c = search needs
+
+cast-size-2 : tie.Need-cast-size-2
+cast-size-2 c = search needs
+
+size-requires : tie.Need-size-requires
+size-requires c κs = search needs
+
+refused-counts-requires-2 : tie.Need-refused-counts-requires-2
+refused-counts-requires-2 c κs = search needs
+
+returns-2 : tie.Need-returns-2
+returns-2 c =
+    let b = now (c .before .before .before .before .before .args .bytes) in
+    c .refused-counts2 .ensures ∙ sym (said-size b (too-long b (omega (arith, c .before .before .size .ensures, c .before .if2 .taken))))
+
+word-at-requires : tie.Need-word-at-requires
+word-at-requires c κs = search needs
+
+cast-n : tie.Need-cast-n
+cast-n c = search needs
+
+mul-n : tie.Need-mul-n
+mul-n c = search needs
+
+div-n : tie.Need-div-n
+div-n c = search needs
+
+word-at-requires-2 : tie.Need-word-at-requires-2
+word-at-requires-2 c κs = search needs
+
+cast-m : tie.Need-cast-m
+cast-m c = search needs
+
+refused-counts-requires-3 : tie.Need-refused-counts-requires-3
+refused-counts-requires-3 c κs = search needs
+
+returns-3 : tie.Need-returns-3
+returns-3 c =
+    let w = c .before .before in
+    c .refused-counts3 .ensures ∙ sym (ranges-refused w (too-many (bs-at w) (n-at w) (m-at w) (c .before .if3 .taken)))
+
+refused-counts-requires-4 : tie.Need-refused-counts-requires-4
+refused-counts-requires-4 c κs = search needs
+
+returns-4 : tie.Need-returns-4
+returns-4 c =
+    let w = c .before .before .before in
+    c .refused-counts4 .ensures ∙ sym (ranges-refused w (too-noisy (bs-at w) (n-at w) (m-at w) (c .before .if4 .taken)))
+
+contents-in-requires : tie.Need-contents-in-requires
+contents-in-requires c κs = search needs
+
+refused-counts-requires-5 : tie.Need-refused-counts-requires-5
+refused-counts-requires-5 c κs = search needs
+
+returns-5 : tie.Need-returns-5
+returns-5 c =
+    let k = c .before .before in
+    let w = k .before .before .before in
+    let differ = sym (k .contents-in .ensures) ∙ not-true (k .contents-in .result) (c .before .if5 .taken) in
+    c .refused-counts5 .ensures ∙ sym (contents-refused w (wrong-words (bs-at w) (n-at w) (m-at w) differ))
+
+cast-size-3 : tie.Need-cast-size-3
+cast-size-3 c = search needs
+
+cast-size-4 : tie.Need-cast-size-4
+cast-size-4 c = search needs
+
+size-requires-2 : tie.Need-size-requires-2
+size-requires-2 c κs = search needs
+
+refused-counts-requires-6 : tie.Need-refused-counts-requires-6
+refused-counts-requires-6 c κs = search needs
+
+returns-6 : tie.Need-returns-6
+returns-6 c =
+    let z = c .before .before in
+    let w = z .before .before .before .before .before in
+    c .refused-counts6 .ensures
+    ∙ sym (contents-refused w (wrong-end (bs-at w) (n-at w) (m-at w) (λ q. c .before .if6 .taken (q ∙ sym (z .size2 .ensures)))))
+
+returns-7 : tie.Need-returns-7
+returns-7 c =
+    let w = c .before .before .before .before .before .before in
+    sym (said-counts (bs-at w) (n-at w) (m-at w) (n-is w) (m-is w) (one (w .before .before)) (two c) (in-range (n-at w) (m-at w) (omega arith) (omega arith)))
+
+pub counts-spec : {M : Type 1} → statement M
+counts-spec =
+    tie.close
+    (tie.spec
+    mul-if1
+    refused-counts-requires
+    returns
+    cast-size
+    cast-size-2
+    size-requires
+    refused-counts-requires-2
+    returns-2
+    word-at-requires
+    cast-n
+    mul-n
+    div-n
+    word-at-requires-2
+    cast-m
+    refused-counts-requires-3
+    returns-3
+    refused-counts-requires-4
+    returns-4
+    contents-in-requires
+    refused-counts-requires-5
+    returns-5
+    cast-size-3
+    cast-size-4
+    size-requires-2
+    refused-counts-requires-6
+    returns-6
+    returns-7)

@@ -1,0 +1,99 @@
+-- Each return is an answer of the definition: a line of the values, 6, or the file; and nothing is put before the last of them. Assumes nothing.
+use mathlib.Core.Path.{_≡_, sym, ap, _∙_}
+use Prim.Native.Nat.{ℕ, _≤_}
+use native.Mathlib.Omega.{arith}
+use borrow.Author.Needs.{needs}
+use denote.Ref.{now}
+use Rattle.names.specs.Limits as limit
+use Rattle.plan.specs.Plan.{Plan}
+use Rattle.fields.specs.Words.{planIn}
+use Rattle.checks.specs.declared.Checked.the-variants.{Fine}
+use Rattle.checks.specs.Checks.{judge, lines}
+use Rattle.checks.proofs.Fine.{fine-if-right}
+use Rattle.file.specs.declared.Written.the-variants.{Bytes}
+use Rattle.file.proofs.Writing.{write-refused, write-no-room, write-fine}
+use Rattle.writer.proofs.Whole.{both}
+use Rattle.writer.proofs.write_words.Statement.{statement}
+use Rattle.writer.proofs.write_words.Tie as tie
+
+-- the plan that is asked about
+abbrev asked : tie.Start → Plan
+asked b = planIn (b .args .n) (b .args .m) (now (b .args .words))
+
+fine : (c : tie.After-enum-told) → let b = c .before .before .before .before in judge (lines (b .args .n) (b .args .m) (asked b)) ≡ Fine
+fine c = sym (c .before .before .check-words .ensures) ∙ c .enum-told .given .1
+
+-- n is at most 64 and m at most 8
+few : (n m : ℕ) (p : Plan) → judge (lines n m p) ≡ Fine → (n ≤ limit.streams) × (m ≤ limit.sources)
+few n m p e =
+    let r = fine-if-right n m p .0 e in
+    (omega (arith, r .count, r .within .count), omega (arith, r .sources, r .within .sources))
+
+check-words-requires : tie.Need-check-words-requires
+check-words-requires c κs = search needs
+
+enum-known-r : tie.Need-enum-known-r
+enum-known-r c = search needs
+
+returns : tie.Need-returns
+returns c =
+    let k = c .before .before .before in
+    let b = k .before .before in
+    both (write-refused (b .args .n) (b .args .m) (asked b) (now (b .args .buf)) _ (sym (k .check-words .ensures) ∙ c .before .r .given .1))
+
+enum-told : tie.Need-enum-told
+enum-told c = search needs
+
+cast-size : tie.Need-cast-size
+cast-size c = let b = c .before .before .before .before in omega (arith, few (b .args .n) (b .args .m) (asked b) (fine c))
+
+cast-size-2 : tie.Need-cast-size-2
+cast-size-2 c = let b = c .before .before .before .before in omega (arith, few (b .args .n) (b .args .m) (asked b) (fine c))
+
+size-requires : tie.Need-size-requires
+size-requires c κs = search needs
+
+returns-2 : tie.Need-returns-2
+returns-2 c =
+    let z = c .before in
+    let f = z .before in
+    let b = f .before .before .before .before in
+    both (write-no-room (b .args .n) (b .args .m) (asked b) (now (b .args .buf)) (fine f) (omega (arith, c .if1 .taken, z .size .ensures)))
+
+put-file-requires : tie.Need-put-file-requires
+put-file-requires c κs =
+    let i = c .before .before in
+    let z = i .before in
+    let f = z .before in
+    let b = f .before .before .before .before in
+    let (n, m) = few (b .args .n) (b .args .m) (asked b) (fine f) in
+    (search needs, n, m, omega (arith, i .if1 .left, z .size .ensures))
+
+same-length : tie.Need-same-length
+same-length c = search needs
+
+returns-3 : tie.Need-returns-3
+returns-3 c =
+    let k = c .before .before in
+    let i = k .before .before .before in
+    let z = i .before in
+    let f = z .before in
+    let b = f .before .before .before .before in
+    let (x, y) = both (write-fine (b .args .n) (b .args .m) (asked b) (now (b .args .buf)) (fine f) (omega (arith, i .if1 .left, z .size .ensures))) in
+    (ap Bytes (z .size .ensures) ∙ x, k .put-file .ensures ∙ y)
+
+pub write-words-spec : {M : Type 1} → statement M
+write-words-spec =
+    tie.close
+    (tie.spec
+    check-words-requires
+    enum-known-r
+    returns
+    enum-told
+    cast-size
+    cast-size-2
+    size-requires
+    returns-2
+    put-file-requires
+    same-length
+    returns-3)
