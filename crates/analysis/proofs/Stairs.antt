@@ -1,17 +1,20 @@
 -- Laws of stairs: how an edge goes on, a turn of the pass over all stairs, and what the new edges give. Assumes nothing.
 use mathlib.Core.Path.{_≡_, refl, sym, ap, ap₂, _∙_}
+use mathlib.Core.Bool.{true}
 use mathlib.Core.List.{List}
 use Prim.Native.Nat.{ℕ, zero, suc, _+_, _-_, _*_, _^_, _≤_, _<_}
 use native.Mathlib.Nat.{le-refl, zero-mul, add-mul, mul-le-mul-right, div-eq-of-lt-le}
 use native.Mathlib.Decide.{decLe}
 use native.Mathlib.Omega.{arith}
 use borrow.Author.Count.{below-more}
+use borrow.Author.Tests.{leb-true}
+use lib.Dec.{leb}
 use lib.ListN.{length, getD, set, length-set}
 use lib.Seq.{getD-set-same, getD-set-other}
 use Rattle.names.specs.Limits.{ticks}
-use Rattle.laws.specs.Lists.{ceil, sumTo}
+use Rattle.laws.specs.Lists.{ceil, sumTo, every}
 use Rattle.laws.proofs.Round.{ceil-zero, ceil-mono, ceil-more, ceil-over}
-use Rattle.laws.proofs.Lists.{sumTo-more, sumTo-le, sumTo-add, sumTo-mono}
+use Rattle.laws.proofs.Lists.{sumTo-more, sumTo-le, sumTo-add, sumTo-mono, sumTo-at-most, every-each}
 use Rattle.laws.proofs.Chain.{Mono}
 use Rattle.analysis.specs.Stairs.{stair, height, start, latest, side, Stairs, Edges, Moved}
 
@@ -91,3 +94,15 @@ height-mono costs periods edges n x y h =
 
 pub side-mono : (costs periods edges : List ℕ) (n base sum : ℕ) → Mono (side costs periods edges n base sum)
 side-mono costs periods edges n base sum x y h = omega (arith, height-mono costs periods edges n (x + start) (y + start) (omega arith))
+
+-- ---- no stair rises up to x
+module _ (costs periods edges : List ℕ) (n x : ℕ) (still : every n (λ k. leb x (getD edges k 0)) ≡ true) where
+  pub still-height : height costs periods edges n x ≡ 0
+  unfolding height
+  still-height =
+      let none : (k : ℕ) → k < n → stair costs periods edges x k ≤ 0 =
+      λ k h. rw (← not-yet x (getD edges k 0) (getD periods k 0) (leb-true _ _ (every-each _ n still k h))) (omega (arith, zero-mul (getD costs k 0))) in
+      omega (arith, sumTo-at-most (stair costs periods edges x) 0 n none)
+
+  pub still-moved : Edges edges n → Moved costs periods edges edges n x
+  still-moved b = record { known = b; later = λ y h. omega (arith, still-height) }

@@ -1,21 +1,26 @@
 -- The searches for w(q) climb once: each may start where the one before ended, and C'' further on. Assumes nothing.
-use mathlib.Core.Path.{_≡_, refl, sym, ap, _∙_}
+use mathlib.Core.Path.{_≡_, refl, sym, ap, _∙_, subst}
 use mathlib.Core.List.{List}
-use Prim.Native.Nat.{ℕ, _+_, _-_, _*_, _^_, _≤_, _<_}
-use native.Mathlib.Nat.{le-trans, suc-mul, zero-mul}
+use Prim.Native.Nat.{ℕ, suc, _+_, _-_, _*_, _^_, _≤_, _<_}
+use native.Mathlib.Nat.{le-trans, suc-mul, mul-suc, zero-mul, mul-le-mul-left, lt-of-not-le}
+use native.Mathlib.Decide.{decLe}
 use native.Mathlib.Numerals.{add-one}
 use native.Mathlib.Omega.{arith}
+use lib.Dec.{T, leb→le}
 use lib.IntN.{pos, _-ℤ_}
+use lib.Signed.{leZ}
 use Rattle.names.specs.Limits.{ticks}
 use Rattle.laws.specs.Lists.{ceil, sumOf, rows}
 use Rattle.laws.specs.Search.{Least}
-use Rattle.laws.proofs.Round.{ceil-room}
+use Rattle.laws.proofs.Round.{ceil-room, ceil-covers}
+use Rattle.laws.proofs.Signed.{diff-back}
 use Rattle.laws.specs.declared.Found.the-variants.{At}
 use Rattle.laws.proofs.Chain.{least-later, least-agrees}
 use Rattle.bound.specs.Terms.{Terms}
-use Rattle.bound.specs.Bound.{demand, E, sideW, busy, Q, w, term}
+use Rattle.bound.specs.Bound.{demand, E, sideL, sideW, busy, Q, w, term, bound}
 use Rattle.bound.specs.Claims.{Sound}
 use Rattle.bound.proofs.Sides.{sideW-mono, busy-is-least}
+use Rattle.bound.proofs.Largest.{some-instance, first-term, bound-is-largest}
 use Rattle.bound.proofs.Instances.{room, settles, w-exists, w-rises, sideW-suc}
 use Rattle.analysis.specs.declared.Gathered.{Gathered}
 use Rattle.analysis.specs.Gathered.{Lent, termsOf}
@@ -93,6 +98,50 @@ pub alone-terms : (t : Lent) → t .row .urgent ≡ 0 → t .row .sources ≡ 0 
 unfolding rows
 alone-terms t e d = rw (e, d) refl
 
-pub alone-w : (g : Gathered) → Row g → (L q : ℕ) → busy (aloneTerms g) ≡ At L → q < Q (aloneTerms g) L → g .blocking + q * g .cost ≡ w (aloneTerms g) q
-unfolding sideW demand E sumOf
-alone-w g f L q b h = omega (arith, w-exists (aloneTerms g) (alone-sound g f) L q b h .0 .fixed, zero-mul (g .hit))
+module _ (g : Gathered) (f : Row g) (L : ℕ) (b : busy (aloneTerms g) ≡ At L) where
+  abbrev r : Terms
+  r = aloneTerms g
+
+  -- w(q) = B + q × C''
+  alone-w : (q : ℕ) → q < Q r L → w r q ≡ g .blocking + q * g .cost
+  unfolding sideW demand E sumOf
+  alone-w q h = omega (arith, w-exists r (alone-sound g f) L q b h .0 .fixed, zero-mul (g .hit))
+
+  -- L = B + Q × C'', and Q periods cover L: so C'' is no more than T
+  alone-L : g .blocking + Q r L * g .cost ≡ L
+  unfolding sideL demand E sumOf
+  alone-L = omega (arith, busy-is-least r L .0 b .1 .fixed, zero-mul (g .hit))
+
+  alone-load : g .cost ≤ g .period
+  alone-load =
+      let l = busy-is-least r L .0 b .1 in
+      elim (decLe (g .cost) (g .period)) [
+        | yes h ↦ h
+        | no h ↦
+            absurd
+            (omega (
+              arith,
+              alone-L,
+              some-instance r (alone-sound g f) L (l .above),
+              ceil-covers (L + g .jitter) (g .period) (f .own .some),
+              mul-le-mul-left {m = suc (g .period)} {n = g .cost} (Q r L) (lt-of-not-le h),
+              mul-suc (Q r L) (g .period),
+            ))
+      ]
+
+  -- so no term is above the first
+  pub alone-bound : g .jitter + g .blocking + g .last ≡ bound r L
+  alone-bound =
+      let s = alone-sound g f in
+      let (above, (q, h, e), p) = bound-is-largest r s L b in
+      let some = some-instance r s L (busy-is-least r L .0 b .1 .above) in
+      let first : g .jitter + w r 0 + g .last ≤ bound r L = leb→le _ _ (subst (λ z. T (leZ z (pos (bound r L)))) (first-term r) (above 0 some)) in
+      omega (
+        arith,
+        first,
+        alone-w 0 some,
+        zero-mul (g .cost),
+        diff-back (bound r L) (g .jitter + w r q + g .last) (q * g .period) e,
+        alone-w q h,
+        mul-le-mul-left {m = g .cost} {n = g .period} q alone-load,
+      )

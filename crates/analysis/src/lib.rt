@@ -6,6 +6,7 @@
 // of plans, labels or files. What it is lent it only reads.
 ghost use mathlib.Core.Path.{_≡_};
 ghost use Prim.Native.Nat.{ℕ, _+_, _-_, _*_, _^_, _≤_, _<_};
+ghost use lib.Dec.{leb};
 ghost use lib.ListN.{length, getD};
 ghost use lib.IntN.{pos, _-ℤ_};
 ghost use Rattle.names.specs.Limits.{streams, sources, ticks};
@@ -103,6 +104,39 @@ fn climbed(
     total
 }
 
+// Whether no stair rises up to x.
+fn stand_still(x: u64, n: usize, edges: &[u64; STAIRS]) -> bool
+    requires { ⌜ n ≤ stairs.most ⌝ }
+    ensures { λ r. ⌜ r ≡ every n (λ k. leb x (getD (now (edges .entry)) k 0)) ⌝ }
+{
+    let mut k: usize = 0;
+    while k < n {
+        if edges[k] < x {
+            return false;
+        }
+        k += 1;
+    }
+    true
+}
+
+// The same evaluation, for where mostly no stair rises, as from one instance to the next: the edges are then only looked at.
+fn climbed_if_any(
+    x: u64,
+    n: usize,
+    costs: &[u64; STAIRS],
+    periods: &[u64; STAIRS],
+    edges: &mut [u64; STAIRS],
+    sum: u64,
+) -> u64
+    requires { ⌜ (stairs.Stairs (now costs) (now periods) n) × (stairs.Edges (now edges) n) × (x ≤ stairs.latest) × (sum + stairs.height (now costs) (now periods) (now edges) n x < 2 ^ 64) ⌝ }
+    ensures { λ r. ⌜ (r ≡ sum + stairs.height (now (costs .entry)) (now (periods .entry)) (now (edges .entry)) n x) × stairs.Moved (now (costs .entry)) (now (periods .entry)) (now (edges .entry)) (now (edges .exit)) n x ⌝ }
+{
+    if stand_still(x, n, edges) {
+        return sum;
+    }
+    climbed(x, n, costs, periods, edges, sum)
+}
+
 // Where the stairs start: a stream's `jitter` and `late` before time's start, ..
 fn start_streams(jitters: &[u64; STREAMS], n: usize, late: u64, edges: &mut [u64; STAIRS])
     requires { ⌜ (n ≤ streams) × (late ≤ cost) × ((k : ℕ) → k < n → getD (now jitters) k 0 ≤ ticks) × (length (now edges) ≡ stairs.most) ⌝ }
@@ -189,7 +223,7 @@ fn settled(
     let mut x = from;
     let mut total = sum;
     loop {
-        total = climbed(x + START, n, costs, periods, edges, total);
+        total = climbed_if_any(x + START, n, costs, periods, edges, total);
         let y = base + total;
         if y == x {
             return x;
@@ -219,22 +253,6 @@ fn instances(l: u64, jitter: u64, period: u64) -> u64
     ensures { λ r. ⌜ (r ≡ ceil (l + jitter) period) × (r < 2 ^ 34) ⌝ }
 {
     (l + jitter + (period - 1)) / period
-}
-
-// The largest term alone on the channel, where an instance waits for B and the instances before it: w(q) = B + q * C''.
-fn alone(g: Gathered, l: u64) -> u64
-    requires { ⌜ (stairs.Row g) × (rule.busy (stairs.aloneTerms g) ≡ At l) ⌝ }
-    ensures { λ r. ⌜ r ≡ rule.bound (stairs.aloneTerms g) l ⌝ }
-{
-    let count = instances(l, g.jitter, g.period);
-    let ends = g.jitter + g.last + g.blocking;
-    let mut best = term(ends, 0);
-    let mut q: u64 = 0;
-    while q + 1 < count {
-        q += 1;
-        best = larger(best, term(ends + q * g.cost, q * g.period));
-    }
-    best as u64
 }
 
 // The largest term J + w(q) + C'' - q * T. The search for w(q + 1) starts at w(q) + C'', with the edges where they are.
@@ -386,7 +404,8 @@ fn within<'a>(
     sources_fit(g.hit, urgent, sources, costs, periods)
 }
 
-// The largest term, by the shorter way where the row has no stair.
+// The largest term. Where the row has no stair it is the first: an instance then waits for B alone, or for those of its own before it, and
+// these go faster than new ones come, or there were no busy period.
 fn bound_of<'a>(
     g: Gathered,
     l: u64,
@@ -399,7 +418,7 @@ fn bound_of<'a>(
     ensures { λ r. ⌜ r ≡ rule.bound (termsOf (lent g (now (costs .entry)) (now (periods .entry)) (now (jitters .entry)))) l ⌝ }
 {
     if g.urgent + g.sources == 0 {
-        return alone(g, l);
+        return g.jitter + g.blocking + g.last;
     }
     largest_term(g, l, costs, periods, jitters, edges)
 }

@@ -21,7 +21,7 @@ pub some-instance : (r : Terms) → Sound r → (L : ℕ) → 1 ≤ L → 1 ≤ 
 some-instance r s L h = ceil-pos (L + r .own .J) (r .own .T) (s .period) (omega arith)
 
 -- the term of q = 0 is J + w(0) + C''
-first-term : (r : Terms) → term r 0 ≡ pos (r .own .J + w r 0 + r .last)
+pub first-term : (r : Terms) → term r 0 ≡ pos (r .own .J + w r 0 + r .last)
 first-term r = ap (λ z. pos (r .own .J + w r 0 + r .last) -ℤ pos z) (zero-mul (r .own .T)) ∙ ap pos (add-zero (r .own .J + w r 0 + r .last))
 
 -- so the largest is above zero

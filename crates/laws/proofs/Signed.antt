@@ -84,14 +84,17 @@ diff-mag : (h a b : ℕ) → a < h → b < h → mag (pos a -ℤ pos b) < h
 diff-mag h a zero p q = omega arith
 diff-mag h a (suc b) p q = mag-sub h a (suc b) (ltb a (suc b)) p q
 
--- a difference that is not below zero is no more than what was taken from
-pub diff-le : (a b c : ℕ) → pos a ≡ pos b -ℤ pos c → a ≤ b
-diff-le a b zero e = omega (arith, ap natAbs e)
-diff-le a b (suc c) e = go (ltb b (suc c)) e
+-- a difference that is not below zero, put back, gives what was taken from; so it is no more than that
+pub diff-back : (a b c : ℕ) → pos a ≡ pos b -ℤ pos c → a + c ≡ b
+diff-back a b zero e = omega (arith, ap natAbs e)
+diff-back a b (suc c) e = go (ltb b (suc c)) refl e
   where
-    go : (t : Bool) → pos a ≡ cond t (negsuc (suc c - suc b)) (pos (b - suc c)) → a ≤ b
-    go true d = absurd (subst (λ z. T (nonNeg z)) d tt)
-    go false d = omega (arith, ap natAbs d)
+    go : (t : Bool) → ltb b (suc c) ≡ t → pos a ≡ cond t (negsuc (suc c - suc b)) (pos (b - suc c)) → a + suc c ≡ b
+    go true h d = absurd (subst (λ z. T (nonNeg z)) d tt)
+    go false h d = omega (arith, ap natAbs d, ltb-false b (suc c) h)
+
+pub diff-le : (a b c : ℕ) → pos a ≡ pos b -ℤ pos c → a ≤ b
+diff-le a b c e = omega (arith, diff-back a b c e)
 
 -- ---- two casts to 64 signed bits, and their difference
 module _ (a b : ℕ) (p : a < 2 ^ 63) (q : b < 2 ^ 63) where

@@ -34,10 +34,9 @@ use tournament::start;
 use tournament::step;
 use tournament_state::Answer;
 use tournament_state::Phase;
-use values::sheet_from;
 use values::timing_from;
+use values::words_from;
 use words::words_into;
-use writer::write;
 use writer::write_words;
 
 // 0 and what was asked for, or the number of a refusal and its place.
@@ -120,7 +119,8 @@ pub extern "C" fn livnakesh_rewrite(file: &[u8], out: &mut [u8]) -> Said
 pub extern "C" fn livnakesh_write(n: usize, m: usize, values: &[u32], out: &mut [u8]) -> Said
     ensures { λ s. ⌜ (s ≡ number.written (writeOf (sheetFrom n m (now (values .entry))) (now (out .entry)) .0)) × (now (out .exit) ≡ writeOf (sheetFrom n m (now (values .entry))) (now (out .entry)) .1) ⌝ }
 {
-    match write(sheet_from(n, m, values), out) {
+    let placed = words_from(values);
+    match write_words(&placed, n, m, out) {
         Written::Bytes(bytes) => done(bytes as u64),
         Written::Refused(r) => refused(r),
     }

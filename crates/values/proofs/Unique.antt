@@ -3,11 +3,11 @@ use mathlib.Core.Path.{refl, sym, _∙_}
 use Rattle.laws.specs.Determined.{OneOutcome}
 use Rattle.values.proofs.timing_from.Kinds as timing-from-kinds
 use Rattle.values.proofs.timing_from.Reads as timing-from
-use Rattle.values.proofs.sheet_from.Kinds as sheet-from-kinds
-use Rattle.values.proofs.sheet_from.Reads as sheet-from
+use Rattle.values.proofs.words_from.Kinds as words-from-kinds
+use Rattle.values.proofs.words_from.Reads as words-from
 
 pub timing-from-one : OneOutcome 1 timing-from-kinds.ps timing-from-kinds.r timing-from.Post
 timing-from-one κs a x y ws us p q = (p ∙ sym q, refl)
 
-pub sheet-from-one : OneOutcome 1 sheet-from-kinds.ps sheet-from-kinds.r sheet-from.Post
-sheet-from-one κs a x y ws us p q = (p ∙ sym q, refl)
+pub words-from-one : OneOutcome 1 words-from-kinds.ps words-from-kinds.r words-from.Post
+words-from-one κs a x y ws us p q = (p ∙ sym q, refl)

@@ -42,6 +42,15 @@ fn single(period: u32, jitter: u32) -> Plan {
     Plan { timing: BASE, streams: vec![stream(1, period, jitter, 5)], gaps: vec![] }
 }
 
+/// A light stream above a heavy one with much jitter.
+fn pair() -> Plan {
+    Plan { timing: BASE, streams: vec![stream(0, 2_300, 0, 5), stream(1, 24, 33_040, 5)], gaps: vec![] }
+}
+
+fn longest_busy_period(plan: &Plan) -> Option<u64> {
+    plain::Analysis::new(plan).levels().filter_map(|level| level.busy_period()).max()
+}
+
 fn file(plan: &Plan) -> Vec<u8> {
     let mut file = vec![0; plain::size(plan.streams.len(), plan.gaps.len())];
     let wrote = plain::write(plan, &mut file);
@@ -76,7 +85,6 @@ fn thousands(nanoseconds: f64) -> String {
 }
 
 fn row(name: &str, rounds: u32, proved: &mut dyn FnMut(), plain: &mut dyn FnMut()) {
-    if let Ok(only) = std::env::var("ONLY") { if !name.contains(&only) { return; } }
     let calls = calls_for(proved).min(calls_for(plain));
     let (mut best_proved, mut best_plain) = (f64::MAX, f64::MAX);
     for _ in 0..rounds {
@@ -170,8 +178,11 @@ fn main() {
     let noisy = full(9_000, gaps);
     answers_row("64 streams, 90 % load, 8 noise sources", ROUNDS, &noisy);
     let long = single(24, 43_480);
-    assert_eq!(plain::Analysis::new(&long).levels().find_map(|level| level.busy_period()), Some(1_000_040));
+    assert_eq!(longest_busy_period(&long), Some(1_000_040));
     answers_row("one stream, L 1,000,040, 43,480 instances", ROUNDS, &long);
+    let pair = pair();
+    assert_eq!(longest_busy_period(&pair), Some(1_000_040));
+    answers_row("two streams, L 1,000,040, 43,045 instances", ROUNDS, &pair);
     answers_row("P5: 186,737,708 evaluations, none", 2, &single(23, 23));
     rewrite_row("read and write 64 streams, 8 gaps", &file(&noisy));
     let mut refused = file(&noisy);

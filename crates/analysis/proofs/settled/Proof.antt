@@ -10,9 +10,6 @@ use Rattle.analysis.proofs.Stairs.{side-mono}
 use Rattle.analysis.proofs.Kept.{kept-now, kept-on, kept-up}
 use Rattle.analysis.proofs.settled.Statement.{statement}
 use Rattle.analysis.proofs.settled.Tie as tie
-use Rattle.analysis.proofs.settled.Reads as reads
-use Rattle.analysis.proofs.settled.Lts as lts
-use Rattle.analysis.proofs.climbed.Reads as climbed-reads
 
 abbrev Inv-loop : tie.InvT-loop
 Inv-loop base from sum n costs periods edges₀ x₀ total₀ edges x total =
@@ -36,34 +33,34 @@ next c =
     let a = c .before .args in
     omega (arith, kept-now _ _ _ _ _ _ _ (c .loop .inv .1), stays _ (side-mono (a .costs .now) (a .periods .now) (a .edges .now) (a .n) (a .base) (a .sum)) (c .loop .x) _ (below c) (c .before .pre .2 .stops))
 
-add-climbed : tie.Need-add-climbed Inv-loop μ-loop
-add-climbed c = omega (arith, below c, c .before .pre .2 .small)
+add-climbed-if-any : tie.Need-add-climbed-if-any Inv-loop μ-loop
+add-climbed-if-any c = omega (arith, below c, c .before .pre .2 .small)
 
-climbed-requires : tie.Need-climbed-requires Inv-loop μ-loop
-climbed-requires c κs =
+climbed-if-any-requires : tie.Need-climbed-if-any-requires Inv-loop μ-loop
+climbed-if-any-requires c κs =
     let l = c .before in
     let p = l .before .pre in
     (p .0, l .loop .inv .1 .known, omega (arith, below l, p .2 .small), omega (arith, next l, p .2 .small))
 
 add-y : tie.Need-add-y Inv-loop μ-loop
-add-y c = omega (arith, next (c .before .before), c .climbed .ensures .0, c .before .before .before .pre .2 .small)
+add-y c = omega (arith, next (c .before .before), c .climbed-if-any .ensures .0, c .before .before .before .pre .2 .small)
 
 -- the evaluation is the side at x, and the edges have come there
-evaluated : (c : tie.After-climbed Inv-loop μ-loop)
-    → c .before .before .before .args .base + c .climbed .result
+evaluated : (c : tie.After-climbed-if-any Inv-loop μ-loop)
+    → c .before .before .before .args .base + c .climbed-if-any .result
     ≡ side (c .before .before .before .args .costs .now) (c .before .before .before .args .periods .now) (c .before .before .before .args .edges .now) (c .before .before .before .args .n) (c .before .before .before .args .base) (c .before .before .before .args .sum) (c .before .before .loop .x)
-evaluated c = omega (arith, c .climbed .ensures .0, kept-now _ _ _ _ _ _ _ (c .before .before .loop .inv .1))
+evaluated c = omega (arith, c .climbed-if-any .ensures .0, kept-now _ _ _ _ _ _ _ (c .before .before .loop .inv .1))
 
-came : (c : tie.After-climbed Inv-loop μ-loop)
-    → Kept (c .before .before .before .args .costs .now) (c .before .before .before .args .periods .now) (c .climbed .last .1 .1 .1 .1 .0) (c .before .before .before .args .n)
+came : (c : tie.After-climbed-if-any Inv-loop μ-loop)
+    → Kept (c .before .before .before .args .costs .now) (c .before .before .before .args .periods .now) (c .climbed-if-any .last .1 .1 .1 .1 .0) (c .before .before .before .args .n)
     (λ y. c .before .before .before .args .sum + height (c .before .before .before .args .costs .now) (c .before .before .before .args .periods .now) (c .before .before .before .args .edges .now) (c .before .before .before .args .n) (y + start))
-    (c .before .before .loop .x) (c .climbed .result)
-came c = kept-on _ _ _ _ _ _ _ _ _ (c .climbed .ensures .0) (c .climbed .ensures .1) (c .before .before .loop .inv .1)
+    (c .before .before .loop .x) (c .climbed-if-any .result)
+came c = kept-on _ _ _ _ _ _ _ _ _ (c .climbed-if-any .ensures .0) (c .climbed-if-any .ensures .1) (c .before .before .loop .inv .1)
 
 returns : tie.Need-returns Inv-loop μ-loop
 returns c =
     let l = c .before .before .before in
-    let e : c .before .climbed .result ≡ l .loop .x - l .before .args .base = omega (arith, c .if1 .taken) in
+    let e : c .before .climbed-if-any .result ≡ l .loop .x - l .before .args .base = omega (arith, c .if1 .taken) in
     record {
       least = climb-least _ _ _ (sym (evaluated (c .before)) ∙ c .if1 .taken) (l .loop .inv .0);
       small = omega (arith, below l, l .before .pre .2 .small);
@@ -73,7 +70,7 @@ returns c =
 loop-less : tie.Need-loop-less Inv-loop μ-loop
 loop-less c =
     let l = c .before .before .before in
-    omega (arith, next l, c .before .climbed .ensures .0, l .before .pre .2 .small, l .loop .inv .0 .rises, evaluated (c .before), c .if1 .left)
+    omega (arith, next l, c .before .climbed-if-any .ensures .0, l .before .pre .2 .small, l .loop .inv .0 .rises, evaluated (c .before), c .if1 .left)
 
 loop-again : tie.Need-loop-again Inv-loop μ-loop
 loop-again c =
@@ -90,8 +87,8 @@ settled-spec =
     Inv-loop
     μ-loop
     loop-holds
-    add-climbed
-    climbed-requires
+    add-climbed-if-any
+    climbed-if-any-requires
     add-y
     returns
     loop-less

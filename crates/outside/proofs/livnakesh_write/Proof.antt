@@ -1,26 +1,29 @@
--- The sheet of the lent words is written, or refused. Assumes nothing.
+-- The lent words are written where a file has them, and that is the writing of their sheet. Assumes nothing.
 use mathlib.Core.Path.{_≡_, sym, ap, _∙_}
 use borrow.Author.Needs.{needs}
 use denote.Ref.{now}
-use Rattle.file.specs.File.{writeOf}
+use Rattle.fields.specs.Words.{planIn}
+use Rattle.file.specs.File.{writeWith, writeOf}
 use Rattle.values.specs.Values.{sheetFrom}
+use Rattle.values.proofs.Words.{same-writing}
 use Rattle.outside.specs.Outside.{written}
 use Rattle.outside.proofs.livnakesh_write.Statement.{statement}
 use Rattle.outside.proofs.livnakesh_write.Tie as tie
 
 -- what was written is the sheet of the lent words
-wrote : (w : tie.After-write) → let a = w .before .before .before .before .before .args in
-    let o = writeOf (sheetFrom (a .n) (a .m) (now (a .values))) (now (a .out)) in (w .write .result ≡ o .0) × (w .write .last .1 .0 ≡ o .1)
+wrote : (w : tie.After-write-words) → let a = w .before .before .before .before .before .before .args in
+    let o = writeOf (sheetFrom (a .n) (a .m) (now (a .values))) (now (a .out)) in (w .write-words .result ≡ o .0) × (w .write-words .last .1 .1 .1 .0 ≡ o .1)
 wrote w =
-    let a = w .before .before .before .before .before .args in
-    let e = ap (λ s. writeOf s (now (a .out))) (w .before .before .sheet-from .ensures) in
-    (w .write .ensures .0 ∙ ap (λ p. p .0) e, w .write .ensures .1 ∙ ap (λ p. p .1) e)
+    let f = w .before .before .before in
+    let a = f .before .before .before .args in
+    let e = ap (λ ws. writeWith (a .n) (a .m) (planIn (a .n) (a .m) ws) (now (a .out))) (f .words-from .ensures) ∙ same-writing (a .n) (a .m) (now (a .values)) (now (a .out)) in
+    (w .write-words .ensures .0 ∙ ap (λ p. p .0) e, w .write-words .ensures .1 ∙ ap (λ p. p .1) e)
 
-sheet-from-requires : tie.Need-sheet-from-requires
-sheet-from-requires c κs = search needs
+words-from-requires : tie.Need-words-from-requires
+words-from-requires c κs = search needs
 
-write-requires : tie.Need-write-requires
-write-requires c κs = search needs
+write-words-requires : tie.Need-write-words-requires
+write-words-requires c κs = search needs
 
 enum-known-bytes : tie.Need-enum-known-bytes
 enum-known-bytes c = search needs
@@ -54,8 +57,8 @@ pub livnakesh-write-spec : {M : Type 1} → statement M
 livnakesh-write-spec =
     tie.close
     (tie.spec
-    sheet-from-requires
-    write-requires
+    words-from-requires
+    write-words-requires
     enum-known-bytes
     done-requires
     enum-known-r
