@@ -52,7 +52,7 @@ module _ (ws : List ℕ) (n m k : ℕ) (c : Frame) (fine : Fine ws n m) (framed 
   module _ (costs₀ periods₀ jitters costs periods : List ℕ) (urgent own hit b period jitter : ℕ)
       (eb : (b ≡ largestOf (blocks (c .u) (i .priority .0)) (rows n (streamAt ws))) × (b ≤ cost)) (eo : own ≡ c .v + c .u + i .payload)
       (eg : Gathers ws n (i .priority .0) (c .v + c .u) costs₀ periods₀ jitters urgent)
-      (eh : (hit ≡ max own (largestOf (λ x. x) (rows urgent (λ j. getD costs₀ j 0)))) × (hit ≤ cost))
+      (eh : (hit ≡ max (c .v + c .u + i .payload) (largestOf (λ x. x) (rows urgent (λ j. getD costs₀ j 0)))) × (hit ≤ cost))
       (ec : After (λ j. hit) m urgent costs₀ costs) (ep : After (λ j. getD ws (layout.streamAt n + j) 0) m urgent periods₀ periods)
       (et : (period ≡ i .period) × (period < 2 ^ 32)) (ej : (jitter ≡ i .jitter) × (jitter < 2 ^ 32)) where
     abbrev row : Gathered
@@ -79,7 +79,7 @@ module _ (ws : List ℕ) (n m k : ℕ) (c : Frame) (fine : Fine ws n m) (framed 
 
     hit-is : hit ≡ rule.hit p i
     unfolding rule.hit largestOf
-    hit-is = eh .0 ∙ ap₂ max own-is costs-are
+    hit-is = eh .0 ∙ ap₂ max (cost-is i) costs-are
 
     terms-are : termsOf given ≡ rule.terms p i
     unfolding rule.terms planIn

@@ -119,26 +119,26 @@ fn blocks(q: u32, priority: u32, length: u32, u: u64) -> u64
     }
 }
 
-// What the other streams are to one: hp, B, and the dearest of itself and hp.
+// What the other streams are to one of priority q and a payload of `mine`: hp, B, and the dearest of itself and hp.
 //
 // All streams are looked at in one pass. Every one is put down and only the more urgent are counted, so that no branch has to be guessed.
 fn beside(
     words: &[u32; WORDS],
     n: usize,
     q: u32,
+    mine: u32,
     u: u64,
     all: u64,
-    own: u64,
     costs: &mut [u64; STAIRS],
     periods: &mut [u64; STAIRS],
     jitters: &mut [u64; STREAMS],
 ) -> Others
-    requires { ⌜ (gather.Streams (now words) n) × (u ≤ all) × (all ≤ gather.most) × (own ≤ terms.cost) × (gather.Long (now costs) (now periods) (now jitters)) ⌝ }
-    ensures { λ r. ⌜ (gather.Gathers (now (words .entry)) n q all (now (costs .exit)) (now (periods .exit)) (now (jitters .exit)) (r .urgent)) × (gather.Extremes (now (words .entry)) n q u own (now (costs .exit)) r) ⌝ }
+    requires { ⌜ (gather.Streams (now words) n) × (u ≤ all) × (all ≤ gather.most) × (1 ≤ mine) × (mine ≤ payload) × (gather.Long (now costs) (now periods) (now jitters)) ⌝ }
+    ensures { λ r. ⌜ (gather.Gathers (now (words .entry)) n q all (now (costs .exit)) (now (periods .exit)) (now (jitters .exit)) (r .urgent)) × (gather.Extremes (now (words .entry)) n q u (all + mine) (now (costs .exit)) r) ⌝ }
 {
     let mut urgent: usize = 0;
     let mut blocking: u64 = 0;
-    let mut hit = own;
+    let mut hit = all + wide(mine);
     let mut k: usize = 0;
     while k < n {
         let at = FIRST + STREAM * k;
@@ -200,8 +200,9 @@ fn gathered(
     let at = FIRST + STREAM * k;
     let q = words[at + PRIORITY];
     let all = c.v + c.u;
-    let own = all + wide(words[at + LENGTH]);
-    let found = beside(words, n, q, c.u, all, own, costs, periods, jitters);
+    let mine = words[at + LENGTH];
+    let own = all + wide(mine);
+    let found = beside(words, n, q, mine, c.u, all, costs, periods, jitters);
     let hit = found.hit;
     let urgent = found.urgent;
     noise_after(words, FIRST + STREAM * n, m, hit, urgent, costs, periods);

@@ -21,23 +21,31 @@ use Rattle.rows.proofs.greater.Reads as greater-reads
 use Rattle.rows.proofs.wide.Reads as wide-reads
 
 abbrev Inv-loop : tie.InvT-loop
-Inv-loop words n q u all own costs₀ periods₀ jitters₀ urgent₀ blocking₀ hit₀ k₀ costs periods jitters urgent blocking hit k =
+Inv-loop words n q mine u all costs₀ periods₀ jitters₀ urgent₀ blocking₀ hit₀ k₀ costs periods jitters urgent blocking hit k =
     (k ≤ n) × (urgent ≤ k) × Long costs periods jitters
     × (rows urgent (shareAt costs periods jitters) ≡ map (shareOf all) (those (λ j. ltb (j .priority .0) q) (rows k (streamAt words))))
     × ((j : ℕ) → j < urgent → Share (getD costs j 0) (getD periods j 0) (getD jitters j 0))
     × (blocking ≡ largestOf (blocks u q) (rows k (streamAt words))) × (blocking ≤ cost)
-    × (hit ≡ max own (largestOf (λ x. x) (rows urgent (λ j. getD costs j 0)))) × (hit ≤ cost)
+    × (hit ≡ max (all + mine) (largestOf (λ x. x) (rows urgent (λ j. getD costs j 0)))) × (hit ≤ cost)
 
 abbrev μ-loop : tie.MeasureT-loop
-μ-loop words n q u all own costs₀ periods₀ jitters₀ urgent₀ blocking₀ hit₀ k₀ costs periods jitters urgent blocking hit k = n - k
+μ-loop words n q mine u all costs₀ periods₀ jitters₀ urgent₀ blocking₀ hit₀ k₀ costs periods jitters urgent blocking hit k = n - k
+
+wide-requires : tie.Need-wide-requires Inv-loop μ-loop
+wide-requires c κs = search needs
+
+add-hit : tie.Need-add-hit Inv-loop μ-loop
+add-hit c = omega (arith, c .before .pre .2, c .wide .ensures .1)
 
 loop-holds : tie.Need-loop-holds Inv-loop μ-loop
 unfolding rows those largestOf
-loop-holds c = (omega arith, omega arith, c .pre .4, refl, (λ j h. absurd (omega arith)), refl, omega arith, omega arith, c .pre .3)
+loop-holds c =
+    let p = c .before .pre in
+    (omega arith, omega arith, p .5, refl, (λ j h. absurd (omega arith)), refl, omega arith, omega (arith, c .wide .ensures .0), omega (arith, c .wide .ensures .0, p .2, p .4))
 
 -- there is a place for the next stream
 room : (c : tie.In-loop Inv-loop μ-loop) → c .before .loop .urgent < 64
-room c = omega (arith, c .before .loop .inv .1, c .before .before .pre .0 .few, c .loop-test .taken)
+room c = omega (arith, c .before .loop .inv .1, c .before .before .before .pre .0 .few, c .loop-test .taken)
 
 mul-at : tie.Need-mul-at Inv-loop μ-loop
 mul-at c = search needs
@@ -63,8 +71,8 @@ mul-length c = search needs
 element-copy-out-length : tie.Need-element-copy-out-length Inv-loop μ-loop
 element-copy-out-length c = search needs
 
-wide-requires : tie.Need-wide-requires Inv-loop μ-loop
-wide-requires c κs = search needs
+wide-requires-2 : tie.Need-wide-requires-2 Inv-loop μ-loop
+wide-requires-2 c κs = search needs
 
 add-cost : tie.Need-add-cost Inv-loop μ-loop
 add-cost c = search needs
@@ -84,8 +92,8 @@ mul-wide c = search needs
 element-copy-out-wide : tie.Need-element-copy-out-wide Inv-loop μ-loop
 element-copy-out-wide c = search needs
 
-wide-requires-2 : tie.Need-wide-requires-2 Inv-loop μ-loop
-wide-requires-2 c κs = search needs
+wide-requires-3 : tie.Need-wide-requires-3 Inv-loop μ-loop
+wide-requires-3 c κs = search needs
 
 mul-periods : tie.Need-mul-periods Inv-loop μ-loop
 mul-periods c = search needs
@@ -102,8 +110,8 @@ mul-wide-2 c = search needs
 element-copy-out-wide-2 : tie.Need-element-copy-out-wide-2 Inv-loop μ-loop
 element-copy-out-wide-2 c = search needs
 
-wide-requires-3 : tie.Need-wide-requires-3 Inv-loop μ-loop
-wide-requires-3 c κs = search needs
+wide-requires-4 : tie.Need-wide-requires-4 Inv-loop μ-loop
+wide-requires-4 c κs = search needs
 
 mul-jitters : tie.Need-mul-jitters Inv-loop μ-loop
 mul-jitters c = search needs
@@ -114,9 +122,9 @@ element-write-jitters c = omega (arith, room (c .before .before .before .before 
 blocks-requires : tie.Need-blocks-requires Inv-loop μ-loop
 blocks-requires c κs =
     let d = c .before .before .before .before .before .before .before in
-    let s = d .before .before in
+    let s = d .before .before .before in
     let w = s .pre .0 .stream _ (d .loop-test .taken) in
-    (w .some-payload, w .payload, omega (arith, s .pre .1, s .pre .2))
+    (omega (arith, w .some-payload, s .pre .3), omega (arith, w .payload, s .pre .4), omega (arith, s .pre .1, s .pre .2))
 
 greater-requires : tie.Need-greater-requires Inv-loop μ-loop
 greater-requires c κs = search needs
@@ -137,18 +145,18 @@ loop-again : tie.Need-loop-again Inv-loop μ-loop
 loop-again c =
     let g = c .before in
     let b = g .before in
-    let w3 = b .before in
+    let w4 = b .before in
+    let w3 = w4 .before .before in
     let w2 = w3 .before .before in
-    let w1 = w2 .before .before in
-    let d = w1 .before .before .before in
+    let d = w2 .before .before .before in
     let l = d .before .loop in
     let i = l .inv in
-    let s = d .before .before in
+    let s = d .before .before .before in
     let f = s .pre .0 in
     let here = room d in
     let words = s .args .words .now in
-    let on = share-is (ap (λ z. s .args .all + z) (w1 .wide .ensures .0)) (w2 .wide2 .ensures .0) (w3 .wide3 .ensures .0) in
-    let little : s .args .all + w1 .wide .result ≤ cost = omega (arith, s .pre .2, w1 .wide .ensures .0, f .stream (l .k) (d .loop-test .taken) .payload) in
+    let on = share-is (ap (λ z. s .args .all + z) (w2 .wide2 .ensures .0)) (w3 .wide3 .ensures .0) (w4 .wide4 .ensures .0) in
+    let little : s .args .all + w2 .wide2 .result ≤ cost = omega (arith, s .pre .2, w2 .wide2 .ensures .0, f .stream (l .k) (d .loop-test .taken) .payload) in
     let long : l .urgent < length (l .costs) = omega (arith, here, i .2 .of-costs) in
     let largest = largest-more (blocks (s .args .u) (s .args .q)) (streamAt words) (l .k) _ _ _ (i .5) (b .blocks2 .ensures .0) (g .greater .ensures) in
     let small : g .greater .result ≤ cost = omega (arith, g .greater .ensures, b .blocks2 .ensures .1, i .6) in
@@ -159,10 +167,10 @@ loop-again c =
       long-still _ _ _ (l .urgent) _ _ _ (i .2),
       rw (w .2) (gather-more (s .args .all) _ (streamAt words) (l .k) _ _ (i .3) (lt-ltb _ _ (w .0 .taken))
           (share-more _ _ _ (l .urgent) _ _ _ (i .2) here ∙ ap (λ x. rows (l .urgent) (shareAt (l .costs) (l .periods) (l .jitters)) ++ (x ∷ [])) on)),
-      rw (w .2) (fits-more _ _ _ (l .urgent) _ _ _ (i .2) here (i .4) (fits-here little (w2 .wide2 .ensures) (w3 .wide3 .ensures) (f .stream (l .k) (d .loop-test .taken) .some-period))),
+      rw (w .2) (fits-more _ _ _ (l .urgent) _ _ _ (i .2) here (i .4) (fits-here little (w3 .wide3 .ensures) (w4 .wide4 .ensures) (f .stream (l .k) (d .loop-test .taken) .some-period))),
       largest,
       small,
-      rw (w .2, w .3) (hit-more (s .args .own) (l .hit) (l .urgent) _ (l .costs) long (i .7) _ (w .1 .ensures)),
+      rw (w .2, w .3) (hit-more (s .args .all + s .args .mine) (l .hit) (l .urgent) _ (l .costs) long (i .7) _ (w .1 .ensures)),
       omega (arith, w .3, w .1 .ensures, little, i .8),
     ))
     (λ w. (
@@ -173,14 +181,14 @@ loop-again c =
       rw (w .1) (fits-still _ _ _ (l .urgent) _ _ _ (i .2) (i .4)),
       largest,
       small,
-      rw (w .1, w .2) (hit-still (s .args .own) (l .hit) (l .urgent) _ (l .costs) long (i .7)),
+      rw (w .1, w .2) (hit-still (s .args .all + s .args .mine) (l .hit) (l .urgent) _ (l .costs) long (i .7)),
       omega (arith, w .2, i .8),
     ))
     (c .if1 .came)
 
 returns : tie.Need-returns Inv-loop μ-loop
 returns c =
-    let a = c .before .before .args in
+    let a = c .before .before .before .args in
     let i = c .before .loop .inv in
     let e : c .before .loop .k ≡ a .n = omega arith in (
       record {
@@ -198,6 +206,8 @@ beside-spec =
     (tie.spec
     Inv-loop
     μ-loop
+    wide-requires
+    add-hit
     loop-holds
     mul-at
     add-at
@@ -207,20 +217,20 @@ beside-spec =
     add-length
     mul-length
     element-copy-out-length
-    wide-requires
+    wide-requires-2
     add-cost
     mul-costs
     element-write-costs
     add-wide
     mul-wide
     element-copy-out-wide
-    wide-requires-2
+    wide-requires-3
     mul-periods
     element-write-periods
     add-wide-2
     mul-wide-2
     element-copy-out-wide-2
-    wide-requires-3
+    wide-requires-4
     mul-jitters
     element-write-jitters
     blocks-requires

@@ -29,14 +29,14 @@ element-copy-out-q c = search needs
 add-all : tie.Need-add-all
 add-all c = search needs
 
-add-wide : tie.Need-add-wide
-add-wide c = search needs
+add-mine : tie.Need-add-mine
+add-mine c = search needs
 
-mul-wide : tie.Need-mul-wide
-mul-wide c = search needs
+mul-mine : tie.Need-mul-mine
+mul-mine c = search needs
 
-element-copy-out-wide : tie.Need-element-copy-out-wide
-element-copy-out-wide c = search needs
+element-copy-out-mine : tie.Need-element-copy-out-mine
+element-copy-out-mine c = search needs
 
 wide-requires : tie.Need-wide-requires
 wide-requires c κs = search needs
@@ -46,9 +46,9 @@ add-own c = search needs
 
 beside-requires : tie.Need-beside-requires
 beside-requires c κs =
-    let w = c .before .before .before in
-    let s = w .before .before .before .before in
-    (s .pre .0 .rows, omega arith, s .pre .1 .small, omega (arith, w .wide .ensures .0, s .pre .1 .small, s .pre .0 .rows .stream (s .args .k) (s .pre .2) .payload), s .pre .3)
+    let s = c .before .before .before .before .before .before .before in
+    let w = s .pre .0 .rows .stream (s .args .k) (s .pre .2) in
+    (s .pre .0 .rows, omega arith, s .pre .1 .small, w .some-payload, w .payload, s .pre .3)
 
 mul-noise-after : tie.Need-mul-noise-after
 mul-noise-after c = search needs
@@ -59,6 +59,18 @@ add-noise-after c = search needs
 noise-after-requires : tie.Need-noise-after-requires
 noise-after-requires c κs = search needs
 
+add-wide : tie.Need-add-wide
+add-wide c = search needs
+
+mul-wide : tie.Need-mul-wide
+mul-wide c = search needs
+
+element-copy-out-wide : tie.Need-element-copy-out-wide
+element-copy-out-wide c = search needs
+
+wide-requires-2 : tie.Need-wide-requires-2
+wide-requires-2 c κs = search needs
+
 add-wide-2 : tie.Need-add-wide-2
 add-wide-2 c = search needs
 
@@ -67,18 +79,6 @@ mul-wide-2 c = search needs
 
 element-copy-out-wide-2 : tie.Need-element-copy-out-wide-2
 element-copy-out-wide-2 c = search needs
-
-wide-requires-2 : tie.Need-wide-requires-2
-wide-requires-2 c κs = search needs
-
-add-wide-3 : tie.Need-add-wide-3
-add-wide-3 c = search needs
-
-mul-wide-3 : tie.Need-mul-wide-3
-mul-wide-3 c = search needs
-
-element-copy-out-wide-3 : tie.Need-element-copy-out-wide-3
-element-copy-out-wide-3 c = search needs
 
 wide-requires-3 : tie.Need-wide-requires-3
 wide-requires-3 c κs = search needs
@@ -92,7 +92,8 @@ returns c =
     let s = w .before .before .before .before in
     let o = b .beside .ensures .1 in
     gathered-is (s .args .words .now) (s .args .n) (s .args .m) (s .args .k) (s .args .c) (s .pre .0) (s .pre .1) (s .pre .2) _ _ _ _ _ _ _ _ _ _ _
-    (o .blocking, o .little) (ap (λ z. s .args .c .v + s .args .c .u + z) (w .wide .ensures .0)) (b .beside .ensures .0) (o .hit, o .small) (na .noise-after .ensures .0) (na .noise-after .ensures .1) (w2 .wide2 .ensures) (c .wide3 .ensures)
+    (o .blocking, o .little) (ap (λ z. s .args .c .v + s .args .c .u + z) (w .wide .ensures .0)) (b .beside .ensures .0) (o .hit, o .small)
+    (na .noise-after .ensures .0) (na .noise-after .ensures .1) (w2 .wide2 .ensures) (c .wide3 .ensures)
 
 pub gathered-spec : {M : Type 1} → statement M
 gathered-spec =
@@ -104,21 +105,21 @@ gathered-spec =
     mul-q
     element-copy-out-q
     add-all
-    add-wide
-    mul-wide
-    element-copy-out-wide
+    add-mine
+    mul-mine
+    element-copy-out-mine
     wide-requires
     add-own
     beside-requires
     mul-noise-after
     add-noise-after
     noise-after-requires
+    add-wide
+    mul-wide
+    element-copy-out-wide
+    wide-requires-2
     add-wide-2
     mul-wide-2
     element-copy-out-wide-2
-    wide-requires-2
-    add-wide-3
-    mul-wide-3
-    element-copy-out-wide-3
     wide-requires-3
     returns)
