@@ -119,7 +119,7 @@ fn stand_still(x: u64, n: usize, edges: &[u64; STAIRS]) -> bool
     true
 }
 
-// The same evaluation, for where mostly no stair rises, as from one instance to the next: the edges are then only looked at.
+// The same evaluation, with the edges only looked at where no stair rises, as at most turns of a long chain.
 fn climbed_if_any(
     x: u64,
     n: usize,
@@ -197,7 +197,7 @@ fn busy_period<'a>(
         let d = passed(x + START, edge, g.period);
         edge += d * g.period;
         own += d * g.cost;
-        rest = climbed(x + START, n, costs, periods, edges, rest);
+        rest = climbed_if_any(x + START, n, costs, periods, edges, rest);
         let y = g.blocking + own + rest;
         if y == x {
             return Found::At(x);

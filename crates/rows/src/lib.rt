@@ -9,7 +9,8 @@ ghost use mathlib.Core.List.{_++_};
 ghost use Prim.Native.Nat.{ℕ, _+_, _-_, _*_, _^_, _≤_, _<_, max};
 ghost use lib.Dec.{ltb};
 ghost use lib.ListN.{length, drop, getD, replicate};
-ghost use Rattle.names.specs.Limits.{streams, sources, constant, payload, bits};
+ghost use Rattle.names.specs.Limits as limit;
+ghost use Rattle.names.specs.Limits.{streams, sources};
 ghost use Rattle.laws.specs.Lists.{largestOf, rows};
 ghost use Rattle.bound.specs.Bound as bound;
 ghost use Rattle.plan.specs.Plan.{TimingWithin};
@@ -52,7 +53,7 @@ const PERIOD: usize = 2;
 
 const JITTER: usize = 3;
 
-const LENGTH: usize = 4;
+const PAYLOAD: usize = 4;
 
 const DEADLINE: usize = 5;
 
@@ -89,7 +90,7 @@ fn greater(a: u64, b: u64) -> u64
 
 // The pulses of the priority bits but one.
 fn pulses(h: u64, g: u64, nb: u64) -> u64
-    requires { ⌜ (h ≤ constant) × (g ≤ constant) × (1 ≤ nb) × (nb ≤ bits) ⌝ }
+    requires { ⌜ (h ≤ limit.constant) × (g ≤ limit.constant) × (1 ≤ nb) × (nb ≤ limit.bits) ⌝ }
     ensures { λ r. ⌜ (r ≡ (h + g) * (nb - 1)) × (r ≤ 4063170) ⌝ }
 {
     (h + g) * (nb - 1)
@@ -108,12 +109,12 @@ fn frame_of(t: Timing) -> Frame
 }
 
 // C' - 1 of a stream that is less urgent than q, else 0.
-fn blocks(q: u32, priority: u32, length: u32, u: u64) -> u64
-    requires { ⌜ (1 ≤ length) × (length ≤ payload) × (u ≤ gather.most) ⌝ }
-    ensures { λ r. ⌜ (r ≡ cond (ltb q priority) (length + u - 1) 0) × (r ≤ terms.cost) ⌝ }
+fn blocks(q: u32, priority: u32, payload: u32, u: u64) -> u64
+    requires { ⌜ (1 ≤ payload) × (payload ≤ limit.payload) × (u ≤ gather.most) ⌝ }
+    ensures { λ r. ⌜ (r ≡ cond (ltb q priority) (payload + u - 1) 0) × (r ≤ terms.cost) ⌝ }
 {
     if q < priority {
-        wide(length) + u - 1
+        wide(payload) + u - 1
     } else {
         0
     }
@@ -133,7 +134,7 @@ fn beside(
     periods: &mut [u64; STAIRS],
     jitters: &mut [u64; STREAMS],
 ) -> Others
-    requires { ⌜ (gather.Streams (now words) n) × (u ≤ all) × (all ≤ gather.most) × (1 ≤ mine) × (mine ≤ payload) × (gather.Long (now costs) (now periods) (now jitters)) ⌝ }
+    requires { ⌜ (gather.Streams (now words) n) × (u ≤ all) × (all ≤ gather.most) × (1 ≤ mine) × (mine ≤ limit.payload) × (gather.Long (now costs) (now periods) (now jitters)) ⌝ }
     ensures { λ r. ⌜ (gather.Gathers (now (words .entry)) n q all (now (costs .exit)) (now (periods .exit)) (now (jitters .exit)) (r .urgent)) × (gather.Extremes (now (words .entry)) n q u (all + mine) (now (costs .exit)) r) ⌝ }
 {
     let mut urgent: usize = 0;
@@ -143,12 +144,12 @@ fn beside(
     while k < n {
         let at = FIRST + STREAM * k;
         let priority = words[at + PRIORITY];
-        let length = words[at + LENGTH];
-        let cost = all + wide(length);
+        let payload = words[at + PAYLOAD];
+        let cost = all + wide(payload);
         costs[urgent] = cost;
         periods[urgent] = wide(words[at + PERIOD]);
         jitters[urgent] = wide(words[at + JITTER]);
-        blocking = greater(blocking, blocks(q, priority, length, u));
+        blocking = greater(blocking, blocks(q, priority, payload, u));
         if priority < q {
             urgent += 1;
             hit = greater(hit, cost);
@@ -200,7 +201,7 @@ fn gathered(
     let at = FIRST + STREAM * k;
     let q = words[at + PRIORITY];
     let all = c.v + c.u;
-    let mine = words[at + LENGTH];
+    let mine = words[at + PAYLOAD];
     let own = all + wide(mine);
     let found = beside(words, n, q, mine, c.u, all, costs, periods, jitters);
     let hit = found.hit;

@@ -99,37 +99,37 @@ mul-own c = omega (arith, room (c .before .before))
 add-own : tie.Need-add-own Inv-loop μ-loop
 add-own c = omega (arith, room (c .before .before))
 
-add-climbed : tie.Need-add-climbed Inv-loop μ-loop
-add-climbed c = search needs
+add-climbed-if-any : tie.Need-add-climbed-if-any Inv-loop μ-loop
+add-climbed-if-any c = search needs
 
-climbed-requires : tie.Need-climbed-requires Inv-loop μ-loop
-climbed-requires c κs =
+climbed-if-any-requires : tie.Need-climbed-if-any-requires Inv-loop μ-loop
+climbed-if-any-requires c κs =
     let p = c .before .before .before in
     let l = p .before .before in
     let k = l .loop .inv .2 in
     (started (l .before .before) .stairs, k .known, omega (arith, p .before .loop-test .taken), omega (arith, room p, kept-now _ _ _ _ _ _ _ k))
 
 -- the turn's passing and the loop, seen from the evaluation
-abbrev turn : tie.After-climbed Inv-loop μ-loop → tie.After-passed Inv-loop μ-loop
+abbrev turn : tie.After-climbed-if-any Inv-loop μ-loop → tie.After-passed Inv-loop μ-loop
 turn c = c .before .before .before .before
 
-abbrev round : tie.After-climbed Inv-loop μ-loop → tie.At-loop Inv-loop μ-loop
+abbrev round : tie.After-climbed-if-any Inv-loop μ-loop → tie.At-loop Inv-loop μ-loop
 round c = turn c .before .before
 
 -- the rest at x, and the evaluation is L's right side there
-theirs : (c : tie.After-climbed Inv-loop μ-loop) → c .climbed .result ≡ restL (termsOf (given (begun (round c)))) (round c .loop .x)
-theirs c = c .climbed .ensures .0 ∙ kept-now _ _ _ _ _ _ _ (round c .loop .inv .2)
+theirs : (c : tie.After-climbed-if-any Inv-loop μ-loop) → c .climbed-if-any .result ≡ restL (termsOf (given (begun (round c)))) (round c .loop .x)
+theirs c = c .climbed-if-any .ensures .0 ∙ kept-now _ _ _ _ _ _ _ (round c .loop .inv .2)
 
-evaluated : (c : tie.After-climbed Inv-loop μ-loop)
+evaluated : (c : tie.After-climbed-if-any Inv-loop μ-loop)
     → let g = begun (round c) .args .g in
-    g .blocking + (round c .loop .own + turn c .passed .result * g .cost) + c .climbed .result ≡ sideL (termsOf (given (begun (round c)))) (round c .loop .x)
+    g .blocking + (round c .loop .own + turn c .passed .result * g .cost) + c .climbed-if-any .result ≡ sideL (termsOf (given (begun (round c)))) (round c .loop .x)
 evaluated c = omega (arith, mine (turn c), theirs c, sideL-parts (given (begun (round c))) (round c .loop .x))
 
 -- .. and the edges after it
-came : (c : tie.After-climbed Inv-loop μ-loop)
+came : (c : tie.After-climbed-if-any Inv-loop μ-loop)
     → let t = given (begun (round c)) in
-    Kept (t .costs) (t .periods) (c .climbed .last .1 .1 .1 .1 .0) (t .row .urgent + t .row .sources) (restL (termsOf t)) (round c .loop .x) (c .climbed .result)
-came c = kept-on _ _ _ _ _ _ _ _ _ (c .climbed .ensures .0) (c .climbed .ensures .1) (round c .loop .inv .2)
+    Kept (t .costs) (t .periods) (c .climbed-if-any .last .1 .1 .1 .1 .0) (t .row .urgent + t .row .sources) (restL (termsOf t)) (round c .loop .x) (c .climbed-if-any .result)
+came c = kept-on _ _ _ _ _ _ _ _ _ (c .climbed-if-any .ensures .0) (c .climbed-if-any .ensures .1) (round c .loop .inv .2)
 
 add-y : tie.Need-add-y Inv-loop μ-loop
 add-y c = omega (arith, room (turn (c .before)))
@@ -179,8 +179,8 @@ busy-period-spec =
     add-edge
     mul-own
     add-own
-    add-climbed
-    climbed-requires
+    add-climbed-if-any
+    climbed-if-any-requires
     add-y
     add-y-2
     returns

@@ -62,14 +62,14 @@ mul-priority c = search needs
 element-copy-out-priority : tie.Need-element-copy-out-priority Inv-loop μ-loop
 element-copy-out-priority c = search needs
 
-add-length : tie.Need-add-length Inv-loop μ-loop
-add-length c = search needs
+add-payload : tie.Need-add-payload Inv-loop μ-loop
+add-payload c = search needs
 
-mul-length : tie.Need-mul-length Inv-loop μ-loop
-mul-length c = search needs
+mul-payload : tie.Need-mul-payload Inv-loop μ-loop
+mul-payload c = search needs
 
-element-copy-out-length : tie.Need-element-copy-out-length Inv-loop μ-loop
-element-copy-out-length c = search needs
+element-copy-out-payload : tie.Need-element-copy-out-payload Inv-loop μ-loop
+element-copy-out-payload c = search needs
 
 wide-requires-2 : tie.Need-wide-requires-2 Inv-loop μ-loop
 wide-requires-2 c κs = search needs
@@ -214,9 +214,9 @@ beside-spec =
     add-priority
     mul-priority
     element-copy-out-priority
-    add-length
-    mul-length
-    element-copy-out-length
+    add-payload
+    mul-payload
+    element-copy-out-payload
     wide-requires-2
     add-cost
     mul-costs
