@@ -47,6 +47,13 @@ fn pair() -> Plan {
     Plan { timing: BASE, streams: vec![stream(0, 2_300, 0, 5), stream(1, 24, 33_040, 5)], gaps: vec![] }
 }
 
+/// 63 streams that hardly ever send, above one that fills the channel and has jitter.
+fn crowded() -> Plan {
+    let mut streams: Vec<Stream> = (0..63).map(|row| stream(row, 4_000_000_000, 0, 5)).collect();
+    streams.push(stream(63, 65_557, 65_557, 65_535));
+    Plan { timing: BASE_6, streams, gaps: vec![] }
+}
+
 fn longest_busy_period(plan: &Plan) -> Option<u64> {
     plain::Analysis::new(plan).levels().filter_map(|level| level.busy_period()).max()
 }
@@ -184,6 +191,7 @@ fn main() {
     assert_eq!(longest_busy_period(&pair), Some(1_000_040));
     answers_row("two streams, L 1,000,040, 43,045 instances", ROUNDS, &pair);
     answers_row("P5: 186,737,708 evaluations, none", 2, &single(23, 23));
+    answers_row("64 streams, the last of 32,758 evaluations, none", ROUNDS, &crowded());
     rewrite_row("read and write 64 streams, 8 gaps", &file(&noisy));
     let mut refused = file(&noisy);
     refused[1_644..].fill(0);
