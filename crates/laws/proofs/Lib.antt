@@ -1,6 +1,7 @@
 pub mod Tests
 pub mod Round
 pub mod Lists
+pub mod Placed
 pub mod Search
 pub mod Chain
 pub mod Signed

@@ -1,7 +1,8 @@
--- Rounding up, and sums, largest values and choices over a list.
+-- Rounding up, sums, largest values and choices over a list, and a list in a number of places.
 use mathlib.Core.Bool.{Bool, true, cond, _&&_}
 use mathlib.Core.List.{List, [], _∷_, _++_}
 use Prim.Native.Nat.{ℕ, zero, suc, _+_, _-_, _/_, max}
+use lib.ListN.{length, take, replicate}
 
 -- ceil(x / n)
 abbrev pub ceil : ℕ → ℕ → ℕ
@@ -36,3 +37,7 @@ sumTo f (suc n) = sumTo f n + f n
 unfoldable pub every : ℕ → (ℕ → Bool) → Bool
 every zero t = true
 every (suc n) t = every n t && t n
+
+-- a list in n places: its first n, and d where it has no more
+unfoldable pub placed : {A : Type 0} → ℕ → A → List A → List A
+placed n d xs = take n xs ++ replicate (n - length xs) d

@@ -1,4 +1,3 @@
 pub mod Counts
-pub mod Placed
 pub mod Same
 pub mod Unique

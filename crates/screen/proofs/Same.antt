@@ -5,7 +5,8 @@ use Prim.Native.Nat.{ℕ, _-_, _≤_}
 use lib.ListN.{length, take, replicate}
 use lib.Seq.{take-all, take-append-seam}
 use Rattle.answers.proofs.Alike.{file-alike}
-use Rattle.screen.specs.Screen.{placed, sheetFor}
+use Rattle.laws.specs.Lists.{placed}
+use Rattle.screen.specs.Screen.{sheetFor}
 use Rattle.screen.specs.Claims.{SamePlan, SameAsFile}
 
 front : {A : Type 0} (n : ℕ) (d : A) (xs : List A) → length xs ≤ n → take (length xs) (placed n d xs) ≡ xs

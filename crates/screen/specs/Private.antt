@@ -8,7 +8,7 @@ use Rattle.plan.specs.declared.Stream.{Stream}
 use Rattle.plan.specs.declared.Sheet.{Sheet}
 use Rattle.plan.specs.Plan.{blank}
 use Rattle.screen.specs.declared.Lot.{Lot}
-use Rattle.screen.specs.Screen.{placed}
+use Rattle.laws.specs.Lists.{placed}
 
 -- the lot of a list
 unfoldable pub lotOf : List Stream → Lot

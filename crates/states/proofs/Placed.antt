@@ -6,24 +6,22 @@ use Prim.Native.Nat.{ℕ, _+_, _-_, min, _<_}
 use native.Mathlib.Nat.{le-refl}
 use native.Mathlib.Numerals.{add-one}
 use native.Mathlib.Omega.{arith, min-cases}
-use lib.ListN.{length, take, drop, getD, set, replicate, length-map, drop-of-length-le}
+use lib.ListN.{length, take, drop, getD, set, replicate, length-map, drop-of-length-le, List·getD-map}
 use lib.Seq.{take-suc, drop-cons, drop-length, set-at, append-snoc, length-take-le}
 use Rattle.names.specs.Limits.{contenders}
-use Rattle.laws.specs.Lists.{rows}
-use Rattle.laws.proofs.Lists.{rows-map, rows-take, take-min}
-use Rattle.states.specs.States.{placed, byte, marksInto}
+use Rattle.laws.specs.Lists.{placed}
+use Rattle.laws.proofs.Lists.{take-min}
+use Rattle.laws.proofs.Placed.{placedTo, placed-more, placed-all}
+use Rattle.states.specs.States.{byte, marksInto}
 
--- the places once the first k are in, and at the end
-abbrev pub placedTo : {A : Type 0} → (ℕ → A) → A → List ℕ → ℕ → List A
-placedTo f d xs k = rows k (λ i. f (getD xs i 0)) ++ replicate (contenders - k) d
+-- places filled with f of what is lent, one more, and at the end
+module _ {A : Type 0} (f : ℕ → A) (xs : List ℕ) where
+  pub filled-more : (k : ℕ) (ys : List A) → k < contenders → k < length xs → ys ≡ placedTo contenders (f 0) (map f xs) k
+      → set ys k (f (getD xs k 0)) ≡ placedTo contenders (f 0) (map f xs) (k + 1)
+  filled-more k ys h l e = ap (set ys k) (sym (List·getD-map f xs k 0)) ∙ placed-more contenders (f 0) (map f xs) k ys h (omega (arith, length-map xs f)) e
 
-pub placed-all : {A : Type 0} (f : ℕ → A) (d : A) (xs : List ℕ) (k : ℕ) → k ≡ min (length xs) contenders → placedTo f d xs k ≡ placed f d xs
-unfolding placed
-placed-all f d xs k e =
-    let m : k ≡ min contenders (length xs) = omega arith in
-    let s : contenders - k ≡ contenders - length xs = omega arith in
-    let t : take k xs ≡ take contenders xs = ap (λ n. take n xs) m ∙ take-min contenders (length xs) xs (le-refl _) in
-    ap₂ (λ l n. l ++ replicate n d) (sym (rows-map f k (λ i. getD xs i 0)) ∙ ap (map f) (rows-take xs 0 k (omega arith) ∙ t)) s
+  pub filled-all : (k : ℕ) → k ≡ min (length xs) contenders → placedTo contenders (f 0) (map f xs) k ≡ placed contenders (f 0) (map f xs)
+  filled-all k e = ap (placedTo contenders (f 0) (map f xs)) (e ∙ ap (λ n. min n contenders) (sym (length-map xs f))) ∙ placed-all contenders (f 0) (map f xs)
 
 module _ (marks : List Bool) (found : List ℕ) where
   -- the lent bytes once the first k are written, one more, and at the end

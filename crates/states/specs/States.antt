@@ -1,32 +1,30 @@
 -- What a caller in another language lends, as a tournament's state, and its marks back as bytes.
 use mathlib.Core.Bool.{Bool, false, not, cond}
 use mathlib.Core.List.{List, _++_, map}
-use Prim.Native.Nat.{ℕ, zero, suc, _-_}
+use Prim.Native.Nat.{ℕ, zero, suc}
 use lib.Dec.{eqb}
-use lib.ListN.{length, take, drop, replicate}
+use lib.ListN.{length, take, drop}
 use Rattle.names.specs.declared.Priority.{Priority}
 use Rattle.names.specs.Limits.{contenders}
+use Rattle.laws.specs.Lists.{placed}
 use Rattle.tournament_state.specs.declared.Phase.{Phase}
 use Rattle.tournament_state.specs.declared.Phase.the-variants.{AtBit, Finished, NoWinner}
 use Rattle.tournament_state.specs.declared.Tournament.{Tournament}
 use Rattle.tournament_state.specs.Refusals.{none}
 
--- the first 128 that are lent, each as f says, and d in the places that are not lent
-unfoldable pub placed : {A : Type 0} → (ℕ → A) → A → List ℕ → List A
-placed f d xs = map f (take contenders xs) ++ replicate (contenders - length xs) d
-
+-- 128 places: the first that are lent, and nobody in those that are not
 abbrev pub priority : ℕ → Priority
 priority p = record { 0 = p }
 
 abbrev pub prioritiesFrom : List ℕ → List Priority
-prioritiesFrom ps = placed priority none ps
+prioritiesFrom ps = placed contenders none (map priority ps)
 
 -- in if the byte is not 0
 abbrev pub mark : ℕ → Bool
 mark b = not (eqb b 0)
 
 abbrev pub marksFrom : List ℕ → List Bool
-marksFrom bs = placed mark false bs
+marksFrom bs = placed contenders false (map mark bs)
 
 -- 0 is at a bit, 1 is finished with a winner's row, and all else has no winner
 abbrev pub phaseFrom : ℕ → ℕ → Phase

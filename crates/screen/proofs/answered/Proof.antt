@@ -9,7 +9,7 @@ use Rattle.plan.specs.declared.Sheet.{Sheet}
 use Rattle.plan.specs.declared.Timing.{Timing}
 use Rattle.answers.specs.Words.{answerOf}
 use Rattle.screen.specs.declared.Lot.{Lot}
-use Rattle.screen.specs.Screen.{placed}
+use Rattle.laws.specs.Lists.{placed}
 use Rattle.screen.specs.Private.{sheetOf}
 use Rattle.screen.proofs.answered.Statement.{statement}
 use Rattle.screen.proofs.answered.Tie as tie

@@ -5,7 +5,7 @@ use native.Mathlib.Omega.{arith}
 use borrow.Author.Needs.{needs}
 use lib.ListN.{length}
 use denote.Ref.{now}
-use Rattle.screen.proofs.Placed.{placedTo, placed-more, placed-all}
+use Rattle.laws.proofs.Placed.{placedTo, placed-more, placed-all}
 use Rattle.screen.proofs.copied.Statement.{statement}
 use Rattle.screen.proofs.copied.Tie as tie
 

@@ -47,7 +47,7 @@ use Rattle.plan.specs.declared.Stream.{Stream}
 use Rattle.screen.specs.declared.Lot.{Lot}
 use Rattle.plan.specs.Plan.{blank}
 use Rattle.screen.specs.Private.{lotOf}
-use Rattle.screen.proofs.Placed.{placedTo, placed-more, placed-all}
+use Rattle.laws.proofs.Placed.{placedTo, placed-more, placed-all}
 use Rattle.plan.proofs.Stream as S
 use Rattle.plan.proofs.Stream.Laws as S′
 use Rattle.screen.proofs.Lot as T

@@ -1,20 +1,20 @@
 -- After i turns the first i places have the first i marks that are lent. Assumes nothing.
-use mathlib.Core.Path.{_≡_, _∙_}
+use mathlib.Core.Path.{_≡_, refl, _∙_}
+use mathlib.Core.List.{map}
 use mathlib.Core.Bool.{false}
 use Prim.Native.Nat.{_-_, _≤_}
 use native.Mathlib.Omega.{arith}
 use borrow.Author.Needs.{needs}
-use lib.ListN.{getD}
 use denote.Ref.{now}
 use Rattle.names.specs.Limits.{contenders}
-use Rattle.laws.proofs.Lists.{lay-none, lay-more}
+use Rattle.laws.proofs.Placed.{placedTo}
 use Rattle.states.specs.States.{mark}
-use Rattle.states.proofs.Placed.{placedTo, placed-all}
+use Rattle.states.proofs.Placed.{filled-more, filled-all}
 use Rattle.states.proofs.marks_from.Statement.{statement}
 use Rattle.states.proofs.marks_from.Tie as tie
 
 abbrev Inv-loop : tie.InvT-loop
-Inv-loop marks n places₀ i₀ places i = (i ≤ n) × (places ≡ placedTo mark false marks i)
+Inv-loop marks n places₀ i₀ places i = (i ≤ n) × (places ≡ placedTo contenders false (map mark marks) i)
 
 abbrev μ-loop : tie.MeasureT-loop
 μ-loop marks n places₀ i₀ places i = n - i
@@ -23,7 +23,7 @@ smaller-requires : tie.Need-smaller-requires Inv-loop μ-loop
 smaller-requires c κs = search needs
 
 loop-holds : tie.Need-loop-holds Inv-loop μ-loop
-loop-holds c = (omega arith, lay-none _ false contenders)
+loop-holds c = (omega arith, refl)
 
 shared-slice-read-places : tie.Need-shared-slice-read-places Inv-loop μ-loop
 shared-slice-read-places c = search needs
@@ -41,14 +41,13 @@ loop-again : tie.Need-loop-again Inv-loop μ-loop
 loop-again c =
     let l = c .before .before .loop in
     let a = c .before .before .before in
-    let xs = now (a .before .before .args .marks) in
-    (omega arith, rw (l .inv .1) (lay-more (λ i. mark (getD xs i 0)) false contenders (l .i) (omega (arith, a .smaller .ensures))))
+    (omega arith, filled-more mark (now (a .before .before .args .marks)) (l .i) (l .places) (omega (arith, a .smaller .ensures)) (omega (arith, a .smaller .ensures)) (l .inv .1))
 
 returns : tie.Need-returns Inv-loop μ-loop
 returns c =
     let l = c .before .loop in
     let a = c .before .before in
-    l .inv .1 ∙ placed-all mark false (now (a .before .before .args .marks)) (l .i) (omega (arith, a .smaller .ensures))
+    l .inv .1 ∙ filled-all mark (now (a .before .before .args .marks)) (l .i) (omega (arith, a .smaller .ensures))
 
 pub marks-from-spec : {M : Type 1} → statement M
 marks-from-spec =

@@ -6,7 +6,7 @@ use native.Mathlib.Numerals.{add-one}
 use native.Mathlib.Omega.{arith, min-cases}
 use lib.ListN.{length, take, getD, set, replicate}
 use lib.Seq.{take-suc, take-all, take-length, length-take-le, set-at, append-snoc}
-use Rattle.screen.specs.Screen.{placed}
+use Rattle.laws.specs.Lists.{placed}
 
 module _ {A : Type 0} (n : ℕ) (d : A) (xs : List A) where
   -- the places once the first i are in
