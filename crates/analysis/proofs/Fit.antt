@@ -2,7 +2,7 @@
 use mathlib.Core.Path.{_≡_, refl, sym, subst}
 use mathlib.Core.Bool.{Bool, true, false, _&&_}
 use Prim.Native.Nat.{ℕ, _+_, _-_, _*_, _^_, _≤_, _<_}
-use native.Mathlib.Nat.{le-trans, mul-le-mul, mul-le-mul-right}
+use native.Mathlib.Nat.{le-trans, zero-mul, mul-le-mul, mul-le-mul-right}
 use native.Mathlib.Omega.{arith}
 use lib.Dec.{T, leb, eqb}
 use lib.ListN.{getD}
@@ -18,7 +18,7 @@ use Rattle.bound.specs.Claims.{Sound}
 use Rattle.bound.proofs.Sides.{demand-own}
 use Rattle.analysis.specs.declared.Gathered.{Gathered}
 use Rattle.analysis.specs.Gathered.{Lent, termsOf, shareAt, gapAt, cost, shareFits, sourceFits, rowFits, fits}
-use Rattle.analysis.specs.Stairs.{Share, Row, Fit, restL, aloneTerms}
+use Rattle.analysis.specs.Stairs.{Share, Row, Fit, ownL, restL, aloneTerms}
 
 pub fit-sound : (t : Lent) → Row (t .row) → Sound (termsOf t)
 fit-sound t f = record { period = f .own .some; late = f .late; ends = f .ends; last = f .last }
@@ -34,6 +34,11 @@ part : (C T J x : ℕ) → Share C T J → x ≤ ticks → ceil (x + J) T * C �
 unfolding most
 part C T J x s h = mul-le-mul {n₂ = ticks + ticks} {m₂ = cost} (le-trans (ceil-le (x + J) T (s .some)) (omega (arith, s .jitter))) (s .cost)
 
+-- B and i's own part
+pub alone-fits : (g : Gathered) → Row g → (x : ℕ) → x ≤ ticks → g .blocking + ownL g x < 2 ^ 64
+unfolding most
+alone-fits g f x h = omega (arith, part (g .cost) (g .period) (g .jitter) x (f .own) h, f .blocking)
+
 pub sideL-fits : (t : Lent) → Fit t → (x : ℕ) → x ≤ ticks → sideL (termsOf t) x < 2 ^ 64
 unfolding sideL E demand most
 sideL-fits t f x h =
@@ -47,9 +52,14 @@ sideL-fits t f x h =
     le-of-eq e = omega arith
 
 -- L's right side is B, i's own part and the rest, and so no part of it is above it
-pub sideL-parts : (t : Lent) (x : ℕ) → sideL (termsOf t) x ≡ t .row .blocking + ceil (x + t .row .jitter) (t .row .period) * t .row .cost + restL (termsOf t) x
+pub sideL-parts : (t : Lent) (x : ℕ) → sideL (termsOf t) x ≡ t .row .blocking + ownL (t .row) x + restL (termsOf t) x
 unfolding sideL
 sideL-parts t x = omega (arith, demand-own (termsOf t .own) (termsOf t .urgent) x)
+
+-- with nobody else on the channel there is no rest
+pub sideL-alone : (g : Gathered) (x : ℕ) → sideL (aloneTerms g) x ≡ g .blocking + ownL g x
+unfolding sideL demand E sumOf
+sideL-alone g x = omega (arith, zero-mul (g .hit))
 
 -- ---- the test of the limits, taken apart
 share-known : (j : Terms.Share) → shareFits j ≡ true → Share (j .C″) (j .T) (j .J)

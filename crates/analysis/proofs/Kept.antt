@@ -1,13 +1,15 @@
 -- What a chain keeps from turn to turn: sums that, with the edges, give a right side from the present x on. Assumes nothing.
-use mathlib.Core.Path.{_≡_, refl, sym, ap, _∙_}
+use mathlib.Core.Path.{_≡_}
 use mathlib.Core.List.{List}
-use Prim.Native.Nat.{ℕ, _+_, _-_, _*_, _^_, _≤_, _<_}
-use native.Mathlib.Nat.{le-refl, zero-mul, add-mul}
+use Prim.Native.Nat.{ℕ, _+_, _-_, _*_, _≤_}
+use native.Mathlib.Nat.{le-refl}
 use native.Mathlib.Omega.{arith}
 use Rattle.names.specs.Limits.{ticks}
 use Rattle.laws.specs.Lists.{ceil}
-use Rattle.analysis.specs.Stairs.{height, start, latest, Edges, Moved, Laid, Kept}
-use Rattle.analysis.proofs.Stairs.{onward, onward-below, onward-later}
+use Rattle.analysis.specs.declared.Gathered.{Gathered}
+use Rattle.analysis.specs.declared.Own.{Own}
+use Rattle.analysis.specs.Stairs.{height, start, ownL, Moved, Laid, Kept, OwnKept, Row}
+use Rattle.analysis.proofs.Stairs.{onward-below, onward-later}
 
 -- ---- the stairs
 module _ (costs periods edges : List ℕ) (n : ℕ) (rest : ℕ → ℕ) where
@@ -25,30 +27,28 @@ module _ (costs periods edges : List ℕ) (n : ℕ) (rest : ℕ → ℕ) where
   pub kept-up : (x y sum : ℕ) → x ≤ y → Kept costs periods edges n rest x sum → Kept costs periods edges n rest y sum
   kept-up x y sum h k = record { known = k .known; later = λ z g. k .later z (omega arith) }
 
--- ---- i's own stair, in numbers of its own
-pub record Own (cost period jitter edge x sum : ℕ) : Type 0 where
-  pub below : edge < 2 ^ 34
-  pub later : (y : ℕ) → x ≤ y → sum + ceil (y + start - edge) period * cost ≡ ceil (y + jitter) period * cost
-
-module _ (cost period jitter : ℕ) where
-  pub own-start : (x : ℕ) → jitter ≤ ticks → Own cost period jitter (start - jitter) x 0
-  own-start x h =
+-- ---- i's own stair
+module _ (g : Gathered) where
+  pub own-start : Row g → OwnKept g (record { edge = start - g .jitter; sum = 0 }) 0
+  own-start f =
       record {
         below = omega arith;
-        later = λ y g. let e : y + start - (start - jitter) ≡ y + jitter = omega arith in rw e (omega arith);
+        later = λ y l. let e : y + start - (start - g .jitter) ≡ y + g .jitter = omega (arith, f .own .jitter) in rw e (omega arith);
       }
 
-  pub own-now : (edge x sum d : ℕ) → d ≡ ceil (x + start - edge) period → Own cost period jitter edge x sum → sum + d * cost ≡ ceil (x + jitter) period * cost
-  own-now edge x sum d e o = rw e (o .later x (le-refl x))
+  -- d periods further on its sum is i's own part at x, ..
+  pub own-now : (own : Own) (x d : ℕ) → d ≡ ceil (x + start - own .edge) (g .period) → OwnKept g own x → own .sum + d * g .cost ≡ ownL g x
+  own-now own x d e o = rw e (o .later x (le-refl x))
 
-  pub own-on : (edge x sum d : ℕ) → d ≡ ceil (x + start - edge) period → 1 ≤ period → period ≤ ticks → x ≤ ticks
-      → Own cost period jitter edge x sum → Own cost period jitter (edge + d * period) x (sum + d * cost)
-  own-on edge x sum d e p q h o =
+  -- .. and it is kept
+  pub own-on : (own : Own) (x d : ℕ) → d ≡ ceil (x + start - own .edge) (g .period) → Row g → x ≤ ticks → OwnKept g own x
+      → OwnKept g (record { edge = own .edge + d * g .period; sum = own .sum + d * g .cost }) x
+  own-on own x d e f h o =
       rw e
       (record {
-        below = onward-below edge period (x + start) (o .below) q (omega arith);
-        later = λ y g. omega (arith, onward-later edge period cost (x + start) (y + start) p (omega arith), o .later y g);
+        below = onward-below (own .edge) (g .period) (x + start) (o .below) (f .own .period) (omega arith);
+        later = λ y l. omega (arith, onward-later (own .edge) (g .period) (g .cost) (x + start) (y + start) (f .own .some) (omega arith), o .later y l);
       })
 
-  pub own-up : (edge x y sum : ℕ) → x ≤ y → Own cost period jitter edge x sum → Own cost period jitter edge y sum
-  own-up edge x y sum h o = record { below = o .below; later = λ z g. o .later z (omega arith) }
+  pub own-up : (own : Own) (x y : ℕ) → x ≤ y → OwnKept g own x → OwnKept g own y
+  own-up own x y h o = record { below = o .below; later = λ z l. o .later z (omega arith) }

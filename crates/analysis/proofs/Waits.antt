@@ -17,7 +17,7 @@ use Rattle.laws.proofs.Signed.{diff-back}
 use Rattle.laws.specs.declared.Found.the-variants.{At}
 use Rattle.laws.proofs.Chain.{least-later, least-agrees}
 use Rattle.bound.specs.Terms.{Terms}
-use Rattle.bound.specs.Bound.{demand, E, sideL, sideW, busy, Q, w, term, bound}
+use Rattle.bound.specs.Bound.{demand, E, sideW, busy, Q, w, term, bound}
 use Rattle.bound.specs.Claims.{Sound}
 use Rattle.bound.proofs.Sides.{sideW-mono, busy-is-least}
 use Rattle.bound.proofs.Largest.{some-instance, first-term, bound-is-largest}
@@ -25,7 +25,7 @@ use Rattle.bound.proofs.Instances.{room, settles, w-exists, w-rises, sideW-suc}
 use Rattle.analysis.specs.declared.Gathered.{Gathered}
 use Rattle.analysis.specs.Gathered.{Lent, termsOf}
 use Rattle.analysis.specs.Stairs.{height, start, side, restW, aloneTerms, Row, Kept, Bounded, Settled}
-use Rattle.analysis.proofs.Fit.{alone-sound}
+use Rattle.analysis.proofs.Fit.{alone-sound, sideL-alone}
 
 -- w(q)'s right side is B + q × C'' and the rest
 sideW-parts : (r : Terms) (q x : ℕ) → sideW r q x ≡ r .B + q * r .own .C″ + restW r x
@@ -109,8 +109,7 @@ module _ (g : Gathered) (f : Row g) (L : ℕ) (b : busy (aloneTerms g) ≡ At L)
 
   -- L = B + Q × C'', and Q periods cover L: so C'' is no more than T
   alone-L : g .blocking + Q r L * g .cost ≡ L
-  unfolding sideL demand E sumOf
-  alone-L = omega (arith, busy-is-least r L .0 b .1 .fixed, zero-mul (g .hit))
+  alone-L = sym (sideL-alone g L) ∙ busy-is-least r L .0 b .1 .fixed
 
   alone-load : g .cost ≤ g .period
   alone-load =

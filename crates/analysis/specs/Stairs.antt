@@ -9,6 +9,7 @@ use Rattle.laws.specs.Search.{Least}
 use Rattle.bound.specs.Terms.{Terms}
 use Rattle.bound.specs.Bound.{demand, E}
 use Rattle.analysis.specs.declared.Gathered.{Gathered}
+use Rattle.analysis.specs.declared.Own.{Own}
 use Rattle.analysis.specs.Gathered.{Lent, gapAt, cost}
 
 abbrev pub stair : List ℕ → List ℕ → List ℕ → ℕ → ℕ → ℕ
@@ -38,10 +39,49 @@ pub record Edges (edges : List ℕ) (n : ℕ) : Type 0 where
   pub long : length edges ≡ most
   pub below : (k : ℕ) → k < n → getD edges k 0 < 2 ^ 34
 
+-- the first edge at or after x, or the edge itself where x has not passed it
+abbrev pub onward : ℕ → ℕ → ℕ → ℕ
+onward edge period x = edge + ceil (x - edge) period * period
+
+-- the stairs from `from` up to `to` went on to x, and the others stayed
+pub record Gone (periods edges next : List ℕ) (from to x : ℕ) : Type 0 where
+  pub long : length next ≡ length edges
+  pub gone : (k : ℕ) → from ≤ k → k < to → getD next k 0 ≡ onward (getD edges k 0) (getD periods k 0) x
+  pub front : (k : ℕ) → k < from → getD next k 0 ≡ getD edges k 0
+  pub waits : (k : ℕ) → to ≤ k → getD next k 0 ≡ getD edges k 0
+
+-- stairs stand in lots of eight: where the lot that starts at k ends, if there are n stairs
+abbrev pub lot : ℕ
+lot = 8
+
+abbrev pub lots : ℕ
+lots = 9
+
+pub record Ends (k n r : ℕ) : Type 0 where
+  pub after : k < r
+  pub within : r ≤ n
+  pub short : r ≤ k + lot
+  pub whole : r < n → r ≡ k + lot
+
+-- for each lot an edge that none of its own is before
+pub record Near (edges nearest : List ℕ) (n : ℕ) : Type 0 where
+  pub long : length nearest ≡ lots
+  pub before : (b k : ℕ) → b * lot ≤ k → k < b * lot + lot → k < n → getD nearest b 0 ≤ getD edges k 0
+
+-- lot b, which is from `from` up to `to`, has a new one, and the others stayed
+pub record Nearest (edges nearest next : List ℕ) (b from to : ℕ) : Type 0 where
+  pub long : length next ≡ length nearest
+  pub this : (k : ℕ) → from ≤ k → k < to → getD next b 0 ≤ getD edges k 0
+  pub others : (a : ℕ) → (a ≡ b → ⊥) → getD next a 0 ≡ getD nearest a 0
+
 -- the edges went on to x: the stairs' height from there on is what it was at x, and what the new edges give
 pub record Moved (costs periods edges next : List ℕ) (n x : ℕ) : Type 0 where
   pub known : Edges next n
   pub later : (y : ℕ) → x ≤ y → height costs periods edges n y ≡ height costs periods edges n x + height costs periods next n y
+
+-- i's own part of L's right side
+abbrev pub ownL : Gathered → ℕ → ℕ
+ownL g x = ceil (x + g .jitter) (g .period) * g .cost
 
 -- what the right sides of L and of w(q) have besides B and i's own part
 abbrev pub restL : Terms → ℕ → ℕ
@@ -60,6 +100,11 @@ pub record Laid (costs periods edges : List ℕ) (n : ℕ) (rest : ℕ → ℕ) 
 pub record Kept (costs periods edges : List ℕ) (n : ℕ) (rest : ℕ → ℕ) (x sum : ℕ) : Type 0 where
   pub known : Edges edges n
   pub later : (y : ℕ) → x ≤ y → sum + height costs periods edges n (y + start) ≡ rest y
+
+-- .. and the same of i's own stair
+pub record OwnKept (g : Gathered) (own : Own) (x : ℕ) : Type 0 where
+  pub below : own .edge < 2 ^ 34
+  pub later : (y : ℕ) → x ≤ y → own .sum + ceil (y + start - own .edge) (g .period) * g .cost ≡ ownL g y
 
 -- a right side whose rest is a sum and what the stairs rise by
 abbrev pub side : List ℕ → List ℕ → List ℕ → ℕ → ℕ → ℕ → ℕ → ℕ

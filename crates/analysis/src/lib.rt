@@ -5,7 +5,7 @@
 // searches of a row for w climb once. Nothing is assumed. This crate knows of terms alone, and must not know
 // of plans, labels or files. What it is lent it only reads.
 ghost use mathlib.Core.Path.{_≡_};
-ghost use Prim.Native.Nat.{ℕ, _+_, _-_, _*_, _^_, _≤_, _<_};
+ghost use Prim.Native.Nat.{ℕ, _+_, _-_, _*_, _^_, _≤_, _<_, min};
 ghost use lib.Dec.{leb};
 ghost use lib.ListN.{length, getD};
 ghost use lib.IntN.{pos, _-ℤ_};
@@ -32,6 +32,17 @@ pub const STAIRS: usize = STREAMS + SOURCES;
 
 // Time is counted from so long before a busy period that no edge of a stair is below zero.
 const START: u64 = 8589934592;
+
+// No edge comes so far.
+const FAR: u64 = 17179869184;
+
+// Stairs are looked at in lots: in a lot whose nearest edge is not passed none of them rises.
+const LOT: usize = 8;
+
+const LOTS: usize = STAIRS / LOT;
+
+// The least busy period there can be, where the chains for L start.
+const FIRST: u64 = 1;
 
 // A row's own terms. Costs, periods and jitters are lent beside them: first those of hp(i), `urgent` of them, and then
 // as many hits and gaps as there are noise sources.
@@ -79,62 +90,102 @@ fn risen(x: u64, edge: u64, period: u64) -> u64
     if edge < x { 1 } else { 0 }
 }
 
-// One evaluation: `sum` and what the stairs rise by up to x; each edge goes on to the last one before the next rise.
+// What is left when a lot was gone through: the sum, and an edge that none of its own is before.
+struct Lot {
+    total: u64,
+    nearest: u64,
+}
+
+fn nearer(a: u64, b: u64) -> u64
+    ensures { λ r. ⌜ r ≡ min a b ⌝ }
+{
+    if a < b { a } else { b }
+}
+
+// The stairs from `from` up to `to` go on to x: `sum` and what they rise by; each edge goes on to the last one before the next rise.
+fn through(
+    x: u64,
+    from: usize,
+    to: usize,
+    costs: &[u64; STAIRS],
+    periods: &[u64; STAIRS],
+    edges: &mut [u64; STAIRS],
+    sum: u64,
+) -> Lot
+    requires { ⌜ (from ≤ to) × (stairs.Stairs (now costs) (now periods) to) × (stairs.Edges (now edges) to) × (x ≤ stairs.latest) × (sum + stairs.height (now costs) (now periods) (now edges) to x < 2 ^ 64 + stairs.height (now costs) (now periods) (now edges) from x) ⌝ }
+    ensures { λ r. ⌜ (r .total + stairs.height (now (costs .entry)) (now (periods .entry)) (now (edges .entry)) from x ≡ sum + stairs.height (now (costs .entry)) (now (periods .entry)) (now (edges .entry)) to x) × (stairs.Gone (now (periods .entry)) (now (edges .entry)) (now (edges .exit)) from to x) × ((k : ℕ) → from ≤ k → k < to → r .nearest ≤ getD (now (edges .exit)) k 0) ⌝ }
+{
+    let mut total = sum;
+    let mut nearest = FAR;
+    let mut k = from;
+    while k < to {
+        let edge = edges[k];
+        let period = periods[k];
+        let d = risen(x, edge, period);
+        let next = edge + d * period;
+        edges[k] = next;
+        total += d * costs[k];
+        nearest = nearer(nearest, next);
+        k += 1;
+    }
+    Lot { total, nearest }
+}
+
+// Lot b goes on to x. Where its nearest edge is not passed none of its stairs rises, and it is not looked at.
+fn climbed_lot(
+    x: u64,
+    b: usize,
+    from: usize,
+    to: usize,
+    costs: &[u64; STAIRS],
+    periods: &[u64; STAIRS],
+    edges: &mut [u64; STAIRS],
+    nearest: &mut [u64; LOTS],
+    sum: u64,
+) -> u64
+    requires { ⌜ (from ≤ to) × (stairs.Stairs (now costs) (now periods) to) × (stairs.Edges (now edges) to) × (x ≤ stairs.latest) × (sum + stairs.height (now costs) (now periods) (now edges) to x < 2 ^ 64 + stairs.height (now costs) (now periods) (now edges) from x) × (b < length (now nearest)) × (length (now nearest) ≡ stairs.lots) × ((k : ℕ) → from ≤ k → k < to → getD (now nearest) b 0 ≤ getD (now edges) k 0) ⌝ }
+    ensures { λ r. ⌜ (r + stairs.height (now (costs .entry)) (now (periods .entry)) (now (edges .entry)) from x ≡ sum + stairs.height (now (costs .entry)) (now (periods .entry)) (now (edges .entry)) to x) × (stairs.Gone (now (periods .entry)) (now (edges .entry)) (now (edges .exit)) from to x) × (stairs.Nearest (now (edges .exit)) (now (nearest .entry)) (now (nearest .exit)) b from to) ⌝ }
+{
+    if x <= nearest[b] {
+        return sum;
+    }
+    let lot = through(x, from, to, costs, periods, edges, sum);
+    nearest[b] = lot.nearest;
+    lot.total
+}
+
+// Where the lot that starts at k ends.
+fn lot_end(k: usize, n: usize) -> usize
+    requires { ⌜ (k < n) × (n ≤ stairs.most) ⌝ }
+    ensures { λ r. ⌜ stairs.Ends k n r ⌝ }
+{
+    let end = k + LOT;
+    if n < end { n } else { end }
+}
+
+// One evaluation: `sum` and what the stairs rise by up to x.
 fn climbed(
     x: u64,
     n: usize,
     costs: &[u64; STAIRS],
     periods: &[u64; STAIRS],
     edges: &mut [u64; STAIRS],
+    nearest: &mut [u64; LOTS],
     sum: u64,
 ) -> u64
-    requires { ⌜ (stairs.Stairs (now costs) (now periods) n) × (stairs.Edges (now edges) n) × (x ≤ stairs.latest) × (sum + stairs.height (now costs) (now periods) (now edges) n x < 2 ^ 64) ⌝ }
-    ensures { λ r. ⌜ (r ≡ sum + stairs.height (now (costs .entry)) (now (periods .entry)) (now (edges .entry)) n x) × stairs.Moved (now (costs .entry)) (now (periods .entry)) (now (edges .entry)) (now (edges .exit)) n x ⌝ }
+    requires { ⌜ (stairs.Stairs (now costs) (now periods) n) × (stairs.Edges (now edges) n) × (stairs.Near (now edges) (now nearest) n) × (x ≤ stairs.latest) × (sum + stairs.height (now costs) (now periods) (now edges) n x < 2 ^ 64) ⌝ }
+    ensures { λ r. ⌜ (r ≡ sum + stairs.height (now (costs .entry)) (now (periods .entry)) (now (edges .entry)) n x) × (stairs.Moved (now (costs .entry)) (now (periods .entry)) (now (edges .entry)) (now (edges .exit)) n x) × stairs.Near (now (edges .exit)) (now (nearest .exit)) n ⌝ }
 {
     let mut total = sum;
     let mut k: usize = 0;
+    let mut b: usize = 0;
     while k < n {
-        let edge = edges[k];
-        let period = periods[k];
-        let d = risen(x, edge, period);
-        edges[k] = edge + d * period;
-        total += d * costs[k];
-        k += 1;
+        let to = lot_end(k, n);
+        total = climbed_lot(x, b, k, to, costs, periods, edges, nearest, total);
+        k = to;
+        b += 1;
     }
     total
-}
-
-// Whether no stair rises up to x.
-fn stand_still(x: u64, n: usize, edges: &[u64; STAIRS]) -> bool
-    requires { ⌜ n ≤ stairs.most ⌝ }
-    ensures { λ r. ⌜ r ≡ every n (λ k. leb x (getD (now (edges .entry)) k 0)) ⌝ }
-{
-    let mut k: usize = 0;
-    while k < n {
-        if edges[k] < x {
-            return false;
-        }
-        k += 1;
-    }
-    true
-}
-
-// The same evaluation, with the edges only looked at where no stair rises, as at most turns of a long chain.
-fn climbed_if_any(
-    x: u64,
-    n: usize,
-    costs: &[u64; STAIRS],
-    periods: &[u64; STAIRS],
-    edges: &mut [u64; STAIRS],
-    sum: u64,
-) -> u64
-    requires { ⌜ (stairs.Stairs (now costs) (now periods) n) × (stairs.Edges (now edges) n) × (x ≤ stairs.latest) × (sum + stairs.height (now costs) (now periods) (now edges) n x < 2 ^ 64) ⌝ }
-    ensures { λ r. ⌜ (r ≡ sum + stairs.height (now (costs .entry)) (now (periods .entry)) (now (edges .entry)) n x) × stairs.Moved (now (costs .entry)) (now (periods .entry)) (now (edges .entry)) (now (edges .exit)) n x ⌝ }
-{
-    if stand_still(x, n, edges) {
-        return sum;
-    }
-    climbed(x, n, costs, periods, edges, sum)
 }
 
 // Where the stairs start: a stream's `jitter` and `late` before time's start, ..
@@ -176,7 +227,50 @@ fn start_edges(
     start_sources(urgent, n, window, edges);
 }
 
-// L: the chain from 1, one evaluation of the right side a turn. i's own stair is kept in numbers of its own.
+// i's own stair: its edge, and how high it is up to there.
+struct Own {
+    edge: u64,
+    sum: u64,
+}
+
+fn own_start(g: Gathered) -> Own
+    requires { ⌜ stairs.Row g ⌝ }
+    ensures { λ r. ⌜ stairs.OwnKept g r 0 ⌝ }
+{
+    let edge = START - g.jitter;
+    Own { edge, sum: 0 }
+}
+
+// .. and at x, with its edge gone on.
+fn own_on(g: Gathered, own: Own, x: u64) -> Own
+    requires { ⌜ (stairs.Row g) × (x ≤ ticks) × stairs.OwnKept g own x ⌝ }
+    ensures { λ r. ⌜ (r .sum ≡ stairs.ownL g x) × stairs.OwnKept g r x ⌝ }
+{
+    let d = passed(x + START, own.edge, g.period);
+    let edge = own.edge + d * g.period;
+    let sum = own.sum + d * g.cost;
+    Own { edge, sum }
+}
+
+// L where nobody else is on the channel: the chain from 1, with i's own stair alone.
+fn busy_alone(g: Gathered) -> Found
+    requires { ⌜ stairs.Row g ⌝ }
+    ensures { λ r. ⌜ r ≡ rule.busy (stairs.aloneTerms g) ⌝ }
+{
+    let mut own = own_start(g);
+    let mut x = FIRST;
+    while x <= TICKS {
+        own = own_on(g, own, x);
+        let y = g.blocking + own.sum;
+        if y == x {
+            return Found::At(x);
+        }
+        x = y;
+    }
+    Found::Nothing
+}
+
+// L: the chain from 1, one evaluation of the right side a turn. The stairs come before i's own: measured, that is faster.
 fn busy_period<'a>(
     g: Gathered,
     costs: &'a [u64; STAIRS],
@@ -189,16 +283,14 @@ fn busy_period<'a>(
 {
     let n = g.urgent + g.sources;
     start_edges(jitters, g.urgent, n, 0, 0, edges);
-    let mut edge = START - g.jitter;
-    let mut own: u64 = 0;
+    let mut nearest = [0; LOTS];
+    let mut own = own_start(g);
     let mut rest: u64 = 0;
-    let mut x: u64 = 1;
+    let mut x = FIRST;
     while x <= TICKS {
-        let d = passed(x + START, edge, g.period);
-        edge += d * g.period;
-        own += d * g.cost;
-        rest = climbed_if_any(x + START, n, costs, periods, edges, rest);
-        let y = g.blocking + own + rest;
+        rest = climbed(x + START, n, costs, periods, edges, &mut nearest, rest);
+        own = own_on(g, own, x);
+        let y = g.blocking + own.sum + rest;
         if y == x {
             return Found::At(x);
         }
@@ -216,14 +308,15 @@ fn settled(
     costs: &[u64; STAIRS],
     periods: &[u64; STAIRS],
     edges: &mut [u64; STAIRS],
+    nearest: &mut [u64; LOTS],
 ) -> u64
-    requires { ⌜ (stairs.Stairs (now costs) (now periods) n) × (stairs.Edges (now edges) n) × stairs.Bounded (stairs.side (now costs) (now periods) (now edges) n base sum) from ⌝ }
-    ensures { λ r. ⌜ stairs.Settled (now (costs .entry)) (now (periods .entry)) (now (edges .entry)) (now (edges .exit)) n base sum from r ⌝ }
+    requires { ⌜ (stairs.Stairs (now costs) (now periods) n) × (stairs.Edges (now edges) n) × (stairs.Near (now edges) (now nearest) n) × stairs.Bounded (stairs.side (now costs) (now periods) (now edges) n base sum) from ⌝ }
+    ensures { λ r. ⌜ (stairs.Settled (now (costs .entry)) (now (periods .entry)) (now (edges .entry)) (now (edges .exit)) n base sum from r) × stairs.Near (now (edges .exit)) (now (nearest .exit)) n ⌝ }
 {
     let mut x = from;
     let mut total = sum;
     loop {
-        total = climbed_if_any(x + START, n, costs, periods, edges, total);
+        total = climbed(x + START, n, costs, periods, edges, nearest, total);
         let y = base + total;
         if y == x {
             return x;
@@ -273,13 +366,23 @@ fn largest_term<'a>(
     let ends = g.jitter + g.last;
     let cost = g.cost;
     let mut base = g.blocking;
-    let mut wait = settled(base, 0, 0, n, costs, periods, edges);
+    let mut nearest = [0; LOTS];
+    let mut wait = settled(base, 0, 0, n, costs, periods, edges, &mut nearest);
     let mut best = term(ends + wait, 0);
     let mut q: u64 = 0;
     while q + 1 < count {
         let sum = wait - base;
         base += cost;
-        wait = settled(base, wait + cost, sum, n, costs, periods, edges);
+        wait = settled(
+            base,
+            wait + cost,
+            sum,
+            n,
+            costs,
+            periods,
+            edges,
+            &mut nearest,
+        );
         q += 1;
         best = larger(best, term(ends + wait, q * g.period));
     }
@@ -404,27 +507,40 @@ fn within<'a>(
     sources_fit(g.hit, urgent, sources, costs, periods)
 }
 
-// The largest term. Where the row has no stair it is the first: an instance then waits for B alone, or for those of its own before it, and
-// these go faster than new ones come, or there were no busy period.
-fn bound_of<'a>(
-    g: Gathered,
-    l: u64,
-    costs: &'a [u64; STAIRS],
-    periods: &'a [u64; STAIRS],
-    jitters: &'a [u64; STREAMS],
-    edges: &mut [u64; STAIRS],
-) -> u64
-    requires { ⌜ (stairs.Fit (lent g (now costs) (now periods) (now jitters))) × (rule.busy (termsOf (lent g (now costs) (now periods) (now jitters))) ≡ At l) × (length (now edges) ≡ stairs.most) ⌝ }
-    ensures { λ r. ⌜ r ≡ rule.bound (termsOf (lent g (now (costs .entry)) (now (periods .entry)) (now (jitters .entry)))) l ⌝ }
+fn judged(bound: u64, deadline: u64) -> Answer
+    ensures { λ r. ⌜ r ≡ record { verdict = rule.verdict bound deadline; bound = bound } ⌝ }
 {
-    if g.urgent + g.sources == 0 {
-        return g.jitter + g.blocking + g.last;
+    if bound <= deadline {
+        Answer {
+            verdict: Verdict::Met,
+            bound,
+        }
+    } else {
+        Answer {
+            verdict: Verdict::Missed,
+            bound,
+        }
     }
-    largest_term(g, l, costs, periods, jitters, edges)
 }
 
-// The answer of terms that are within the limits.
-fn inside<'a>(
+// The answer where nobody else is on the channel. The largest term is the first: an instance then waits for B alone, or for those
+// of its own before it, and these go faster than new ones come, or there were no busy period.
+fn alone(g: Gathered, deadline: u64) -> Answer
+    requires { ⌜ stairs.Row g ⌝ }
+    ensures { λ r. ⌜ r ≡ rule.answer (stairs.aloneTerms g) deadline ⌝ }
+{
+    let found = busy_alone(g);
+    let Found::At(_) = found else {
+        return Answer {
+            verdict: Verdict::None,
+            bound: 0,
+        };
+    };
+    judged(g.jitter + g.blocking + g.last, deadline)
+}
+
+// The answer among other streams and noise sources.
+fn among<'a>(
     g: Gathered,
     costs: &'a [u64; STAIRS],
     periods: &'a [u64; STAIRS],
@@ -442,18 +558,25 @@ fn inside<'a>(
             bound: 0,
         };
     };
-    let bound = bound_of(g, l, costs, periods, jitters, &mut edges);
-    if bound <= deadline {
-        Answer {
-            verdict: Verdict::Met,
-            bound,
-        }
-    } else {
-        Answer {
-            verdict: Verdict::Missed,
-            bound,
-        }
+    let bound = largest_term(g, l, costs, periods, jitters, &mut edges);
+    judged(bound, deadline)
+}
+
+// The answer of terms that are within the limits.
+fn inside<'a>(
+    g: Gathered,
+    costs: &'a [u64; STAIRS],
+    periods: &'a [u64; STAIRS],
+    jitters: &'a [u64; STREAMS],
+    deadline: u64,
+) -> Answer
+    requires { ⌜ stairs.Fit (lent g (now costs) (now periods) (now jitters)) ⌝ }
+    ensures { λ r. ⌜ r ≡ rule.answer (termsOf (lent g (now (costs .entry)) (now (periods .entry)) (now (jitters .entry)))) deadline ⌝ }
+{
+    if g.urgent + g.sources == 0 {
+        return alone(g, deadline);
     }
+    among(g, costs, periods, jitters, deadline)
 }
 
 // The answer of a row's terms for a deadline.

@@ -1,28 +1,28 @@
--- The chain from 1: each turn adds up i's own part and the rest, which is L's right side at x. It stands still at the least positive L, or passes the limit.
+-- The chain from 1: each turn adds up the rest and i's own part, which is L's right side at x. It stands still at the least positive L, or passes the limit.
 use borrow.Author.Needs.{needs}
 use mathlib.Core.Path.{_≡_, sym, ap, _∙_}
-use Prim.Native.Nat.{_+_, _-_, _*_, _^_, _≤_, _<_}
+use Prim.Native.Nat.{_+_, _-_, _^_, _<_}
 use native.Mathlib.Nat.{add-zero}
 use native.Mathlib.Omega.{arith}
 use Rattle.names.specs.Limits.{ticks}
-use Rattle.laws.specs.Lists.{ceil}
 use Rattle.laws.proofs.Chain.{Climb, climb-start, climb-more, climb-found, climb-none}
 use Rattle.bound.specs.Bound.{demand, E, sideL, busy}
-use Rattle.bound.proofs.Sides.{sideL-mono, sideL-pos, demand-own}
+use Rattle.bound.proofs.Sides.{sideL-mono, sideL-pos}
 use Rattle.analysis.specs.Gathered.{Lent, lent, termsOf}
-use Rattle.analysis.specs.Stairs.{height, start, restL, Laid, Kept}
-use Rattle.analysis.proofs.Kept.{kept-start, kept-now, kept-on, kept-up, Own, own-start, own-now, own-on, own-up}
+use Rattle.analysis.specs.Stairs.{ownL, restL, Near, Laid, Kept, OwnKept}
+use Rattle.analysis.proofs.Stairs.{near-start}
+use Rattle.analysis.proofs.Kept.{kept-start, kept-now, kept-on, kept-up, own-up}
 use Rattle.analysis.proofs.Fit.{fit-sound, sideL-fits, sideL-parts}
 use Rattle.analysis.proofs.Laying.{laid}
 use Rattle.analysis.proofs.busy_period.Statement.{statement}
 use Rattle.analysis.proofs.busy_period.Tie as tie
 
 abbrev Inv-loop : tie.InvT-loop
-Inv-loop g costs periods jitters edges₀ n edge₀ own₀ rest₀ x₀ edges edge own rest x =
-    Climb (sideL (termsOf (lent g costs periods jitters))) 1 x × Own (g .cost) (g .period) (g .jitter) edge x own × Kept costs periods edges n (restL (termsOf (lent g costs periods jitters))) x rest
+Inv-loop g costs periods jitters edges₀ n nearest₀ own₀ rest₀ x₀ edges nearest own rest x =
+    Climb (sideL (termsOf (lent g costs periods jitters))) 1 x × OwnKept g own x × Kept costs periods edges n (restL (termsOf (lent g costs periods jitters))) x rest × Near edges nearest n
 
 abbrev μ-loop : tie.MeasureT-loop
-μ-loop g costs periods jitters edges₀ n edge₀ own₀ rest₀ x₀ edges edge own rest x = 2 ^ 32 - x
+μ-loop g costs periods jitters edges₀ n nearest₀ own₀ rest₀ x₀ edges nearest own rest x = 2 ^ 32 - x
 
 abbrev given : tie.Start Inv-loop μ-loop → Lent
 given s = lent (s .args .g) (s .args .costs .now) (s .args .periods .now) (s .args .jitters .now)
@@ -49,114 +49,93 @@ started c =
     let r = termsOf (given (entry c)) in
     laid (given (entry c)) (entry c .pre .0) 0 0 (omega arith) (omega arith) _ (c .start-edges .ensures) (restL r) (λ x. ap (λ z. demand (r .urgent) z + E r z) (add-zero x))
 
-sub-edge : tie.Need-sub-edge Inv-loop μ-loop
-sub-edge c = omega (arith, entry (c .before) .pre .0 .row .own .jitter)
+own-start-requires : tie.Need-own-start-requires Inv-loop μ-loop
+own-start-requires c κs = entry c .pre .0 .row
 
 loop-holds : tie.Need-loop-holds Inv-loop μ-loop
 loop-holds c =
-    let f = entry (c .before) .pre .0 in
-    (climb-start _ 1 (sideL-pos _ (fit-sound (given (entry (c .before))) (f .row))), own-start _ _ _ 1 (f .row .own .jitter), kept-start _ _ _ _ _ 1 (started (c .before)))
-
-add-passed : tie.Need-add-passed Inv-loop μ-loop
-add-passed c = search needs
-
-passed-requires : tie.Need-passed-requires Inv-loop μ-loop
-passed-requires c κs =
-    let o = begun (c .before) .pre .0 .row .own in
-    (o .some, o .period, omega arith)
-
--- i's own part at x, and the edge after it
-mine : (c : tie.After-passed Inv-loop μ-loop)
-    → let g = begun (c .before .before) .args .g in
-    c .before .before .loop .own + c .passed .result * g .cost ≡ ceil (c .before .before .loop .x + g .jitter) (g .period) * g .cost
-mine c = own-now _ _ _ _ _ _ _ (c .passed .ensures) (c .before .before .loop .inv .1)
-
-on : (c : tie.After-passed Inv-loop μ-loop)
-    → let g = begun (c .before .before) .args .g in
-    Own (g .cost) (g .period) (g .jitter) (c .before .before .loop .edge + c .passed .result * g .period) (c .before .before .loop .x) (c .before .before .loop .own + c .passed .result * g .cost)
-on c =
-    let o = begun (c .before .before) .pre .0 .row .own in
-    own-on _ _ _ _ _ _ _ (c .passed .ensures) (o .some) (o .period) (c .before .loop-test .taken) (c .before .before .loop .inv .1)
+    let s = entry (c .before) in
+    (climb-start _ 1 (sideL-pos _ (fit-sound (given s) (s .pre .0 .row))), own-up _ _ 0 1 (omega arith) (c .own-start .ensures), kept-start _ _ _ _ _ 1 (started (c .before)), near-start _ _ (started (c .before) .stairs .few))
 
 -- the right side at x fits, and with it each of its parts
-room : (c : tie.After-passed Inv-loop μ-loop)
-    → let g = begun (c .before .before) .args .g in
-    g .blocking + (c .before .before .loop .own + c .passed .result * g .cost) + restL (termsOf (given (begun (c .before .before)))) (c .before .before .loop .x) < 2 ^ 64
+room : (c : tie.In-loop Inv-loop μ-loop)
+    → let t = given (begun (c .before)) in
+    t .row .blocking + ownL (t .row) (c .before .loop .x) + restL (termsOf t) (c .before .loop .x) < 2 ^ 64
 room c =
-    let s = begun (c .before .before) in
-    let x = c .before .before .loop .x in
-    omega (arith, mine c, sideL-parts (given s) x, sideL-fits (given s) (s .pre .0) x (c .before .loop-test .taken))
+    let s = begun (c .before) in
+    let x = c .before .loop .x in
+    omega (arith, sideL-parts (given s) x, sideL-fits (given s) (s .pre .0) x (c .loop-test .taken))
 
-mul-edge : tie.Need-mul-edge Inv-loop μ-loop
-mul-edge c = omega (arith, on (c .before) .below)
+add-climbed : tie.Need-add-climbed Inv-loop μ-loop
+add-climbed c = search needs
 
-add-edge : tie.Need-add-edge Inv-loop μ-loop
-add-edge c = omega (arith, on (c .before) .below)
-
-mul-own : tie.Need-mul-own Inv-loop μ-loop
-mul-own c = omega (arith, room (c .before .before))
-
-add-own : tie.Need-add-own Inv-loop μ-loop
-add-own c = omega (arith, room (c .before .before))
-
-add-climbed-if-any : tie.Need-add-climbed-if-any Inv-loop μ-loop
-add-climbed-if-any c = search needs
-
-climbed-if-any-requires : tie.Need-climbed-if-any-requires Inv-loop μ-loop
-climbed-if-any-requires c κs =
-    let p = c .before .before .before in
-    let l = p .before .before in
+climbed-requires : tie.Need-climbed-requires Inv-loop μ-loop
+climbed-requires c κs =
+    let d = c .before .before in
+    let l = d .before in
     let k = l .loop .inv .2 in
-    (started (l .before .before) .stairs, k .known, omega (arith, p .before .loop-test .taken), omega (arith, room p, kept-now _ _ _ _ _ _ _ k))
+    (started (l .before .before) .stairs, k .known, l .loop .inv .3, omega (arith, d .loop-test .taken), omega (arith, room d, kept-now _ _ _ _ _ _ _ k))
 
--- the turn's passing and the loop, seen from the evaluation
-abbrev turn : tie.After-climbed-if-any Inv-loop μ-loop → tie.After-passed Inv-loop μ-loop
-turn c = c .before .before .before .before
+-- the turn and the loop, seen from the evaluation of the stairs
+abbrev turn : tie.After-climbed Inv-loop μ-loop → tie.In-loop Inv-loop μ-loop
+turn c = c .before .before .before
 
-abbrev round : tie.After-climbed-if-any Inv-loop μ-loop → tie.At-loop Inv-loop μ-loop
-round c = turn c .before .before
+abbrev round : tie.After-climbed Inv-loop μ-loop → tie.At-loop Inv-loop μ-loop
+round c = turn c .before
 
--- the rest at x, and the evaluation is L's right side there
-theirs : (c : tie.After-climbed-if-any Inv-loop μ-loop) → c .climbed-if-any .result ≡ restL (termsOf (given (begun (round c)))) (round c .loop .x)
-theirs c = c .climbed-if-any .ensures .0 ∙ kept-now _ _ _ _ _ _ _ (round c .loop .inv .2)
+-- the rest at x, and the edges after it
+theirs : (c : tie.After-climbed Inv-loop μ-loop) → c .climbed .result ≡ restL (termsOf (given (begun (round c)))) (round c .loop .x)
+theirs c = c .climbed .ensures .0 ∙ kept-now _ _ _ _ _ _ _ (round c .loop .inv .2)
 
-evaluated : (c : tie.After-climbed-if-any Inv-loop μ-loop)
-    → let g = begun (round c) .args .g in
-    g .blocking + (round c .loop .own + turn c .passed .result * g .cost) + c .climbed-if-any .result ≡ sideL (termsOf (given (begun (round c)))) (round c .loop .x)
-evaluated c = omega (arith, mine (turn c), theirs c, sideL-parts (given (begun (round c))) (round c .loop .x))
-
--- .. and the edges after it
-came : (c : tie.After-climbed-if-any Inv-loop μ-loop)
+came : (c : tie.After-climbed Inv-loop μ-loop)
     → let t = given (begun (round c)) in
-    Kept (t .costs) (t .periods) (c .climbed-if-any .last .1 .1 .1 .1 .0) (t .row .urgent + t .row .sources) (restL (termsOf t)) (round c .loop .x) (c .climbed-if-any .result)
-came c = kept-on _ _ _ _ _ _ _ _ _ (c .climbed-if-any .ensures .0) (c .climbed-if-any .ensures .1) (round c .loop .inv .2)
+    Kept (t .costs) (t .periods) (c .climbed .last .1 .1 .1 .1 .0) (t .row .urgent + t .row .sources) (restL (termsOf t)) (round c .loop .x) (c .climbed .result)
+came c = kept-on _ _ _ _ _ _ _ _ _ (c .climbed .ensures .0) (c .climbed .ensures .1) (round c .loop .inv .2)
+
+own-on-requires : tie.Need-own-on-requires Inv-loop μ-loop
+own-on-requires c κs = (begun (round c) .pre .0 .row, turn c .loop-test .taken, round c .loop .inv .1)
 
 add-y : tie.Need-add-y Inv-loop μ-loop
-add-y c = omega (arith, room (turn (c .before)))
+add-y c =
+    let d = c .before .before in
+    omega (arith, room (turn (d .before)), d .own-on .ensures .0)
 
 add-y-2 : tie.Need-add-y-2 Inv-loop μ-loop
-add-y-2 c = omega (arith, room (turn (c .before)), theirs (c .before))
+add-y-2 c =
+    let d = c .before .before in
+    omega (arith, room (turn (d .before)), d .own-on .ensures .0, theirs (d .before))
+
+-- the evaluation is L's right side at x
+evaluated : (c : tie.After-own-on Inv-loop μ-loop)
+    → let t = given (begun (round (c .before))) in
+    t .row .blocking + c .own-on .result .sum + c .before .climbed .result ≡ sideL (termsOf t) (round (c .before) .loop .x)
+evaluated c =
+    let d = c .before in
+    omega (arith, c .own-on .ensures .0, theirs d, sideL-parts (given (begun (round d))) (round d .loop .x))
 
 returns : tie.Need-returns Inv-loop μ-loop
 unfolding busy
 returns c =
-    let d = c .before .before in (
-      sym (climb-found _ 1 ticks _ _ (evaluated d) (c .if1 .taken) (omega (arith, turn d .before .loop-test .taken)) (round d .loop .inv .0)),
+    let o = c .before .before .before in
+    let d = o .before in (
+      sym (climb-found _ 1 ticks _ _ (evaluated o) (c .if1 .taken) (omega (arith, turn d .loop-test .taken)) (round d .loop .inv .0)),
       came d .known .long,
     )
 
 loop-less : tie.Need-loop-less Inv-loop μ-loop
 loop-less c =
-    let d = c .before .before in
-    omega (arith, evaluated d, round d .loop .inv .0 .rises, turn d .before .loop-test .taken, c .if1 .left)
+    let o = c .before .before .before in
+    let d = o .before in
+    omega (arith, evaluated o, round d .loop .inv .0 .rises, turn d .loop-test .taken, c .if1 .left)
 
 loop-again : tie.Need-loop-again Inv-loop μ-loop
 loop-again c =
-    let d = c .before .before in
-    let i = round d .loop .inv in (
-      climb-more _ (sideL-mono _) 1 _ _ (evaluated d) (i .0),
-      own-up _ _ _ _ _ _ _ (omega (arith, evaluated d, i .0 .rises)) (on (turn d)),
-      kept-up _ _ _ _ _ _ _ _ (omega (arith, evaluated d, i .0 .rises)) (came d),
+    let o = c .before .before .before in
+    let i = round (o .before) .loop .inv in (
+      climb-more _ (sideL-mono _) 1 _ _ (evaluated o) (i .0),
+      own-up _ _ _ _ (omega (arith, evaluated o, i .0 .rises)) (o .own-on .ensures .1),
+      kept-up _ _ _ _ _ _ _ _ (omega (arith, evaluated o, i .0 .rises)) (came (o .before)),
+      o .before .climbed .ensures .2,
     )
 
 returns-2 : tie.Need-returns-2 Inv-loop μ-loop
@@ -171,16 +150,11 @@ busy-period-spec =
     μ-loop
     add-n
     start-edges-requires
-    sub-edge
+    own-start-requires
     loop-holds
-    add-passed
-    passed-requires
-    mul-edge
-    add-edge
-    mul-own
-    add-own
-    add-climbed-if-any
-    climbed-if-any-requires
+    add-climbed
+    climbed-requires
+    own-on-requires
     add-y
     add-y-2
     returns

@@ -1,57 +1,30 @@
--- The two searches find what the rule says, and the last test is the verdict's.
+-- With no stair the terms are those of a row alone on the channel.
 use borrow.Author.Needs.{needs}
-use mathlib.Core.Path.{_≡_, refl, sym, _∙_}
-use Rattle.laws.specs.declared.Found.the-variants.{At}
-use Rattle.bound.specs.Bound.{busy}
-use Rattle.bound.proofs.Answers.{answer-none, answer-bound, met, missed}
-use Rattle.analysis.specs.Gathered.{Lent, lent, termsOf}
+use mathlib.Core.Path.{sym, ap, _∙_}
+use native.Mathlib.Omega.{arith}
+use Rattle.bound.specs.Bound.{answer}
+use Rattle.analysis.specs.Gathered.{lent}
+use Rattle.analysis.proofs.Waits.{alone-terms}
 use Rattle.analysis.proofs.inside.Statement.{statement}
 use Rattle.analysis.proofs.inside.Tie as tie
 
--- what is lent to the function, seen from the first search
-abbrev given : tie.After-busy-period → Lent
-given c = let a = c .before .before .args in lent (a .g) (a .costs .now) (a .periods .now) (a .jitters .now)
+add-if1 : tie.Need-add-if1
+add-if1 c = search needs
 
-busy-period-requires : tie.Need-busy-period-requires
-busy-period-requires c κs = (c .before .pre, refl)
-
-enum-known-found : tie.Need-enum-known-found
-enum-known-found c = search needs
-
-enum-told : tie.Need-enum-told
-enum-told c = search needs
+alone-requires : tie.Need-alone-requires
+alone-requires c κs = search needs
 
 returns : tie.Need-returns
-returns c = answer-none _ _ (sym (c .before .before .busy-period .ensures .0) ∙ c .enum-told .given .1)
+returns c =
+    let a = c .before .before .before .args in
+    let none = c .before .if1 .taken in
+    c .alone .ensures ∙ ap (λ r. answer r (a .deadline)) (sym (alone-terms (lent (a .g) (a .costs .now) (a .periods .now) (a .jitters .now)) (omega (arith, none)) (omega (arith, none))))
 
--- the busy period that was found
-found : (c : tie.After-found) → busy (termsOf (given (c .before .before))) ≡ At (c .found .given .0 .0)
-found c = sym (c .before .before .busy-period .ensures .0) ∙ c .found .given .1
-
-bound-of-requires : tie.Need-bound-of-requires
-bound-of-requires c κs =
-    let d = c .before .before in
-    let b = d .before .before in
-    (b .before .before .pre, found d, b .busy-period .ensures .1)
+among-requires : tie.Need-among-requires
+among-requires c κs = search needs
 
 returns-2 : tie.Need-returns-2
-returns-2 c =
-    let d = c .before .before .before .before in
-    answer-bound _ _ _ _ _ (found d) (c .before .bound-of .ensures) (met (termsOf (given (d .before .before))) _ _ (c .if1 .taken))
-
-returns-3 : tie.Need-returns-3
-returns-3 c =
-    let d = c .before .before .before .before in
-    answer-bound _ _ _ _ _ (found d) (c .before .bound-of .ensures) (missed (termsOf (given (d .before .before))) _ _ (c .if1 .left))
+returns-2 c = search needs
 
 pub inside-spec : {M : Type 1} → statement M
-inside-spec =
-    tie.close
-    (tie.spec
-    busy-period-requires
-    enum-known-found
-    enum-told
-    returns
-    bound-of-requires
-    returns-2
-    returns-3)
+inside-spec = tie.close (tie.spec add-if1 alone-requires returns among-requires returns-2)

@@ -18,7 +18,8 @@ use Rattle.bound.specs.Claims.{Sound}
 use Rattle.bound.proofs.Sides.{busy-is-least}
 use Rattle.bound.proofs.Largest.{some-instance, largest-pos}
 use Rattle.analysis.specs.Gathered.{Lent, lent, termsOf}
-use Rattle.analysis.specs.Stairs.{restW, Laid, Kept}
+use Rattle.analysis.specs.Stairs.{restW, Near, Laid, Kept}
+use Rattle.analysis.proofs.Stairs.{near-start}
 use Rattle.analysis.proofs.Kept.{kept-start}
 use Rattle.analysis.proofs.Fit.{fit-sound}
 use Rattle.analysis.proofs.Laying.{laid}
@@ -27,12 +28,12 @@ use Rattle.analysis.proofs.largest_term.Statement.{statement}
 use Rattle.analysis.proofs.largest_term.Tie as tie
 
 abbrev Inv-loop : tie.InvT-loop
-Inv-loop g l costs periods jitters edges₀ n count ends cost base₀ wait₀ best₀ q₀ edges base wait best q =
+Inv-loop g l costs periods jitters edges₀ n count ends cost base₀ nearest₀ wait₀ best₀ q₀ edges base nearest wait best q =
     (q < count) × (base ≡ g .blocking + q * g .cost) × (wait ≡ rule.w (termsOf (lent g costs periods jitters)) q) × Kept costs periods edges n (restW (termsOf (lent g costs periods jitters))) wait (wait - base)
-    × (toZ w64 best ≡ largestTo (rule.term (termsOf (lent g costs periods jitters))) q) × Fits w64 best
+    × (toZ w64 best ≡ largestTo (rule.term (termsOf (lent g costs periods jitters))) q) × Fits w64 best × Near edges nearest n
 
 abbrev μ-loop : tie.MeasureT-loop
-μ-loop g l costs periods jitters edges₀ n count ends cost base₀ wait₀ best₀ q₀ edges base wait best q = count - q
+μ-loop g l costs periods jitters edges₀ n count ends cost base₀ nearest₀ wait₀ best₀ q₀ edges base nearest wait best q = count - q
 
 -- what is lent to the function, its terms, and that the theory's conditions hold
 abbrev given : tie.Start Inv-loop μ-loop → Lent
@@ -49,14 +50,14 @@ abbrev entry : tie.After-start-edges Inv-loop μ-loop → tie.Start Inv-loop μ-
 entry c = c .before .before .before .before
 
 abbrev edged : tie.After-settled Inv-loop μ-loop → tie.After-start-edges Inv-loop μ-loop
-edged c = c .before .before .before .before
+edged c = c .before .before .before .before .before
 
 abbrev begun : tie.At-loop Inv-loop μ-loop → tie.Start Inv-loop μ-loop
 begun c = entry (edged (c .before .before))
 
 -- how many instances there are, as counted
-counted : (c : tie.At-loop Inv-loop μ-loop) → (c .before .before .before .before .before .instances .result ≡ rule.Q (terms (begun c)) (begun c .args .l)) × (c .before .before .before .before .before .instances .result < 2 ^ 34)
-counted c = c .before .before .before .before .before .instances .ensures
+counted : (c : tie.At-loop Inv-loop μ-loop) → (c .before .before .before .before .before .before .instances .result ≡ rule.Q (terms (begun c)) (begun c .args .l)) × (c .before .before .before .before .before .before .instances .result < 2 ^ 34)
+counted c = c .before .before .before .before .before .before .instances .ensures
 
 -- the busy period is within the limit, and has an instance
 within : (s : tie.Start Inv-loop μ-loop) → s .args .l ≤ ticks
@@ -97,20 +98,21 @@ none-yet b c = omega (arith, zero-mul c)
 
 settled-requires : tie.Need-settled-requires Inv-loop μ-loop
 settled-requires c κs =
-    let e = c .before .before .before in
+    let e = c .before .before .before .before in
     let s = entry e in
     let lay = started e in (
       lay .stairs,
       lay .known,
+      near-start _ _ (lay .stairs .few),
       bounded (terms s) (sound s) (s .args .l) (s .pre .1) _ _ _ _ 0 (s .args .g .blocking) 0 0 0 (some s) (none-yet _ _) (kept-start _ _ _ _ _ 0 lay) (omega arith) (first-from (terms s) (sound s) (s .args .l) (s .pre .1)),
     )
 
 add-term : tie.Need-add-term Inv-loop μ-loop
-add-term c = let f = entry (edged c) .pre .0 .row in omega (arith, f .own .jitter, f .last, f .own .cost, c .settled .ensures .small)
+add-term c = let f = entry (edged c) .pre .0 .row in omega (arith, f .own .jitter, f .last, f .own .cost, c .settled .ensures .0 .small)
 
 term-requires : tie.Need-term-requires Inv-loop μ-loop
 term-requires c κs =
-    let f = entry (edged c) .pre .0 .row in (omega (arith, f .own .jitter, f .last, f .own .cost, c .settled .ensures .small), omega arith)
+    let f = entry (edged c) .pre .0 .row in (omega (arith, f .own .jitter, f .last, f .own .cost, c .settled .ensures .0 .small), omega arith)
 
 loop-holds : tie.Need-loop-holds Inv-loop μ-loop
 loop-holds c =
@@ -120,14 +122,15 @@ loop-holds c =
     let r = terms s in
     let k = kept-start _ _ _ _ _ 0 (started (edged d)) in
     let f = first-from r (sound s) (s .args .l) (s .pre .1) in
-    let w = is-w r (sound s) (s .args .l) (s .pre .1) _ _ _ _ 0 (g .blocking) 0 0 0 (some s) (none-yet _ _) k (omega arith) f _ _ (d .settled .ensures) in
+    let w = is-w r (sound s) (s .args .l) (s .pre .1) _ _ _ _ 0 (g .blocking) 0 0 0 (some s) (none-yet _ _) k (omega arith) f _ _ (d .settled .ensures .0) in
     let t : SFits w64 (c .term .result) = record { sfits = c .term .ok } in (
-      omega (arith, some s, d .before .before .before .instances .ensures .0),
+      omega (arith, some s, d .before .before .before .before .instances .ensures .0),
       none-yet _ _,
       w,
-      goes-on r (sound s) (s .args .l) (s .pre .1) _ _ _ _ 0 (g .blocking) 0 0 0 (some s) (none-yet _ _) k (omega arith) f _ _ (d .settled .ensures),
+      goes-on r (sound s) (s .args .l) (s .pre .1) _ _ _ _ 0 (g .blocking) 0 0 0 (some s) (none-yet _ _) k (omega arith) f _ _ (d .settled .ensures .0),
       toZ-ofZ t ∙ c .term .ensures ∙ ap (λ z. pos (g .jitter + g .last + d .settled .result) -ℤ pos z) (sym (zero-mul (g .period))) ∙ term-is r 0 _ w ∙ sym (largest-start (rule.term r)),
       fits-ofZ t,
+      d .settled .ensures .1,
     )
 
 add-loop : tie.Need-add-loop Inv-loop μ-loop
@@ -172,21 +175,22 @@ from-next c =
 
 settled-requires-2 : tie.Need-settled-requires-2 Inv-loop μ-loop
 settled-requires-2 c κs =
-    let d = c .before in
+    let d = c .before .before in
     let s = begun (d .before) in
     let g = s .args .g in
     let l = d .before .loop in (
       started (edged (d .before .before .before)) .stairs,
       l .inv .3 .known,
+      l .inv .6,
       bounded (terms s) (sound s) (s .args .l) (s .pre .1) _ _ _ _ (l .q + 1) (l .base + g .cost) (l .wait - l .base) (l .wait) (l .wait + g .cost) (next d) (base-more _ _ _ _ (l .inv .1)) (l .inv .3) (omega arith) (from-next d),
     )
 
 add-q : tie.Need-add-q Inv-loop μ-loop
-add-q c = let d = c .before .before in omega (arith, counted (d .before) .1, d .loop-test .taken)
+add-q c = let d = c .before .before .before in omega (arith, counted (d .before) .1, d .loop-test .taken)
 
 add-term-2 : tie.Need-add-term-2 Inv-loop μ-loop
 add-term-2 c =
-    let f = begun (c .before .before .before) .pre .0 .row in omega (arith, f .own .jitter, f .last, f .own .cost, c .settled2 .ensures .small)
+    let f = begun (c .before .before .before .before) .pre .0 .row in omega (arith, f .own .jitter, f .last, f .own .cost, c .settled2 .ensures .0 .small)
 
 late : (c : tie.In-loop Inv-loop μ-loop) → (c .before .loop .q + 1) * begun (c .before) .args .g .period < 2 ^ 63
 late c =
@@ -195,29 +199,29 @@ late c =
     gone-small (s .args .l) _ _ _ (within s) (o .jitter) (o .some) (next c)
 
 mul-term : tie.Need-mul-term Inv-loop μ-loop
-mul-term c = omega (arith, late (c .before .before .before))
+mul-term c = omega (arith, late (c .before .before .before .before))
 
 term-requires-2 : tie.Need-term-requires-2 Inv-loop μ-loop
 term-requires-2 c κs =
-    let d = c .before .before .before in
+    let d = c .before .before .before .before in
     let f = begun (d .before) .pre .0 .row in
-    (omega (arith, f .own .jitter, f .last, f .own .cost, c .before .settled2 .ensures .small), late d)
+    (omega (arith, f .own .jitter, f .last, f .own .cost, c .before .settled2 .ensures .0 .small), late d)
 
 larger-requires : tie.Need-larger-requires Inv-loop μ-loop
 larger-requires c κs = search needs
 
 loop-less : tie.Need-loop-less Inv-loop μ-loop
-loop-less c = let d = c .before .before .before .before .before in omega (arith, d .before .loop .inv .0, d .loop-test .taken)
+loop-less c = let d = c .before .before .before .before .before .before in omega (arith, d .before .loop .inv .0, d .loop-test .taken)
 
 loop-again : tie.Need-loop-again Inv-loop μ-loop
 loop-again c =
-    let d = c .before .before .before .before .before in
+    let d = c .before .before .before .before .before .before in
     let s = begun (d .before) in
     let g = s .args .g in
     let r = terms s in
     let l = d .before .loop in
     let i = l .inv in
-    let t = c .before .before .before .settled2 .ensures in
+    let t = c .before .before .before .settled2 .ensures .0 in
     let e = base-more _ _ _ _ (i .1) in
     let w = is-w r (sound s) (s .args .l) (s .pre .1) _ _ _ _ (l .q + 1) (l .base + g .cost) (l .wait - l .base) (l .wait) (l .wait + g .cost) (next d) e (i .3) (omega arith) (from-next d) _ _ t in
     let u : SFits w64 (c .before .term2 .result) = record { sfits = c .before .term2 .ok } in
@@ -228,6 +232,7 @@ loop-again c =
       goes-on r (sound s) (s .args .l) (s .pre .1) _ _ _ _ (l .q + 1) (l .base + g .cost) (l .wait - l .base) (l .wait) (l .wait + g .cost) (next d) e (i .3) (omega arith) (from-next d) _ _ t,
       toZ-ofZ v ∙ c .larger .ensures ∙ ap₂ maxZ (i .4) (toZ-ofZ u ∙ c .before .term2 .ensures ∙ term-is r (l .q + 1) _ w) ∙ largest-more (rule.term r) (l .q),
       fits-ofZ v,
+      c .before .before .before .settled2 .ensures .1,
     )
 
 cast-result : tie.Need-cast-result Inv-loop μ-loop

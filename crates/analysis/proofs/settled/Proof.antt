@@ -1,83 +1,90 @@
 -- A chain from `from`: each turn is one evaluation, and it stands still at the least fixed point, which is no higher than where the side stops rising.
 use borrow.Author.Needs.{needs}
-use mathlib.Core.Path.{_≡_, refl, sym, ap, _∙_}
+use mathlib.Core.Path.{_≡_, refl, sym, ap, _∙_, subst}
 use Prim.Native.Nat.{_+_, _-_, _≤_, _<_}
 use native.Mathlib.Omega.{arith}
 use Rattle.names.specs.Limits.{ticks}
 use Rattle.laws.proofs.Chain.{Climb, climb-start, climb-more, climb-least, climb-below, stays}
-use Rattle.analysis.specs.Stairs.{height, start, side, Kept}
+use Rattle.analysis.specs.Stairs.{height, start, side, Near, Kept}
 use Rattle.analysis.proofs.Stairs.{side-mono}
 use Rattle.analysis.proofs.Kept.{kept-now, kept-on, kept-up}
 use Rattle.analysis.proofs.settled.Statement.{statement}
 use Rattle.analysis.proofs.settled.Tie as tie
 
 abbrev Inv-loop : tie.InvT-loop
-Inv-loop base from sum n costs periods edges₀ x₀ total₀ edges x total =
-    Climb (side costs periods edges₀ n base sum) from x × Kept costs periods edges n (λ y. sum + height costs periods edges₀ n (y + start)) x total
+Inv-loop base from sum n costs periods edges₀ nearest₀ x₀ total₀ edges nearest x total =
+    Climb (side costs periods edges₀ n base sum) from x × Kept costs periods edges n (λ y. sum + height costs periods edges₀ n (y + start)) x total × Near edges nearest n
 
 abbrev μ-loop : tie.MeasureT-loop
-μ-loop base from sum n costs periods edges₀ x₀ total₀ edges x total = ticks - x
+μ-loop base from sum n costs periods edges₀ nearest₀ x₀ total₀ edges nearest x total = ticks - x
 
 loop-holds : tie.Need-loop-holds Inv-loop μ-loop
-loop-holds c = (climb-start _ _ (c .pre .2 .rises), record { known = c .pre .1; later = λ y h. refl })
+loop-holds c = (climb-start _ _ (c .pre .3 .rises), record { known = c .pre .1; later = λ y h. refl }, c .pre .2)
 
 -- the chain, and the next of it, stay at or below where the side stops rising
-below : (c : tie.At-loop Inv-loop μ-loop) → c .loop .x ≤ c .before .pre .2 .top
+below : (c : tie.At-loop Inv-loop μ-loop) → c .loop .x ≤ c .before .pre .3 .top
 below c =
-    let p = c .before .pre .2 in
+    let p = c .before .pre .3 in
     climb-below _ (side-mono _ _ _ _ _ _) _ _ _ (p .rises) (c .loop .inv .0) (p .above) (p .stops)
 
 next : (c : tie.At-loop Inv-loop μ-loop)
-    → c .before .args .base + (c .loop .total + height (c .before .args .costs .now) (c .before .args .periods .now) (c .loop .edges) (c .before .args .n) (c .loop .x + start)) ≤ c .before .pre .2 .top
+    → c .before .args .base + (c .loop .total + height (c .before .args .costs .now) (c .before .args .periods .now) (c .loop .edges) (c .before .args .n) (c .loop .x + start)) ≤ c .before .pre .3 .top
 next c =
     let a = c .before .args in
-    omega (arith, kept-now _ _ _ _ _ _ _ (c .loop .inv .1), stays _ (side-mono (a .costs .now) (a .periods .now) (a .edges .now) (a .n) (a .base) (a .sum)) (c .loop .x) _ (below c) (c .before .pre .2 .stops))
+    omega (arith, kept-now _ _ _ _ _ _ _ (c .loop .inv .1), stays _ (side-mono (a .costs .now) (a .periods .now) (a .edges .now) (a .n) (a .base) (a .sum)) (c .loop .x) _ (below c) (c .before .pre .3 .stops))
 
-add-climbed-if-any : tie.Need-add-climbed-if-any Inv-loop μ-loop
-add-climbed-if-any c = omega (arith, below c, c .before .pre .2 .small)
+add-climbed : tie.Need-add-climbed Inv-loop μ-loop
+add-climbed c = omega (arith, below c, c .before .pre .3 .small)
 
-climbed-if-any-requires : tie.Need-climbed-if-any-requires Inv-loop μ-loop
-climbed-if-any-requires c κs =
-    let l = c .before in
+climbed-requires : tie.Need-climbed-requires Inv-loop μ-loop
+climbed-requires c κs =
+    let l = c .before .before in
     let p = l .before .pre in
-    (p .0, l .loop .inv .1 .known, omega (arith, below l, p .2 .small), omega (arith, next l, p .2 .small))
+    (p .0, l .loop .inv .1 .known, l .loop .inv .2, omega (arith, below l, p .3 .small), omega (arith, next l, p .3 .small))
+
+-- the loop, seen from the evaluation
+abbrev round : tie.After-climbed Inv-loop μ-loop → tie.At-loop Inv-loop μ-loop
+round c = c .before .before .before
 
 add-y : tie.Need-add-y Inv-loop μ-loop
-add-y c = omega (arith, next (c .before .before), c .climbed-if-any .ensures .0, c .before .before .before .pre .2 .small)
+add-y c = omega (arith, next (round c), c .climbed .ensures .0, round c .before .pre .3 .small)
 
 -- the evaluation is the side at x, and the edges have come there
-evaluated : (c : tie.After-climbed-if-any Inv-loop μ-loop)
-    → c .before .before .before .args .base + c .climbed-if-any .result
-    ≡ side (c .before .before .before .args .costs .now) (c .before .before .before .args .periods .now) (c .before .before .before .args .edges .now) (c .before .before .before .args .n) (c .before .before .before .args .base) (c .before .before .before .args .sum) (c .before .before .loop .x)
-evaluated c = omega (arith, c .climbed-if-any .ensures .0, kept-now _ _ _ _ _ _ _ (c .before .before .loop .inv .1))
+evaluated : (c : tie.After-climbed Inv-loop μ-loop)
+    → round c .before .args .base + c .climbed .result
+    ≡ side (round c .before .args .costs .now) (round c .before .args .periods .now) (round c .before .args .edges .now) (round c .before .args .n) (round c .before .args .base) (round c .before .args .sum) (round c .loop .x)
+evaluated c = omega (arith, c .climbed .ensures .0, kept-now _ _ _ _ _ _ _ (round c .loop .inv .1))
 
-came : (c : tie.After-climbed-if-any Inv-loop μ-loop)
-    → Kept (c .before .before .before .args .costs .now) (c .before .before .before .args .periods .now) (c .climbed-if-any .last .1 .1 .1 .1 .0) (c .before .before .before .args .n)
-    (λ y. c .before .before .before .args .sum + height (c .before .before .before .args .costs .now) (c .before .before .before .args .periods .now) (c .before .before .before .args .edges .now) (c .before .before .before .args .n) (y + start))
-    (c .before .before .loop .x) (c .climbed-if-any .result)
-came c = kept-on _ _ _ _ _ _ _ _ _ (c .climbed-if-any .ensures .0) (c .climbed-if-any .ensures .1) (c .before .before .loop .inv .1)
+came : (c : tie.After-climbed Inv-loop μ-loop)
+    → Kept (round c .before .args .costs .now) (round c .before .args .periods .now) (c .climbed .last .1 .1 .1 .1 .0) (round c .before .args .n)
+    (λ y. round c .before .args .sum + height (round c .before .args .costs .now) (round c .before .args .periods .now) (round c .before .args .edges .now) (round c .before .args .n) (y + start))
+    (round c .loop .x) (c .climbed .result)
+came c = kept-on _ _ _ _ _ _ _ _ _ (c .climbed .ensures .0) (c .climbed .ensures .1) (round c .loop .inv .1)
 
 returns : tie.Need-returns Inv-loop μ-loop
 returns c =
-    let l = c .before .before .before in
-    let e : c .before .climbed-if-any .result ≡ l .loop .x - l .before .args .base = omega (arith, c .if1 .taken) in
-    record {
-      least = climb-least _ _ _ (sym (evaluated (c .before)) ∙ c .if1 .taken) (l .loop .inv .0);
-      small = omega (arith, below l, l .before .pre .2 .small);
-      kept = rw e at (came (c .before));
-    }
+    let l = round (c .before) in
+    let e : c .before .climbed .result ≡ l .loop .x - l .before .args .base = omega (arith, c .if1 .taken) in (
+      record {
+        least = climb-least _ _ _ (sym (evaluated (c .before)) ∙ c .if1 .taken) (l .loop .inv .0);
+        small = omega (arith, below l, l .before .pre .3 .small);
+        kept = subst (Kept _ _ _ _ _ _) e (came (c .before));
+      },
+      c .before .climbed .ensures .2,
+    )
 
 loop-less : tie.Need-loop-less Inv-loop μ-loop
 loop-less c =
-    let l = c .before .before .before in
-    omega (arith, next l, c .before .climbed-if-any .ensures .0, l .before .pre .2 .small, l .loop .inv .0 .rises, evaluated (c .before), c .if1 .left)
+    let l = round (c .before) in
+    omega (arith, next l, c .before .climbed .ensures .0, l .before .pre .3 .small, l .loop .inv .0 .rises, evaluated (c .before), c .if1 .left)
 
 loop-again : tie.Need-loop-again Inv-loop μ-loop
 loop-again c =
-    let l = c .before .before .before in
+    let l = round (c .before) in
     let i = l .loop .inv in (
       climb-more _ (side-mono _ _ _ _ _ _) _ _ _ (evaluated (c .before)) (i .0),
       kept-up _ _ _ _ _ _ _ _ (omega (arith, i .0 .rises, evaluated (c .before))) (came (c .before)),
+      c .before .climbed .ensures .2,
     )
 
 pub settled-spec : {M : Type 1} → statement M
@@ -87,8 +94,8 @@ settled-spec =
     Inv-loop
     μ-loop
     loop-holds
-    add-climbed-if-any
-    climbed-if-any-requires
+    add-climbed
+    climbed-requires
     add-y
     returns
     loop-less
