@@ -1,14 +1,14 @@
 -- Lent terms within the limits: the theory's conditions hold, and every number fits its word. The bounds hold with room for 256 streams. Assumes nothing.
-use mathlib.Core.Path.{_≡_, refl, sym, subst}
-use mathlib.Core.Bool.{Bool, true, false, _&&_}
+use mathlib.Core.Path.{_≡_}
+use mathlib.Core.Bool.{true}
 use Prim.Native.Nat.{ℕ, _+_, _-_, _*_, _^_, _≤_, _<_}
 use native.Mathlib.Nat.{le-trans, zero-mul, mul-le-mul, mul-le-mul-right}
 use native.Mathlib.Omega.{arith}
-use lib.Dec.{T, leb, eqb}
+use lib.Dec.{T, leb}
 use lib.ListN.{getD}
 use borrow.Author.Tests.{leb-true, le-leb, eqb-true, eq-eqb}
-use Rattle.names.specs.Limits.{streams, sources, ticks}
-use Rattle.laws.specs.Lists.{ceil, sumOf, sumTo, rows}
+use Rattle.names.specs.Limits.{sources, ticks}
+use Rattle.laws.specs.Lists.{ceil, sumOf}
 use Rattle.laws.proofs.Round.{ceil-le}
 use Rattle.laws.proofs.Lists.{sum-rows, sumTo-at-most, every-each, every-all}
 use Rattle.laws.proofs.Tests.{both}

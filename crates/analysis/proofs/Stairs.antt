@@ -1,7 +1,7 @@
 -- Laws of stairs: how an edge goes on, a pass over a lot of them and over all, and what the new edges give. Assumes nothing.
-use mathlib.Core.Path.{_≡_, refl, sym, ap, ap₂, _∙_}
+use mathlib.Core.Path.{_≡_, refl, sym, ap, _∙_}
 use mathlib.Core.List.{List}
-use Prim.Native.Nat.{ℕ, zero, suc, _+_, _-_, _*_, _^_, _≤_, _<_, min}
+use Prim.Native.Nat.{ℕ, _+_, _-_, _*_, _^_, _≤_, _<_, min}
 use native.Mathlib.Nat.{le-refl, min-le-left, min-le-right, lt-of-not-le, zero-mul, add-mul, mul-le-mul-right, div-eq-of-lt-le}
 use native.Mathlib.Decide.{decLe}
 use native.Mathlib.Omega.{arith}
@@ -21,10 +21,6 @@ not-yet x edge period h = let z : x - edge ≡ 0 = omega arith in rw z (sym (cei
 
 pub just-one : (over period : ℕ) → 1 ≤ over → over ≤ period → 1 ≡ ceil over period
 just-one over period h k = sym (div-eq-of-lt-le period (omega arith) (omega arith))
-
--- d periods reach less than one past x
-pub step-over : (d x edge period : ℕ) → d ≡ ceil (x - edge) period → d * period ≤ x - edge + (period - 1)
-step-over d x edge period e = rw e (ceil-over (x - edge) period)
 
 pub onward-below : (edge period x : ℕ) → edge < 2 ^ 34 → period ≤ ticks → x ≤ latest → onward edge period x < 2 ^ 34
 onward-below edge period x a b h = go (decLe x edge)

@@ -11,7 +11,6 @@ use lib.IntN.{pos, _-ℤ_}
 use lib.Signed.{leZ}
 use Rattle.names.specs.Limits.{ticks}
 use Rattle.laws.specs.Lists.{ceil, sumOf, rows}
-use Rattle.laws.specs.Search.{Least}
 use Rattle.laws.proofs.Round.{ceil-room, ceil-covers}
 use Rattle.laws.proofs.Signed.{diff-back}
 use Rattle.laws.specs.declared.Found.the-variants.{At}
@@ -24,7 +23,7 @@ use Rattle.bound.proofs.Largest.{some-instance, first-term, bound-is-largest}
 use Rattle.bound.proofs.Instances.{room, settles, w-exists, w-rises, sideW-suc}
 use Rattle.analysis.specs.declared.Gathered.{Gathered}
 use Rattle.analysis.specs.Gathered.{Lent, termsOf}
-use Rattle.analysis.specs.Stairs.{height, start, side, restW, aloneTerms, Row, Kept, Bounded, Settled}
+use Rattle.analysis.specs.Stairs.{side, restW, aloneTerms, Row, Kept, Bounded, Settled}
 use Rattle.analysis.proofs.Fit.{alone-sound, sideL-alone}
 
 -- w(q)'s right side is B + q × C'' and the rest

@@ -6,12 +6,10 @@
 // of plans, labels or files. What it is lent it only reads.
 ghost use mathlib.Core.Path.{_≡_};
 ghost use Prim.Native.Nat.{ℕ, _+_, _-_, _*_, _^_, _≤_, _<_, min};
-ghost use lib.Dec.{leb};
 ghost use lib.ListN.{length, getD};
 ghost use lib.IntN.{pos, _-ℤ_};
 ghost use Rattle.names.specs.Limits.{streams, sources, ticks};
 ghost use Rattle.laws.specs.Lists.{ceil, every};
-ghost use Rattle.laws.specs.Search.{Least};
 ghost use Rattle.laws.specs.Signed.{maxZ};
 ghost use Rattle.laws.specs.declared.Found.the-variants.{At};
 ghost use Rattle.bound.specs.Bound as rule;

@@ -4,11 +4,11 @@ use mathlib.Core.List.{List}
 use Prim.Native.Nat.{ℕ}
 use lib.ListN.{length}
 use Rattle.plan.specs.declared.Sheet.{Sheet}
-use Rattle.plan.specs.Plan.{Plan, planOf}
+use Rattle.plan.specs.Plan.{Plan}
 use Rattle.checks.specs.declared.Checked.{Checked}
 use Rattle.checks.specs.declared.Checked.the-variants.{Fine, Refused}
 use Rattle.checks.specs.Checks.{judge, lines, checkedOf}
-use Rattle.file.specs.File.{fileOf, sheetOf, readAs, readOf}
+use Rattle.file.specs.File.{sheetOf, readAs}
 use Rattle.file.proofs.Reading.{one-sheet}
 use Rattle.file.proofs.RoundTrip.{reads-as-its-values}
 use Rattle.rows.specs.Words.{answerWith}

@@ -1,19 +1,15 @@
 -- The instances of a busy period: w(q) exists, is at most L - C'', and rises by C'' at least. Assumes nothing.
-use mathlib.Core.Path.{_≡_, refl, sym, ap, _∙_}
-use Prim.Native.Nat.{ℕ, suc, _+_, _-_, _*_, _≤_, _<_}
-use native.Mathlib.Nat.{le-trans, mul-le-mul-right, suc-mul, zero-mul}
+use mathlib.Core.Path.{_≡_, ap}
+use Prim.Native.Nat.{ℕ, _+_, _-_, _*_, _≤_, _<_}
+use native.Mathlib.Nat.{mul-le-mul-right, suc-mul}
 use native.Mathlib.Numerals.{add-one}
 use native.Mathlib.Omega.{arith}
 use Rattle.names.specs.Limits.{ticks}
-use Rattle.laws.specs.Lists.{ceil}
-use Rattle.laws.specs.Search.{Least, firstFixed}
-use Rattle.laws.specs.declared.Found.the-variants.{At}
-use Rattle.laws.proofs.Round.{ceil-room}
 use Rattle.laws.proofs.Chain.{settled, least-below}
 use Rattle.bound.specs.Terms.{Terms}
-use Rattle.bound.specs.Bound.{E, demand, sideL, sideW, busy, Q, w, orZero}
+use Rattle.bound.specs.Bound.{sideL, sideW, Q, w, orZero}
 use Rattle.bound.specs.Claims.{Sound, WExists, WRises}
-use Rattle.bound.proofs.Sides.{demand-mono, demand-own, sideW-mono, own-first, busy-is-least}
+use Rattle.bound.proofs.Sides.{demand-mono, demand-own, sideW-mono, busy-is-least}
 
 module _ (r : Terms) (s : Sound r) (L : ℕ) (e : sideL r L ≡ L) (p : 1 ≤ L) where
   -- (q + 1) × C'' is within the busy period

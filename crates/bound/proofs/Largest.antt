@@ -1,17 +1,16 @@
 -- The bound is the largest term, above zero, and at most J + L. Assumes nothing.
-use mathlib.Core.Path.{_≡_, refl, sym, ap, _∙_, subst}
-use Prim.Native.Nat.{ℕ, _+_, _-_, _*_, _≤_, _<_}
+use mathlib.Core.Path.{_≡_, sym, ap, _∙_, subst}
+use Prim.Native.Nat.{ℕ, _+_, _-_, _*_, _≤_}
 use native.Mathlib.Nat.{zero-mul, add-zero}
 use native.Mathlib.Omega.{arith}
 use lib.Dec.{T}
-use lib.IntN.{ℤ, pos, natAbs, _-ℤ_}
+use lib.IntN.{pos, natAbs, _-ℤ_}
 use lib.Signed.{leZ, nonNeg, pos-natAbs}
-use Rattle.laws.specs.Lists.{ceil}
 use Rattle.laws.specs.Signed.{largestTo}
 use Rattle.laws.proofs.Round.{ceil-pos}
 use Rattle.laws.proofs.Signed.{largest-ge, largest-is, above-pos, diff-le}
 use Rattle.bound.specs.Terms.{Terms}
-use Rattle.bound.specs.Bound.{busy, Q, w, term, bound}
+use Rattle.bound.specs.Bound.{Q, w, term, bound}
 use Rattle.bound.specs.Claims.{Sound, BoundIsLargest, BoundWithin}
 use Rattle.bound.proofs.Sides.{busy-is-least}
 use Rattle.bound.proofs.Instances.{room, w-exists}

@@ -1,12 +1,11 @@
 -- Both right sides climb, so the chain from 1 finds the least positive busy period or shows that there is none. Assumes nothing.
-use mathlib.Core.Path.{_≡_, refl, sym, ap, _∙_}
-use mathlib.Core.List.{List, [], _∷_}
-use Prim.Native.Nat.{ℕ, suc, _+_, _-_, _*_, _≤_, _<_}
-use native.Mathlib.Nat.{mul-le-mul-right, one-le-mul}
+use mathlib.Core.Path.{_≡_, refl}
+use mathlib.Core.List.{List, _∷_}
+use Prim.Native.Nat.{ℕ, _+_, _-_, _*_, _≤_}
+use native.Mathlib.Nat.{mul-le-mul-right}
 use native.Mathlib.Omega.{arith}
 use Rattle.names.specs.Limits.{ticks}
 use Rattle.laws.specs.Lists.{ceil, sumOf}
-use Rattle.laws.specs.Search.{Least}
 use Rattle.laws.proofs.Round.{ceil-mono, ceil-pos}
 use Rattle.laws.proofs.Lists.{sum-mono}
 use Rattle.laws.proofs.Chain.{Mono}

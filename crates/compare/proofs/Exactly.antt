@@ -1,7 +1,7 @@
 -- The test is exact: of two plans that are not refused no condition is broken exactly if the second is lighter. Labels are distinct in the first,
 -- so the row that the test finds under a label is the row that a stream stands in. Assumes nothing.
 use mathlib.Core.Path.{_≡_, refl, sym, ap, _∙_}
-use mathlib.Core.Bool.{Bool, true, false, not, _&&_, true≢false}
+use mathlib.Core.Bool.{true, false, not, true≢false}
 use mathlib.Core.List.{map}
 use Prim.Native.Nat.{ℕ, _≤_, _<_}
 use native.Mathlib.Omega.{arith}

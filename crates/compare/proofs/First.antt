@@ -38,9 +38,6 @@ unless-nothing false r e = absurd (given-not-nothing e)
 pub unless-true : (t : Bool) (r : Reason) → t ≡ true → unless t r ≡ Nothing
 unless-true t r e = ap (λ b. unless b r) e
 
-pub unless-false : (t : Bool) (r : Reason) → t ≡ false → unless t r ≡ Of r
-unless-false t r e = ap (λ b. unless b r) e
-
 -- ---- the first of n: nothing
 none-of : (f : ℕ → Change) (n : ℕ) → firstGiven f n ≡ Nothing → (i : ℕ) → i < n → f i ≡ Nothing
 unfolding firstGiven

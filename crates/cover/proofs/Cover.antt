@@ -1,12 +1,11 @@
 -- Terms that are covered have a busy period and a bound no larger than their cover's: each right side is no larger at any point, so its least fixed
 -- point is no higher, there are no more instances, and each term is no larger. Assumes nothing.
-use mathlib.Core.Path.{_≡_, refl, sym, ap, _∙_, subst}
-use mathlib.Core.List.{List, [], _∷_}
-use Prim.Native.Nat.{ℕ, suc, _+_, _-_, _*_, _≤_, _<_}
+use mathlib.Core.Path.{_≡_, sym, subst}
+use Prim.Native.Nat.{ℕ, _+_, _-_, _*_, _≤_, _<_}
 use native.Mathlib.Nat.{le-trans, le-refl, mul-le-mul, mul-le-mul-left}
 use native.Mathlib.Omega.{arith}
 use lib.Dec.{T, leb→le}
-use lib.IntN.{pos, _-ℤ_}
+use lib.IntN.{pos}
 use lib.Signed.{leZ}
 use Rattle.names.specs.Limits.{ticks}
 use Rattle.laws.specs.Lists.{ceil, sumOf}
@@ -20,7 +19,7 @@ use Rattle.bound.specs.Claims.{Sound}
 use Rattle.bound.proofs.Sides.{sideL-mono, sideL-pos, sideW-mono, busy-is-least}
 use Rattle.bound.proofs.Instances.{w-exists}
 use Rattle.bound.proofs.Largest.{bound-is-largest}
-use Rattle.cover.specs.Cover.{Partnered, NoHeavier, NoShorter, Covers, CoveredKeeps}
+use Rattle.cover.specs.Cover.{NoHeavier, Covers, CoveredKeeps}
 use Rattle.cover.proofs.Sums.{sum-partners, diff-mono}
 
 -- a share that is no heavier asks for no more, also in a shorter time

@@ -12,7 +12,7 @@ use Rattle.plan.specs.Rules.{rowAnswer, answers}
 use Rattle.plan.proofs.Rules.{row-within}
 use Rattle.checks.specs.Claims.{Right}
 use Rattle.checks.proofs.Fine.{fine-if-right}
-use Rattle.file.specs.File.{planIn, readOf}
+use Rattle.file.specs.File.{planIn}
 use Rattle.file.proofs.Reading.{fine-read, one-sheet}
 use Rattle.words.specs.Words.{wordsOf}
 use Rattle.text.specs.declared.Put.the-variants.{At}

@@ -9,7 +9,7 @@ use Rattle.plan.specs.declared.Stream.{Stream}
 use Rattle.plan.specs.Plan.{Plan, planOf}
 use Rattle.plan.specs.Rules.{answers, rowAnswer}
 use Rattle.checks.specs.declared.Checked.{Checked}
-use Rattle.checks.specs.declared.Checked.the-variants.{Fine, Refused}
+use Rattle.checks.specs.declared.Checked.the-variants.{Fine}
 use Rattle.checks.specs.Checks.{checkedOf}
 use Rattle.file.specs.declared.ReadPlan.{ReadPlan}
 use Rattle.words.specs.Words.{wordsOf}

@@ -1,8 +1,6 @@
 -- What is shown of a plan file.
-use mathlib.Core.Path.{_≡_}
 use mathlib.Core.List.{List}
-use Prim.Native.Nat.{ℕ, _≤_}
-use lib.ListN.{length}
+use Prim.Native.Nat.{ℕ}
 use Rattle.plan.specs.Plan.{Plan, planOf}
 use Rattle.plan.specs.Rules.{answers}
 use Rattle.checks.specs.declared.Checked.{Checked}

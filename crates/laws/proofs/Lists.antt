@@ -1,6 +1,6 @@
 -- Laws of sums, largest values and choices over a list, by the question that a proof asks. Assumes nothing.
-use mathlib.Core.Path.{_≡_, refl, sym, ap, ap₂, _∙_, subst}
-use mathlib.Core.Bool.{Bool, true, false, cond, _&&_}
+use mathlib.Core.Path.{_≡_, refl, sym, ap, ap₂, _∙_}
+use mathlib.Core.Bool.{Bool, true, false, cond}
 use mathlib.Core.Logic.{⊎-elim}
 use mathlib.Core.List.{List, [], _∷_, _++_, map, map-append, append-assoc}
 use Prim.Native.Nat.{ℕ, zero, suc, _+_, _-_, _*_, max, min, _≤_, _<_}
@@ -8,7 +8,6 @@ use native.Mathlib.Nat.{le-refl, add-le-add, zero-mul, add-mul, suc-mul, add-zer
 use native.Mathlib.Decide.{decLe}
 use native.Mathlib.Numerals.{add-one}
 use native.Mathlib.Omega.{arith}
-use lib.Dec.{T}
 use lib.ListN.{length, getD, set, take, replicate, length-append}
 use lib.Seq.{take-suc, take-all, set-at, getD-at}
 use Rattle.laws.proofs.Tests.{both}
@@ -68,11 +67,6 @@ unfolding rows
 largest-more g f k s r n e d h = rw add-one (omega (arith, largest-snoc g (rows k f) (f k)))
 
 -- a loop over the first of a list, one element a turn
-pub largest-take : {A : Type 0} (g : A → ℕ) (l : List A) (d : A) (k s r n : ℕ) → k < length l → s ≡ largestOf g (take k l) → r ≡ g (getD l k d) → n ≡ max s r
-    → n ≡ largestOf g (take (k + 1) l)
-largest-take g l d k s r n h e f m =
-    rw (add-one k, take-suc l k d h) (omega (arith, largest-snoc g (take k l) (getD l k d)))
-
 pub those-take-yes : {A : Type 0} (t : A → Bool) (l : List A) (d : A) (k : ℕ) → k < length l → t (getD l k d) ≡ true → those t (take (k + 1) l) ≡ those t (take k l) ++ (getD l k d ∷ [])
 those-take-yes t l d k h e = rw (add-one k, take-suc l k d h) (those-yes t (take k l) (getD l k d) e)
 

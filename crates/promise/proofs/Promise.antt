@@ -1,30 +1,27 @@
 -- A lighter plan keeps its promise: at each label the first plan's terms cover the second's. Assumes nothing.
-use mathlib.Core.Path.{_≡_, refl, sym, ap, _∙_, subst}
+use mathlib.Core.Path.{_≡_, refl, sym, ap, _∙_}
 use mathlib.Core.Bool.{Bool, true, false, cond}
-use mathlib.Core.List.{List, _∷_, map}
-use Prim.Native.Nat.{ℕ, max, _+_, _-_, _*_, _≤_, _<_}
-use native.Mathlib.Nat.{le-refl, le-trans, mul-le-mul}
+use Prim.Native.Nat.{ℕ, _+_, _-_, _≤_, _<_}
+use native.Mathlib.Nat.{le-trans, mul-le-mul}
 use native.Mathlib.Omega.{arith}
 use borrow.Author.Tests.{ltb-true, lt-ltb, leb-true, le-leb}
-use lib.Dec.{ltb, leb}
-use lib.ListN.{length, getD}
+use lib.Dec.{leb}
+use lib.ListN.{length}
 use Rattle.laws.specs.declared.Found.{Found}
 use Rattle.laws.specs.declared.Found.the-variants.{At, Nothing}
 use Rattle.laws.specs.Lists.{largestOf, those}
 use Rattle.bound.specs.declared.Verdict.{Verdict}
 use Rattle.bound.specs.declared.Verdict.the-variants.{Met, Missed, None}
-use Rattle.bound.specs.Terms.{Share, Terms}
 use Rattle.bound.specs.Bound.{busy, bound, verdict, answer, answerOf}
 use Rattle.cover.specs.Cover.{Partnered, NoHeavier, NoShorter, Covers}
 use Rattle.cover.proofs.Cover.{covered-keeps}
 use Rattle.plan.specs.declared.Timing.{Timing}
 use Rattle.plan.specs.declared.Stream.{Stream}
-use Rattle.plan.specs.Plan.{Plan, blank, StreamWithin}
+use Rattle.plan.specs.Plan.{Plan, blank}
 use Rattle.plan.specs.Rules as rule
 use Rattle.plan.proofs.Rules.{terms-sound}
-use Rattle.checks.specs.Claims.{Right}
-use Rattle.promise.specs.Lighter.{at, Namesakes, NoGreater, Eased, Lighter, NotRefused, Kept, LighterKeeps}
-use Rattle.promise.proofs.Partners.{All, Split, Apart, all-index, split-index, those-split, all-those, apart-those, apart-index, by-name, map-partners, largest-partners, partners-have}
+use Rattle.promise.specs.Lighter.{at, NoGreater, Eased, Lighter, NotRefused, LighterKeeps}
+use Rattle.promise.proofs.Partners.{Split, Apart, all-index, split-index, those-split, all-those, apart-those, apart-index, by-name, map-partners, largest-partners, partners-have}
 
 -- ---- the constants
 V-le : (old new : Timing) → NoGreater old new → rule.«V» new ≤ rule.«V» old

@@ -1,5 +1,5 @@
 -- The outcome of answering: a plan that is refused, memory that is too small, the rows' words; and the same of a sheet, by its words. Assumes nothing.
-use mathlib.Core.Path.{_≡_, refl, sym, ap, ap₂, _∙_}
+use mathlib.Core.Path.{_≡_, refl, sym, ap, _∙_}
 use mathlib.Core.List.{List, [], _++_}
 use Prim.Native.Nat.{ℕ, _-_, _*_, _≤_, _<_}
 use native.Mathlib.Omega.{arith}
@@ -14,10 +14,10 @@ use Rattle.plan.specs.Plan.{Plan, planOf}
 use Rattle.plan.specs.Rules.{answers, rowAnswer}
 use Rattle.checks.specs.declared.Checked.{Checked}
 use Rattle.checks.specs.declared.Checked.the-variants.{Fine, Refused}
-use Rattle.checks.specs.Checks.{Line, judge, unless, lines, checkedOf}
+use Rattle.checks.specs.Checks.{judge, unless, lines, checkedOf}
 use Rattle.checks.proofs.Judge.{given, passed, nothing-given, fine-then, refused-then}
 use Rattle.checks.proofs.Fine.{fine-within}
-use Rattle.checks.proofs.Words.{planInWords, same-lines, same-plan-if-fine, same-check}
+use Rattle.checks.proofs.Words.{planInWords, same-lines, same-plan-if-fine}
 use Rattle.fields.proofs.Places.{Owned}
 use Rattle.rows.specs.declared.Answers.{Answers}
 use Rattle.rows.specs.Answers.{noAnswer, answersThen, answersIf, answersOf}

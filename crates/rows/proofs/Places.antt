@@ -1,7 +1,7 @@
 -- Answer words laid one row after the other and read back, and what words whose plan is fine give the analysis. Assumes nothing.
 use mathlib.Core.Path.{_≡_, refl, sym, ap, ap₂, _∙_}
-use mathlib.Core.List.{List, [], _∷_, _++_, append-assoc, append-nil, flatMap, map}
-use Prim.Native.Nat.{ℕ, zero, suc, _+_, _-_, _*_, _≤_, _<_}
+use mathlib.Core.List.{List, [], _∷_, _++_, append-assoc, append-nil, flatMap}
+use Prim.Native.Nat.{ℕ, zero, suc, _+_, _-_, _*_, _<_}
 use native.Mathlib.Omega.{arith}
 use lib.ListN.{length, drop, getD, set, length-append}
 use lib.Seq.{drop-cons, set-at, take-all}
@@ -11,16 +11,15 @@ use Rattle.bound.specs.declared.Answer.{Answer}
 use Rattle.bound.specs.declared.Verdict.{Verdict}
 use Rattle.bound.specs.declared.Verdict.the-variants.{Met, Missed, None}
 use Rattle.bound.specs.Bound.{verdictNumber}
-use Rattle.plan.specs.Plan.{Plan, blank}
-use Rattle.plan.specs.Rules.{rowAnswer, answers}
+use Rattle.plan.specs.Plan.{blank}
 use Rattle.checks.specs.declared.Checked.the-variants.{Fine as Checked·Fine}
 use Rattle.checks.specs.Checks.{judge, lines}
 use Rattle.checks.proofs.Fine.{fine-if-right}
 use Rattle.fields.specs.Layout as layout
 use Rattle.fields.specs.Words.{planIn}
 use Rattle.rows.specs.Answers.{noAnswer}
-use Rattle.rows.specs.Words.{words, rowWords, answerWords}
-use Rattle.rows.specs.Gather.{Streams, Fine, streamAt, verdictOf, answerAt}
+use Rattle.rows.specs.Words.{words, rowWords}
+use Rattle.rows.specs.Gather.{Fine, streamAt, verdictOf, answerAt}
 
 -- row k of rows, with nothing behind them
 row-at : {A : Type 0} (n : ℕ) (f : ℕ → A) (d : A) (k : ℕ) → k < n → getD (rows n f) k d ≡ f k

@@ -1,13 +1,12 @@
 -- What was gathered are the terms of the rules, and within the analysis' limits. Assumes nothing.
 use mathlib.Core.Path.{_≡_, refl, sym, ap, ap₂, _∙_}
 use mathlib.Core.Bool.{true}
-use mathlib.Core.List.{List, _∷_, map}
+use mathlib.Core.List.{List, map}
 use Prim.Native.Nat.{ℕ, max, _+_, _-_, _^_, _≤_, _<_}
 use native.Mathlib.Omega.{arith}
 use lib.Dec.{ltb}
-use lib.ListN.{length, getD}
-use Rattle.names.specs.Limits.{streams}
-use Rattle.laws.specs.Lists.{largestOf, those, rows}
+use lib.ListN.{getD}
+use Rattle.laws.specs.Lists.{largestOf, rows}
 use Rattle.laws.proofs.Lists.{largest-those, largest-map, rows-map, rows-same}
 use Rattle.bound.specs.Terms as bound
 use Rattle.bound.specs.Bound.{answer}

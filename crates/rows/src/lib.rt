@@ -6,12 +6,12 @@
 ghost use mathlib.Core.Path.{_≡_};
 ghost use mathlib.Core.Bool.{true, cond};
 ghost use mathlib.Core.List.{_++_};
-ghost use Prim.Native.Nat.{ℕ, _+_, _-_, _*_, _^_, _≤_, _<_, max};
+ghost use Prim.Native.Nat.{_+_, _-_, _*_, _^_, _≤_, _<_, max};
 ghost use lib.Dec.{ltb};
 ghost use lib.ListN.{length, drop, getD, replicate};
 ghost use Rattle.names.specs.Limits as limit;
 ghost use Rattle.names.specs.Limits.{streams, sources};
-ghost use Rattle.laws.specs.Lists.{largestOf, rows};
+ghost use Rattle.laws.specs.Lists.{rows};
 ghost use Rattle.bound.specs.Bound as bound;
 ghost use Rattle.plan.specs.Plan.{TimingWithin};
 ghost use Rattle.plan.specs.Rules as rule;

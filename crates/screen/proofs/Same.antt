@@ -1,6 +1,6 @@
 -- The sheet of a lent list has that list's plan, and so the answers of its file. Assumes nothing.
 use mathlib.Core.Path.{_≡_, refl, sym, ap₂}
-use mathlib.Core.List.{List, _++_}
+use mathlib.Core.List.{List}
 use Prim.Native.Nat.{ℕ, _-_, _≤_}
 use lib.ListN.{length, take, replicate}
 use lib.Seq.{take-all, take-append-seam}

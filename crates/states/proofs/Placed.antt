@@ -3,10 +3,9 @@ use mathlib.Core.Path.{_≡_, refl, sym, ap, ap₂, _∙_}
 use mathlib.Core.Bool.{Bool, false}
 use mathlib.Core.List.{List, [], _∷_, _++_, map, map-append}
 use Prim.Native.Nat.{ℕ, _+_, _-_, min, _<_}
-use native.Mathlib.Nat.{le-refl}
 use native.Mathlib.Numerals.{add-one}
 use native.Mathlib.Omega.{arith, min-cases}
-use lib.ListN.{length, take, drop, getD, set, replicate, length-map, drop-of-length-le, List·getD-map}
+use lib.ListN.{length, take, drop, getD, set, length-map, drop-of-length-le, List·getD-map}
 use lib.Seq.{take-suc, drop-cons, drop-length, set-at, append-snoc, length-take-le}
 use Rattle.names.specs.Limits.{contenders}
 use Rattle.laws.specs.Lists.{placed}

@@ -3,7 +3,6 @@
 // Every public function answers for every input, and its contract fixes each byte of the buffer: a text that does not
 // fit is answered `Full` and leaves the buffer as it was. Nothing is assumed. This crate must not know of files, of checks,
 // or of how an answer comes about.
-ghost use mathlib.Core.Path.{_≡_};
 ghost use mathlib.Core.List.{[], _∷_};
 ghost use lib.ListN.{length};
 ghost use Rattle.decimal.specs.Decimal.{digits};

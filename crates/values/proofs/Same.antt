@@ -1,7 +1,6 @@
 -- After the contents a plan file's words are the words of the bodies, so what is found in these at word k is found in the file at word
 -- 11 + k; and a plan's file gives the plan back. Assumes nothing.
-use mathlib.Core.Path.{_≡_, refl, sym, ap, ap₂, _∙_}
-use mathlib.Core.List.{List}
+use mathlib.Core.Path.{_≡_, refl, sym, ap, _∙_}
 use Prim.Native.Nat.{ℕ, _+_, _≤_, min}
 use native.Mathlib.Omega.{arith}
 use lib.ListN.{length, getD}

@@ -8,7 +8,7 @@ use native.Mathlib.Decide.{decLe}
 use native.Mathlib.Numerals.{add-one}
 use native.Mathlib.Omega.{arith}
 use borrow.Author.Tests.{le-leb, lt-leb}
-use lib.ListN.{length, getD, set, take, drop, replicate, length-append, length-take, length-drop, length-replicate, drop-of-length-le, List·getD-append, List·getD-eq-default, take-append-drop}
+use lib.ListN.{length, getD, set, take, drop, replicate, length-append, length-drop, length-replicate, drop-of-length-le, List·getD-append, List·getD-eq-default, take-append-drop}
 use lib.Seq.{length-take-le, take-all, take-suc, take-at, drop-cons, append-snoc, set-at, getD-drop, getD-append-add, drop-append-add, drop-drop, sets-eq}
 use Rattle.words.specs.Words.{joinedOf, wordsOf, laidOnto, bytesOf, put, putWords, Below}
 
@@ -45,12 +45,6 @@ word-past bytes k h = List·getD-eq-default (wordsOf bytes) 0 (omega (arith, len
 
 -- ---- words laid onto a list
 module _ (ws out : List ℕ) where
-  pub length-laid : length (laidOnto ws out) ≡ length out
-  unfolding laidOnto
-  length-laid =
-      length-append (take (length out) ws) (drop (length ws) out)
-      ∙ omega (arith, length-take (length out) ws, length-drop (length ws) out)
-
   -- a loop that lays them, one word a turn
   pub laid-next : (i : ℕ) {o : List ℕ} {w : ℕ} → i < length ws → i < length out → o ≡ take i ws ++ drop i out → w ≡ getD ws i 0
       → set o i w ≡ take (i + 1) ws ++ drop (i + 1) out

@@ -1,7 +1,7 @@
 -- The test of the limits is the definition's, and within them the answer is the rule's.
 use borrow.Author.Needs.{needs}
 use borrow.Author.Tests.{not-true, not-false}
-use mathlib.Core.Path.{_≡_, sym, ap, _∙_}
+use mathlib.Core.Path.{sym, ap, _∙_}
 use Rattle.analysis.specs.declared.Answered.the-variants.{Row}
 use Rattle.analysis.proofs.Fit.{fit-known}
 use Rattle.analysis.proofs.answer.Statement.{statement}

@@ -1,9 +1,7 @@
 -- Each turn takes one lot on to x; the sum has gained what all stairs up to there rise by.
-use borrow.Author.Needs.{needs}
-use mathlib.Core.Path.{_≡_, ap, _∙_}
-use Prim.Native.Nat.{ℕ, _+_, _-_, _*_, _^_, _≤_, _<_}
+use mathlib.Core.Path.{_≡_}
+use Prim.Native.Nat.{_+_, _-_, _*_, _≤_, _<_}
 use native.Mathlib.Omega.{arith}
-use lib.ListN.{getD, length}
 use Rattle.analysis.specs.Stairs.{height, lot, Ends, Gone, Near}
 use Rattle.analysis.proofs.Stairs.{gone-none, gone-on, gone-edges, gone-moved, height-none, height-le, height-part, fewer-stairs, fewer-edges, near-lot, near-on}
 use Rattle.analysis.proofs.climbed.Statement.{statement}

@@ -1,6 +1,6 @@
 -- Where the nearest edge is not passed none is, so nothing rises and all stays.
 use borrow.Author.Needs.{needs}
-use Prim.Native.Nat.{ℕ, _+_, _≤_, _<_}
+use Prim.Native.Nat.{ℕ, _≤_, _<_}
 use native.Mathlib.Omega.{arith}
 use lib.ListN.{getD}
 use Rattle.analysis.proofs.Stairs.{gone-still, height-still, nearest-still, nearest-set}

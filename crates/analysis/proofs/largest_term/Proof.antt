@@ -1,7 +1,7 @@
 -- After the turn of q, `wait` is w(q), the edges have come there, and `best` is the largest term up to q. The next search starts at w(q) + C'', since w(q + 1)
 -- is no lower. The first term is above zero, so the largest is, and the cast back keeps it.
 use borrow.Author.Needs.{needs}
-use mathlib.Core.Path.{_≡_, refl, sym, ap, ap₂, _∙_, subst}
+use mathlib.Core.Path.{_≡_, sym, ap, ap₂, _∙_}
 use Prim.Native.Nat.{ℕ, _+_, _-_, _*_, _^_, _≤_, _<_}
 use native.Mathlib.Nat.{zero-mul, add-assoc}
 use native.Mathlib.Omega.{arith}

@@ -1,7 +1,6 @@
 -- A chain from `from`: each turn is one evaluation, and it stands still at the least fixed point, which is no higher than where the side stops rising.
-use borrow.Author.Needs.{needs}
-use mathlib.Core.Path.{_≡_, refl, sym, ap, _∙_, subst}
-use Prim.Native.Nat.{_+_, _-_, _≤_, _<_}
+use mathlib.Core.Path.{_≡_, refl, sym, _∙_, subst}
+use Prim.Native.Nat.{_+_, _-_, _≤_}
 use native.Mathlib.Omega.{arith}
 use Rattle.names.specs.Limits.{ticks}
 use Rattle.laws.proofs.Chain.{Climb, climb-start, climb-more, climb-least, climb-below, stays}

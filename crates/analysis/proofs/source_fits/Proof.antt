@@ -1,5 +1,4 @@
 -- The tests stand in the order of the definition.
-use borrow.Author.Needs.{needs}
 use borrow.Author.Tests.{le-leb, lt-leb}
 use Rattle.analysis.proofs.source_fits.Statement.{statement}
 use Rattle.analysis.proofs.source_fits.Tie as tie

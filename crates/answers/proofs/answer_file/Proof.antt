@@ -1,5 +1,5 @@
 -- A file whose contents are refused is refused, and else its words are answered.
-use mathlib.Core.Path.{_≡_, sym, ap, _∙_}
+use mathlib.Core.Path.{sym, ap, _∙_}
 use denote.Ref.{now}
 use borrow.Author.Needs.{needs}
 use Rattle.answers.proofs.Laid.{file-refused, file-is}

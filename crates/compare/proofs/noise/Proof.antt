@@ -2,7 +2,7 @@
 use mathlib.Core.Path.{_≡_, sym, ap, ap₂, _∙_}
 use mathlib.Core.Bool.{Bool, true, false}
 use mathlib.Core.List.{List}
-use Prim.Native.Nat.{ℕ, _-_, _≤_, _<_}
+use Prim.Native.Nat.{ℕ, _-_, _≤_}
 use native.Mathlib.Omega.{arith}
 use borrow.Author.Needs.{needs}
 use borrow.Author.Tests.{le-leb, lt-leb}
@@ -13,7 +13,7 @@ use Rattle.names.specs.Limits.{sources}
 use Rattle.plan.specs.Plan.{planOf}
 use Rattle.fields.proofs.Places.{gaps-taken}
 use Rattle.compare.specs.declared.Change.{Change}
-use Rattle.compare.specs.declared.Change.the-variants.{Of, Nothing}
+use Rattle.compare.specs.declared.Change.the-variants.{Nothing}
 use Rattle.compare.specs.declared.Reason.the-variants.{MoreNoise}
 use Rattle.compare.specs.Changes.{unless, firstGiven, atMost, noise}
 use Rattle.compare.proofs.First.{given-none, given-more, given-here}

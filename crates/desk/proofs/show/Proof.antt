@@ -1,8 +1,7 @@
 -- A refused file is shown as its refusal, and what was read as the listing of its rows' answers.
-use mathlib.Core.Path.{_≡_, sym, ap, _∙_}
+use mathlib.Core.Path.{sym, ap, _∙_}
 use denote.Ref.{now}
 use Rattle.text.specs.Put.{put}
-use Rattle.desk.specs.Desk.{shown}
 use Rattle.desk.proofs.Shown.{shown-is, rows-shown}
 use borrow.Author.Needs.{needs}
 use Rattle.desk.proofs.show.Statement.{statement}

@@ -2,7 +2,7 @@
 use mathlib.Core.Path.{refl}
 use borrow.Author.Needs.{needs}
 use borrow.Author.Tests.{lt-ltb, le-ltb}
-use Rattle.paths.specs.Paths.{places, more}
+use Rattle.paths.specs.Paths.{more}
 use Rattle.paths.proofs.with_byte.Statement.{statement}
 use Rattle.paths.proofs.with_byte.Tie as tie
 

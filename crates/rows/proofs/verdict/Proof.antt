@@ -1,5 +1,4 @@
 -- The tests are the definition's.
-use borrow.Author.Needs.{needs}
 use borrow.Author.Tests.{eq-eqb, ne-eqb}
 use Rattle.rows.proofs.verdict.Statement.{statement}
 use Rattle.rows.proofs.verdict.Tie as tie
