@@ -3,12 +3,12 @@ use mathlib.Core.List.{List}
 use Prim.Native.Nat.{ℕ}
 use lib.ListN.{length}
 use Rattle.names.specs.Limits.{streams, sources}
+use Rattle.laws.specs.Lists.{placed}
 use Rattle.plan.specs.declared.Timing.{Timing}
 use Rattle.plan.specs.declared.Stream.{Stream}
 use Rattle.plan.specs.declared.Sheet.{Sheet}
 use Rattle.plan.specs.Plan.{blank}
 use Rattle.screen.specs.declared.Lot.{Lot}
-use Rattle.laws.specs.Lists.{placed}
 
 -- the lot of a list
 unfoldable pub lotOf : List Stream → Lot

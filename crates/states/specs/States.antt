@@ -12,10 +12,10 @@ use Rattle.tournament_state.specs.declared.Phase.the-variants.{AtBit, Finished,
 use Rattle.tournament_state.specs.declared.Tournament.{Tournament}
 use Rattle.tournament_state.specs.Refusals.{none}
 
--- 128 places: the first that are lent, and nobody in those that are not
 abbrev pub priority : ℕ → Priority
 priority p = record { 0 = p }
 
+-- in 128 places, with 0 in those that are not lent
 abbrev pub prioritiesFrom : List ℕ → List Priority
 prioritiesFrom ps = placed contenders none (map priority ps)
 
@@ -23,6 +23,7 @@ prioritiesFrom ps = placed contenders none (map priority ps)
 abbrev pub mark : ℕ → Bool
 mark b = not (eqb b 0)
 
+-- .. and out in those that are not lent
 abbrev pub marksFrom : List ℕ → List Bool
 marksFrom bs = placed contenders false (map mark bs)
 
