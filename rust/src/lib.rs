@@ -1,6 +1,4 @@
-//! The proved planner, safe to call from Rust, and beside it a plain one to compare it with.
-
-pub mod plain;
+//! The proved planner, safe to call from Rust. An answer can take minutes: see the README, "How long it takes".
 
 /// What is painted on the node.
 #[derive(Clone, Copy, Debug, PartialEq, Eq, PartialOrd, Ord)]
@@ -35,7 +33,7 @@ pub struct Refused {
     pub place: u64,
 }
 
-/// What a row's two answer words say.
+/// What a row's answer words say: a bound that is at most the deadline, one that is above it, or none.
 #[derive(Clone, Copy, Debug, PartialEq, Eq)]
 pub enum Answer {
     Met(u64),
@@ -43,17 +41,17 @@ pub enum Answer {
     None,
 }
 
-/// Why a plan is not lighter; a number is a label, but for a constant its place, and for noise the gap.
+/// Why a plan is not lighter: the stream by its label, a constant by its place in the file's order (0 is F, 8 is NB), noise by the gap.
 #[derive(Clone, Copy, Debug, PartialEq, Eq)]
 pub enum Reason {
-    GreaterConstant(u64),
-    NewLabel(u64),
-    ShorterPeriod(u64),
-    LongerJitter(u64),
-    LongerPayload(u64),
-    ShorterDeadline(u64),
-    LessUrgent(u64),
-    MoreNoise(u64),
+    GreaterConstant(usize),
+    NewLabel(Label),
+    ShorterPeriod(Label),
+    LongerJitter(Label),
+    LongerPayload(Label),
+    ShorterDeadline(Label),
+    LessUrgent(Label),
+    MoreNoise(u32),
 }
 
 #[derive(Clone, Copy, Debug, PartialEq, Eq)]
@@ -121,7 +119,7 @@ extern "C" {
         words: *mut u64,
         word_count: usize,
     ) -> Said;
-    fn livnakesh_parting(bits: u32, first: u32, second: u32) -> Said;
+    fn livnakesh_parting(bits: u32, first: Priority, second: Priority) -> Said;
     fn livnakesh_lighter(first: *const u8, first_length: usize, second: *const u8, second_length: usize) -> Weighed;
     fn livnakesh_start(
         bits: u32,
@@ -150,8 +148,45 @@ fn said(said: Said) -> Result<u64, Refused> {
     }
 }
 
-/// Writes two answer words a row into `words`; the words after them stay as found.
-pub fn answers(file: &[u8], words: &mut [u64]) -> Result<(), Refused> {
+/// The words of a row: its verdict, and then its bound.
+const ROW: usize = 2;
+
+/// The words of the rows of the largest plan.
+const WORDS: usize = ROW * 64;
+
+/// No verdict has this number, so a word that still has it was not written.
+const UNWRITTEN: u64 = u64::MAX;
+
+/// The answers of a plan file's streams, in file order.
+pub fn answers(file: &[u8]) -> Result<Vec<Answer>, Refused> {
+    let mut words = [UNWRITTEN; WORDS];
+    answer_words(file, &mut words)?;
+    Ok(rows(&words))
+}
+
+/// As `answers`, of records. The timing is the first nine words; one that is not lent is 0.
+pub fn screen(streams: &[Stream], timing: &[u32], gaps: &[u32]) -> Result<Vec<Answer>, Refused> {
+    let mut words = [UNWRITTEN; WORDS];
+    screen_words(streams, timing, gaps, &mut words)?;
+    Ok(rows(&words))
+}
+
+/// The rows that were written, which come first.
+fn rows(words: &[u64]) -> Vec<Answer> {
+    words.chunks_exact(ROW).take_while(|row| row[0] != UNWRITTEN).map(answer).collect()
+}
+
+fn answer(row: &[u64]) -> Answer {
+    match row[0] {
+        0 => Answer::Met(row[1]),
+        1 => Answer::Missed(row[1]),
+        2 => Answer::None,
+        other => panic!("the library's contract has no verdict {other}"),
+    }
+}
+
+/// As `answers`, in lent memory: two words a row, the verdict (0 met, 1 missed, 2 none) and the bound; the words after them stay as found.
+pub fn answer_words(file: &[u8], words: &mut [u64]) -> Result<(), Refused> {
     // SAFETY: both slices outlive the call, and the library stays within them.
     said(unsafe { livnakesh_answers(file.as_ptr(), file.len(), words.as_mut_ptr(), words.len()) }).map(|_| ())
 }
@@ -171,8 +206,8 @@ pub fn write(streams: usize, gaps: usize, values: &[u32], buffer: &mut [u8]) -> 
         .map(|n| n as usize)
 }
 
-/// As `answers`, of records. The timing is the first nine words; one that is not lent is 0.
-pub fn screen(streams: &[Stream], timing: &[u32], gaps: &[u32], words: &mut [u64]) -> Result<(), Refused> {
+/// As `screen`, in lent memory.
+pub fn screen_words(streams: &[Stream], timing: &[u32], gaps: &[u32], words: &mut [u64]) -> Result<(), Refused> {
     // SAFETY: the slices outlive the call, the library stays within them, and a stream is in C's layout.
     let answered = unsafe {
         livnakesh_screen(
@@ -190,9 +225,14 @@ pub fn screen(streams: &[Stream], timing: &[u32], gaps: &[u32], words: &mut [u64
 }
 
 /// The bit, counted from 1 at the top, at which two priorities part.
-pub fn parting(bits: u32, first: u32, second: u32) -> Result<u64, Refused> {
-    // SAFETY: numbers alone go in and out.
-    said(unsafe { livnakesh_parting(bits, first, second) })
+pub fn parting(bits: u32, first: Priority, second: Priority) -> Result<u32, Refused> {
+    // SAFETY: numbers alone go in and out, and a priority is laid out as its number.
+    said(unsafe { livnakesh_parting(bits, first, second) }).map(word)
+}
+
+/// A number that the contract has within 32 bits.
+fn word(value: u64) -> u32 {
+    u32::try_from(value).expect("the library's contract has 32 bits here")
 }
 
 /// Whether the second file's plan is lighter than the first's.
@@ -210,15 +250,16 @@ pub fn lighter(first: &[u8], second: &[u8]) -> Compared {
 }
 
 fn reason(condition: u64, value: u64) -> Reason {
+    let label = Label(word(value));
     match condition {
-        1 => Reason::GreaterConstant(value),
-        2 => Reason::NewLabel(value),
-        3 => Reason::ShorterPeriod(value),
-        4 => Reason::LongerJitter(value),
-        5 => Reason::LongerPayload(value),
-        6 => Reason::ShorterDeadline(value),
-        7 => Reason::LessUrgent(value),
-        8 => Reason::MoreNoise(value),
+        1 => Reason::GreaterConstant(value as usize),
+        2 => Reason::NewLabel(label),
+        3 => Reason::ShorterPeriod(label),
+        4 => Reason::LongerJitter(label),
+        5 => Reason::LongerPayload(label),
+        6 => Reason::ShorterDeadline(label),
+        7 => Reason::LessUrgent(label),
+        8 => Reason::MoreNoise(word(value)),
         other => panic!("the library's contract has no condition {other}"),
     }
 }
@@ -248,7 +289,7 @@ pub fn step(bits: u32, contenders: usize, phase: Phase, priorities: &[Priority],
 }
 
 fn outcome(stepped: Stepped) -> Outcome {
-    let at = u32::try_from(stepped.at).expect("the library's contract has bits and rows of 32 bits");
+    let at = word(stepped.at);
     let phase = match stepped.phase {
         0 => Phase::AtBit(at),
         1 => Phase::Finished(Row(at)),
@@ -256,14 +297,4 @@ fn outcome(stepped: Stepped) -> Outcome {
         other => panic!("the library's contract has no phase {other}"),
     };
     Outcome { answer: said(Said { refusal: stepped.refusal, value: stepped.place }).map(|_| ()), phase }
-}
-
-/// The rows that `answers` or `screen` wrote, in file order.
-pub fn rows(words: &[u64]) -> impl Iterator<Item = Answer> + '_ {
-    words.chunks_exact(2).map(|row| match row[0] {
-        0 => Answer::Met(row[1]),
-        1 => Answer::Missed(row[1]),
-        2 => Answer::None,
-        other => panic!("the library's contract has no verdict {other}"),
-    })
 }

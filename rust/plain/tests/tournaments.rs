@@ -3,14 +3,15 @@
 mod common;
 
 use common::{bytes, need_all, tally_refusal, Rng, Tally};
-use livnakesh::plain::{Tournament, PLACES};
 use livnakesh::{Outcome, Phase, Priority, Refused, Row};
+use plain::{Tournament, PLACES};
 
 // ---- the parting bit ----
 
 fn parting_alike(bits: u32, first: u32, second: u32, tally: &mut Tally) {
+    let (first, second) = (Priority(first), Priority(second));
     let said = livnakesh::parting(bits, first, second);
-    assert_eq!(said, livnakesh::plain::parting(bits, first, second), "parting: {bits} bits, {first} and {second}");
+    assert_eq!(said, plain::parting(bits, first, second), "parting: {bits} bits, {first:?} and {second:?}");
     tally_refusal(tally, said);
 }
 
@@ -384,16 +385,16 @@ fn losers_go_silent_where_they_part() {
         let contenders = entered.len();
         let winner = (0..contenders).min_by_key(|&row| entered[row]).expect("a contender");
         let silent_at = |row: usize| match row == winner {
-            true => u64::MAX,
-            false => livnakesh::parting(bits, entered[winner].0, entered[row].0).expect("two of a start"),
+            true => u32::MAX,
+            false => livnakesh::parting(bits, entered[winner], entered[row]).expect("two of a start"),
         };
-        let silent_at: Vec<u64> = (0..contenders).map(silent_at).collect();
+        let silent_at: Vec<u32> = (0..contenders).map(silent_at).collect();
         // What follows the contenders may be anything.
         let mut priorities = entered;
         priorities.extend((0..rng.below(80)).map(|_| Priority(rng.wide())));
         let found = bytes(rng.next(), rng.pick(&[128, 128, 150]));
         let mut lent = Lent { bits, contenders, phase: Phase::NoWinner, priorities, marks: found.clone() };
-        let wanted = |bit: u64| {
+        let wanted = |bit: u32| {
             let mut marks = found.clone();
             for (row, mark) in marks[..PLACES].iter_mut().enumerate() {
                 *mark = u8::from(silent_at.get(row).is_some_and(|&silent| silent > bit));
@@ -406,17 +407,17 @@ fn losers_go_silent_where_they_part() {
             assert_eq!(said, Outcome { answer: Ok(()), phase: Phase::AtBit(bit) }, "before bit {bit}: {lent:?}");
             lent.phase = said.phase;
             said = step_alike(&mut lent);
-            assert_eq!(lent.marks, wanted(u64::from(bit)), "after bit {bit}: {lent:?}");
+            assert_eq!(lent.marks, wanted(bit), "after bit {bit}: {lent:?}");
             tally.count("step");
         }
         assert_eq!(said, Outcome { answer: Ok(()), phase: Phase::Finished(Row(winner as u32)) }, "{lent:?}");
         assert_eq!(step_alike(&mut lent), said);
-        assert_eq!(lent.marks, wanted(u64::from(bits)), "a step after the end: {lent:?}");
-        for silent in silent_at.into_iter().filter(|&silent| silent < u64::MAX) {
+        assert_eq!(lent.marks, wanted(bits), "a step after the end: {lent:?}");
+        for silent in silent_at.into_iter().filter(|&silent| silent < u32::MAX) {
             tally.count("loser silent where it parts");
             tally.count(match silent {
                 1 => "silent at: the top bit",
-                silent if silent == u64::from(bits) => "silent at: the last bit",
+                silent if silent == bits => "silent at: the last bit",
                 _ => "silent at: a bit between",
             });
         }

@@ -3,8 +3,8 @@
 mod common;
 
 use common::{file_of, stream, values_of, BASE};
-use livnakesh::plain::{self, Analysis, Level, Plan, Tournament};
-use livnakesh::{rows, Answer, Outcome, Phase, Priority, Refused, Row};
+use livnakesh::{Answer, Outcome, Phase, Priority, Refused, Row};
+use plain::{self, Analysis, Level, Plan, Tournament};
 
 /// 10.1, 10.10 and 11.2.
 const LABELS: [u32; 3] = [0xa_0001, 0xa_000a, 0xb_0002];
@@ -39,15 +39,27 @@ fn p7() -> Plan {
     Plan { timing: [0, 0, 0, 0, 0, 0, 0, 0, 4], streams, gaps: vec![] }
 }
 
+/// A row's two words.
+fn as_words(answer: Answer) -> [u64; 2] {
+    match answer {
+        Answer::Met(bound) => [0, bound],
+        Answer::Missed(bound) => [1, bound],
+        Answer::None => [2, 0],
+    }
+}
+
 fn answers(file: &[u8]) -> Result<Vec<Answer>, Refused> {
     let mut words = [77; 2 * 64];
-    let proved = livnakesh::answers(file, &mut words);
+    let proved = livnakesh::answer_words(file, &mut words);
     let mut plain_words = [77; 2 * 64];
     assert_eq!(plain::answers(file, &mut plain_words), proved);
     assert_eq!(plain_words, words);
     let n = plain::read(file).map_or(0, |plan| plan.streams.len());
     assert!(words[2 * n..].iter().all(|&word| word == 77));
-    proved.map(|()| rows(&words[..2 * n]).collect())
+    let rows = livnakesh::answers(file);
+    assert_eq!(rows.clone().map(|rows| rows.len()), proved.map(|()| n), "rows that exist, and no more");
+    assert_eq!(rows.clone().map(|rows| rows.into_iter().flat_map(as_words).collect()), proved.map(|()| words[..2 * n].to_vec()));
+    rows
 }
 
 fn rewritten(file: &[u8]) -> Result<Vec<u8>, Refused> {
@@ -70,10 +82,12 @@ fn written(plan: &Plan) -> Result<Vec<u8>, Refused> {
 /// What the screen gets for a plan's values.
 fn screened(plan: &Plan) -> Result<Vec<Answer>, Refused> {
     let mut words = [77; 2 * 64];
-    livnakesh::screen(&plan.streams, &plan.timing, &plan.gaps, &mut words)?;
+    livnakesh::screen_words(&plan.streams, &plan.timing, &plan.gaps, &mut words)?;
     let n = plan.streams.len();
     assert!(words[2 * n..].iter().all(|&word| word == 77));
-    Ok(rows(&words[..2 * n]).collect())
+    let rows = livnakesh::screen(&plan.streams, &plan.timing, &plan.gaps)?;
+    assert_eq!(rows.iter().copied().flat_map(as_words).collect::<Vec<u64>>(), words[..2 * n]);
+    Ok(rows)
 }
 
 fn gives(plan: &Plan, wanted: &[Answer]) {
@@ -196,7 +210,7 @@ fn p12_is_won_by_row_1() {
     assert_eq!(livnakesh::step(4, 3, won, &priorities, &mut marks), done(won));
     assert_eq!(state.step(), Ok(state));
     assert_eq!(marks, [0, 1, 0]);
-    for loser in [5, 6] {
-        assert_eq!(livnakesh::parting(4, 3, loser), Ok(2));
+    for loser in [Priority(5), Priority(6)] {
+        assert_eq!(livnakesh::parting(4, Priority(3), loser), Ok(2));
     }
 }

@@ -1,7 +1,8 @@
-//! The same planner in plain Rust, written from document 01 alone. The tests compare the proved library with it, and the
-//! benchmark takes it as what ordinary means give.
+//! The same planner in plain Rust, to compare the proved library with: the tests hold one against the other, and the benchmark takes
+//! this one as what ordinary means give. It was written from the rules (docs/RULES.md) and shares no code with the proved one; the
+//! order in which `lighter` looks for its reason is ours, and so the same on both sides.
 
-use crate::{Compared, Label, Phase, Priority, Reason, Refused, Row, Stream};
+use livnakesh::{Compared, Label, Phase, Priority, Reason, Refused, Row, Stream};
 
 /// F, E, TFCS, SWX, H, G, ETG, LAG and then NB, as in the file.
 pub type Timing = [u32; 9];
@@ -435,7 +436,7 @@ fn find_partner(old: &[u32], new: &[u32], source: usize, tried: &mut [bool], par
 }
 
 fn harder(old: &Stream, new: &Stream) -> Option<Reason> {
-    let label = u64::from(new.label.0);
+    let label = new.label;
     match new {
         s if s.period < old.period => Some(Reason::ShorterPeriod(label)),
         s if s.jitter > old.jitter => Some(Reason::LongerJitter(label)),
@@ -455,12 +456,12 @@ fn overtaken(places: &[(Priority, Priority)]) -> Option<usize> {
 
 fn why_not_lighter(old: &Plan, new: &Plan) -> Option<Reason> {
     if let Some(k) = (0..=NB).find(|&k| new.timing[k] > old.timing[k]) {
-        return Some(Reason::GreaterConstant(k as u64));
+        return Some(Reason::GreaterConstant(k));
     }
     let mut places = Vec::with_capacity(new.streams.len());
     for stream in &new.streams {
         let Some(before) = old.streams.iter().find(|s| s.label == stream.label) else {
-            return Some(Reason::NewLabel(u64::from(stream.label.0)));
+            return Some(Reason::NewLabel(stream.label));
         };
         if let Some(reason) = harder(before, stream) {
             return Some(reason);
@@ -468,9 +469,9 @@ fn why_not_lighter(old: &Plan, new: &Plan) -> Option<Reason> {
         places.push((before.priority, stream.priority));
     }
     if let Some(row) = overtaken(&places) {
-        return Some(Reason::LessUrgent(u64::from(new.streams[row].label.0)));
+        return Some(Reason::LessUrgent(new.streams[row].label));
     }
-    more_noise(&old.gaps, &new.gaps).map(|gap| Reason::MoreNoise(u64::from(gap)))
+    more_noise(&old.gaps, &new.gaps).map(Reason::MoreNoise)
 }
 
 pub fn lighter(first: &[u8], second: &[u8]) -> Compared {
@@ -520,11 +521,11 @@ fn check_distinct(priorities: &[Priority]) -> Result<(), Refused> {
 }
 
 /// The bit, counted from 1 at the top, at which two priorities part.
-pub fn parting(bits: u32, first: u32, second: u32) -> Result<u64, Refused> {
-    let both = [Priority(first), Priority(second)];
+pub fn parting(bits: u32, first: Priority, second: Priority) -> Result<u32, Refused> {
+    let both = [first, second];
     check_bits(bits, &both)?;
     check_distinct(&both)?;
-    Ok(u64::from((first ^ second).leading_zeros() - (32 - bits) + 1))
+    Ok((first.0 ^ second.0).leading_zeros() - (32 - bits) + 1)
 }
 
 impl Tournament {

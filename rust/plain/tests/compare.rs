@@ -7,8 +7,8 @@ use common::{
     bytes, drawn, edge_plan, file_of, hex, lent, need_all, plan, plan_of, repeat, stream, tally_refusal, tally_rows, words, work,
     Rng, Tally, BASE, MOST_WORK,
 };
-use livnakesh::plain::{self, Analysis, Level, Plan};
 use livnakesh::{Compared, Label, Priority, Reason, Refused, Stream};
+use plain::{self, Analysis, Level, Plan};
 
 // ---- both on one file ----
 
@@ -24,7 +24,7 @@ fn answers_alike(rng: &mut Rng, file: &[u8], tally: &mut Tally) -> Option<Vec<u6
     let (n, _) = counts(rng, file);
     let found = words(rng.next(), lent(rng, 2 * n, tally));
     let (mut proved, mut ours) = (found.clone(), found.clone());
-    let said = livnakesh::answers(file, &mut proved);
+    let said = livnakesh::answer_words(file, &mut proved);
     assert_eq!(said, plain::answers(file, &mut ours), "answers, {} words lent: {}", found.len(), hex(file));
     assert_eq!(proved, ours, "answers, {} words lent: {}", found.len(), hex(file));
     tally_refusal(tally, said);
@@ -538,7 +538,7 @@ fn promise_kept(old: &Plan, new: &Plan, tally: &mut Tally) {
         return tally.count("promise: chains too long");
     }
     let (mut before, mut after) = ([9; 128], [9; 128]);
-    let said = livnakesh::answers(&file_of(old), &mut before).and(livnakesh::answers(&file_of(new), &mut after));
+    let said = livnakesh::answer_words(&file_of(old), &mut before).and(livnakesh::answer_words(&file_of(new), &mut after));
     assert_eq!(said, Ok(()));
     for (row, stream) in new.streams.iter().enumerate() {
         let old_row = old.streams.iter().position(|s| s.label == stream.label).expect("a lighter plan has no new label");

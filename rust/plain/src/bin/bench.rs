@@ -4,8 +4,8 @@
 //! what it finds there. A call goes from the file's bytes to the answer, so it has the reading and all its checks in it. Of a
 //! tournament every step is a call of its own, in which both sides check the whole state again.
 
-use livnakesh::plain::{self, Plan, Timing, Tournament};
 use livnakesh::{Label, Outcome, Phase, Priority, Row, Stream};
+use plain::{self, Plan, Timing, Tournament};
 use std::hint::black_box;
 use std::time::{Duration, Instant};
 
@@ -105,10 +105,10 @@ fn row(name: &str, rounds: u32, proved: &mut dyn FnMut(), plain: &mut dyn FnMut(
 fn answers_row(name: &str, rounds: u32, plan: &Plan) {
     let file = file(plan);
     let (mut proved, mut ours) = ([0; 128], [0; 128]);
-    assert_eq!(livnakesh::answers(&file, &mut proved), plain::answers(&file, &mut ours));
+    assert_eq!(livnakesh::answer_words(&file, &mut proved), plain::answers(&file, &mut ours));
     assert_eq!(proved, ours);
     let file = &file[..];
-    row(name, rounds, &mut || _ = black_box(livnakesh::answers(black_box(file), black_box(&mut proved))), &mut || {
+    row(name, rounds, &mut || _ = black_box(livnakesh::answer_words(black_box(file), black_box(&mut proved))), &mut || {
         _ = black_box(plain::answers(black_box(file), black_box(&mut ours)))
     });
 }
@@ -134,8 +134,8 @@ fn parting_row(name: &str) {
     row(
         name,
         ROUNDS,
-        &mut || _ = black_box(livnakesh::parting(black_box(20), black_box(0x5_1234), black_box(0x5_1634))),
-        &mut || _ = black_box(plain::parting(black_box(20), black_box(0x5_1234), black_box(0x5_1634))),
+        &mut || _ = black_box(livnakesh::parting(black_box(20), black_box(Priority(0x5_1234)), black_box(Priority(0x5_1634)))),
+        &mut || _ = black_box(plain::parting(black_box(20), black_box(Priority(0x5_1234)), black_box(Priority(0x5_1634)))),
     );
 }
 

@@ -1,8 +1,8 @@
 //! What the tests share: plans by hand, a generator, and counts of what was seen.
 #![allow(dead_code)]
 
-use livnakesh::plain::{self, Analysis, Level, Plan};
 use livnakesh::{Label, Priority, Refused, Stream};
+use plain::{self, Analysis, Level, Plan};
 use std::collections::BTreeMap;
 use std::io::Write;
 

@@ -7,8 +7,8 @@ use common::{
     bytes, drawn, edge_plan, file_of, lent, need_all, plan, plan_of, repeat, stream, tally_refusal, tally_rows, values_of, words,
     work, Rng, Tally, MOST_WORK,
 };
-use livnakesh::plain::{self, Plan};
 use livnakesh::Refused;
+use plain::{self, Plan};
 
 /// Counts that no plan has, among them some that a cut to fewer bits or a product that wraps would take for a plan's.
 const WRONG_COUNTS: [usize; 10] =
@@ -241,11 +241,11 @@ fn screen_into(found: &[u64], plan: &Plan, timing: &[u32], tally: &mut Tally) ->
     let n = plan.streams.len();
     let file = file_of(plan);
     let (mut proved, mut ours, mut by_file) = (found.to_vec(), found.to_vec(), found.to_vec());
-    let said = livnakesh::screen(&plan.streams, timing, &plan.gaps, &mut proved);
+    let said = livnakesh::screen_words(&plan.streams, timing, &plan.gaps, &mut proved);
     let case = || format!("screen, {} timing words, {} answer words lent: {plan:?}", timing.len(), found.len());
     assert_eq!(said, plain::screen(plan, &mut ours), "{}", case());
     assert_eq!(proved, ours, "{}", case());
-    assert_eq!(said, as_values(&file, livnakesh::answers(&file, &mut by_file)), "{}", case());
+    assert_eq!(said, as_values(&file, livnakesh::answer_words(&file, &mut by_file)), "{}", case());
     assert_eq!(proved, by_file, "{}", case());
     let kept = if said.is_ok() { 2 * n } else { 0 };
     assert_eq!(proved[kept..], found[kept..], "words after the answers: {}", case());

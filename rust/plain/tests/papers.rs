@@ -8,8 +8,8 @@
 mod common;
 
 use common::{file_of, stream};
-use livnakesh::plain::{self, Plan, Timing};
-use livnakesh::{rows, Answer};
+use livnakesh::Answer;
+use plain::{self, Plan, Timing};
 
 /// T of Table 1, where the print has lost digits of streams 2, 6 and 7; all are harmonic, and `table_1_reads_as_printed`
 /// shows that these are the ones meant. D is T, and deadlines give the priorities.
@@ -50,14 +50,14 @@ fn example_1(timing: Timing) -> Plan {
 fn bounds(plan: &Plan) -> Vec<u64> {
     let file = file_of(plan);
     let (mut proved, mut ours) = ([0; 20], [0; 20]);
-    assert_eq!(livnakesh::answers(&file, &mut proved), Ok(()));
+    assert_eq!(livnakesh::answer_words(&file, &mut proved), Ok(()));
     assert_eq!(plain::answers(&file, &mut ours), Ok(()));
     assert_eq!(proved, ours);
     let met = |answer| match answer {
         Answer::Met(bound) => bound,
         other => panic!("{other:?} where 001 meets all deadlines"),
     };
-    rows(&proved).map(met).collect()
+    livnakesh::answers(&file).expect("a plan that is not refused").into_iter().map(met).collect()
 }
 
 #[test]
