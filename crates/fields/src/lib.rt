@@ -1,7 +1,7 @@
 // The fields of a plan in the order of its file: where each stands, its limits, the lowest that is outside them, and a
 // sheet's values as the file's words.
 //
-// Every function answers for every value that it is given, and its contract determines the answer. Nothing is assumed. This
+// Every public function answers for every value that it is given, and its contract determines the answer. Nothing is assumed. This
 // crate knows of names, laws and a plan's values; it must not know of bytes or of the other refusals.
 use laws::Found;
 use laws::smaller;

@@ -1,7 +1,7 @@
 // The tournament of document 01: a start, one step for each bit, all steps to the end, and what the replay
 // screen asks besides: whether a carrier is heard, and at which bit two priorities part.
 //
-// Every function answers for every input, a state that a caller made up too, and its contract determines the
+// Every public function answers for every input, a state that a caller made up too, and its contract determines the
 // whole answer, all 128 places included. A refused call hands the state back as it was. Nothing is assumed.
 // This crate must not know of plans, files or text.
 use names::CONTENDERS;

@@ -1,6 +1,6 @@
 // Little-endian words of 32 bits in bytes, both ways.
 //
-// Every function answers for all that it is lent: a word past the end reads as 0, and words that have no
+// Every public function answers for all that it is lent: a word past the end reads as 0, and words that have no
 // room are not written. Nothing is assumed. This crate knows of no plan, no file and no limit.
 use laws::smaller;
 ghost use mathlib.Core.Path.{_≡_};

@@ -1,0 +1,20 @@
+//! The bounds of a plan file, by the proved library: `cargo run --release --example bounds ../examples/p2.plan`.
+
+use livnakesh::{answers, Answer};
+
+fn main() {
+    let name = std::env::args().nth(1).expect("the name of a plan file");
+    let file = std::fs::read(name).expect("a file that can be read");
+    match answers(&file) {
+        Err(refused) => println!("refused {} at {}", refused.number, refused.place),
+        Ok(rows) => {
+            for (row, answer) in rows.into_iter().enumerate() {
+                match answer {
+                    Answer::Met(bound) => println!("row {row}: at most {bound} ticks, in time"),
+                    Answer::Missed(bound) => println!("row {row}: up to {bound} ticks, too late"),
+                    Answer::None => println!("row {row}: no bound"),
+                }
+            }
+        }
+    }
+}
