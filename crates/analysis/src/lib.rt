@@ -534,7 +534,8 @@ fn alone(g: Gathered, deadline: u64) -> Answer
             bound: 0,
         };
     };
-    judged(g.jitter + g.blocking + g.last, deadline)
+    let first = term(g.jitter + g.blocking + g.last, 0);
+    judged(first as u64, deadline)
 }
 
 // The answer among other streams and noise sources.
