@@ -1,4 +1,5 @@
 pub mod Sides
 pub mod Instances
 pub mod Largest
+pub mod AboveZero
 pub mod Answers

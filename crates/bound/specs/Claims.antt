@@ -1,10 +1,11 @@
 -- What is proved of the definitions of the bound, in document 01's words; the proofs are in proofs/. With these the definitions can be
 -- believed without reading how they search.
 use mathlib.Core.Path.{_≡_}
+use mathlib.Core.List.{[]}
 use mathlib.Core.Logic.{_↔_}
 use Prim.Native.Nat.{ℕ, _+_, _-_, _≤_, _<_}
 use lib.Dec.{T}
-use lib.IntN.{pos}
+use lib.IntN.{pos, negℤ}
 use lib.Signed.{leZ}
 use Rattle.names.specs.Limits.{ticks}
 use Rattle.laws.specs.Search.{Least}
@@ -20,10 +21,13 @@ BusyIsLeast = (r : Terms) (L : ℕ) → (busy r ≡ At L) ↔ ((L ≤ ticks) × 
 abbrev pub NoneExactly : Type 0
 NoneExactly = (r : Terms) → (busy r ≡ Nothing) ↔ ((L : ℕ) → 1 ≤ L → L ≤ ticks → sideL r L ≡ L → ⊥)
 
--- What every plan's terms have: a message takes a tick after V (C'' = V + C', C' ≥ 1), the last term is no more than the cost, periods are positive
+-- What the terms of every stream i of a plan have, and all that the theorems ask of them; of hp(i) and of the gaps nothing is asked
 pub record Sound (r : Terms) : Type 0 where
+  -- i's own period is a tick at least
   pub period : 1 ≤ r .own .T
+  -- i's C'' is more than V: C'' = V + C', and C' is a tick at least
   pub late : r .late + 1 ≤ r .own .C″
+  -- what the message itself takes at the end is a tick at least, and no more than C''
   pub ends : 1 ≤ r .last
   pub last : r .last ≤ r .own .C″
 
@@ -41,6 +45,32 @@ BoundIsLargest =
     (r : Terms) → Sound r → (L : ℕ) → busy r ≡ At L
     → ((q : ℕ) → q < Q r L → T (leZ (term r q) (pos (bound r L)))) × ((q : ℕ) × (q < Q r L) × (pos (bound r L) ≡ term r q)) × (1 ≤ bound r L)
 
--- .. and at most J + L, so it fits its word: with J and L at most 4,294,967,295 it has ten digits at most
+-- the term of q = 0 is never below zero, whatever the terms are
+abbrev pub FirstTermAboveZero : Type 0
+FirstTermAboveZero = (r : Terms) → T (leZ (pos 0) (term r 0))
+
+-- nor is that of any other instance of the busy period, q < Q: it is what the message itself takes at the end, or more. An instance that
+-- waited no longer than to its own release would have found the busy period over
+abbrev pub TermsAboveZero : Type 0
+TermsAboveZero = (r : Terms) → Sound r → (L q : ℕ) → busy r ≡ At L → q < Q r L → T (leZ (pos (r .last)) (term r q))
+
+-- A term may be below zero as a number, and so only for a q that does not count. The terms of P1's first stream:
+abbrev pub sparse : Terms
+sparse =
+    record {
+      B = 16;
+      own = record { C″ = 23; T = 100; J = 0 };
+      urgent = [];
+      gaps = [];
+      hit = 23;
+      late = 8;
+      last = 23;
+    }
+
+-- its busy period of 39 ticks has one instance, and the term of the next one, q = 1, is 39 + 23 - 100
+abbrev pub TermBelowZero : Type 0
+TermBelowZero = Sound sparse × (busy sparse ≡ At 39) × (Q sparse 39 ≡ 1) × (w sparse 1 ≡ 39) × (term sparse 1 ≡ negℤ (pos 38))
+
+-- the bound is at most J + L, so it fits its word: with J and L at most 4,294,967,295 it has ten digits at most
 abbrev pub BoundWithin : Type 0
 BoundWithin = (r : Terms) → Sound r → (L : ℕ) → busy r ≡ At L → bound r L ≤ r .own .J + L
