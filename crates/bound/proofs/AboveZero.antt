@@ -1,13 +1,13 @@
 -- No term that counts is below zero. If an instance q ≥ 1 of the busy period waited no longer than to its own release, J + w(q) ≤ q × T, then no more than q
 -- instances would have come by w(q), and L's right side would not rise there: the busy period would be over by w(q), which is before L. Assumes nothing.
-use mathlib.Core.Path.{_≡_, refl, sym, subst}
+use mathlib.Core.Path.{_≡_, refl}
 use mathlib.Core.Bool.{Bool, true, false, cond}
 use mathlib.Core.Logic.{⊎-elim}
 use Prim.Native.Nat.{ℕ, zero, suc, _+_, _-_, _*_, _≤_, _<_}
 use native.Mathlib.Nat.{le-trans, zero-mul, mul-le-mul-right, lt-irrefl, lt-of-not-le, eq-zero-or-pos}
 use native.Mathlib.Omega.{arith}
 use native.Mathlib.Decide.{decLe}
-use borrow.Author.Tests.{ltb-true, ltb-false}
+use borrow.Author.Tests.{ltb-true}
 use lib.Dec.{T, ltb, le→leb}
 use lib.IntN.{pos, negsuc, _-ℤ_}
 use lib.Signed.{leZ}
@@ -17,7 +17,7 @@ use Rattle.laws.specs.declared.Found.the-variants.{At}
 use Rattle.laws.proofs.Round.{ceil-at-most}
 use Rattle.laws.proofs.Chain.{least-below}
 use Rattle.bound.specs.Terms.{Terms}
-use Rattle.bound.specs.Bound.{E, demand, sideL, sideW, busy, Q, w, term}
+use Rattle.bound.specs.Bound.{E, demand, sideL, sideW, busy, Q, w}
 use Rattle.bound.specs.Claims.{Sound, FirstTermAboveZero, TermsAboveZero, TermBelowZero}
 use Rattle.bound.proofs.Sides.{E-mono, demand-mono, demand-own, sideL-mono, sideL-pos, busy-is-least}
 use Rattle.bound.proofs.Instances.{w-exists}

@@ -1,2 +1,3 @@
+pub mod Injection
 pub mod Sums
 pub mod Cover

@@ -1,12 +1,54 @@
--- What is proved of a stream's terms and answer where its fields are within the limits; the proofs are in proofs/Rules.antt.
-use Prim.Native.Nat.{_+_, _≤_}
+-- What is proved of a plan's streams in document 01's letters; the proofs are in proofs/. With these the rules over terms can be believed of plans.
+use mathlib.Core.Path.{_≡_}
+use mathlib.Core.List.{_∷_}
+use mathlib.Core.Logic.{_↔_}
+use Prim.Native.Nat.{ℕ, _+_, _-_, _*_, _≤_, _<_}
+use lib.ListN.{length, getD}
 use Rattle.names.specs.Limits.{ticks}
+use Rattle.laws.specs.Lists.{ceil, sumOf}
+use Rattle.laws.specs.Search.{Least}
+use Rattle.bound.specs.declared.Verdict.the-variants.{None}
+use Rattle.bound.specs.Bound.{sideL, sideW, w}
 use Rattle.bound.specs.Claims.{Sound}
 use Rattle.plan.specs.declared.Stream.{Stream}
-use Rattle.plan.specs.Plan.{Plan, StreamWithin}
-use Rattle.plan.specs.Rules.{terms, rowAnswer}
+use Rattle.plan.specs.Plan.{Plan, blank, StreamWithin, Within}
+use Rattle.plan.specs.Rules.{«V», C″, hp, B, hit, terms, rowAnswer}
 
--- the terms are such as the theorems of the bound take
+-- E(t) is the sum over sources of ceil(t / N), times the largest C'' among i and hp(i)
+abbrev pub noise : Plan → Stream → ℕ → ℕ
+noise p i t = sumOf (λ N. ceil t N) (p .gaps) * hit p i
+
+-- B + sum over i and hp(i) of ceil((L + J) / T) × C'' + E(L)
+abbrev pub rightL : Plan → Stream → ℕ → ℕ
+rightL p i L = B p i + sumOf (λ j. ceil (L + j .jitter) (j .period) * C″ p j) (i ∷ hp p i) + noise p i L
+
+-- B + q × C'' + sum over hp(i) of ceil((w + V + J + 1) / T) × C'' + E(w + C'')
+abbrev pub rightW : Plan → Stream → ℕ → ℕ → ℕ
+rightW p i q w =
+    B p i + q * C″ p i + sumOf (λ j. ceil (w + «V» (p .timing) + j .jitter + 1) (j .period) * C″ p j) (hp p i) + noise p i (w + C″ p i)
+
+-- these are the right sides of the terms of i
+abbrev pub RightSides : Type 0
+RightSides = (p : Plan) (i : Stream) → ((L : ℕ) → sideL (terms p i) L ≡ rightL p i L) × ((q w : ℕ) → sideW (terms p i) q w ≡ rightW p i q w)
+
+-- i is "none" exactly if no L from 1 to 4,294,967,295 is its own right side
+abbrev pub RowNoneExactly : Type 0
+RowNoneExactly = (p : Plan) (i : Stream) → (rowAnswer p i .verdict ≡ None) ↔ ((L : ℕ) → 1 ≤ L → L ≤ ticks → rightL p i L ≡ L → ⊥)
+
+-- the busy period L of i: the least positive whole number that is its own right side, and at most 4,294,967,295
+abbrev pub BusyPeriod : Plan → Stream → ℕ → Type 0
+BusyPeriod p i L = (L ≤ ticks) × Least (rightL p i) 1 L
+
+-- i has w(q) for q from 0 to Q - 1: it is the least whole number that is its own right side, and at most L - C''
+abbrev pub HasW : Plan → Stream → Type 0
+HasW p i =
+    (L q : ℕ) → BusyPeriod p i L → q < ceil (L + i .jitter) (i .period) → Least (rightW p i q) 0 (w (terms p i) q) × (w (terms p i) q ≤ L - C″ p i)
+
+-- w(q) always exists: each stream of a plan within the limits has it
+abbrev pub RowWExists : Type 0
+RowWExists = (p : Plan) → Within p → (k : ℕ) → k < length (p .streams) → HasW p (getD (p .streams) k blank)
+
+-- the terms of a stream within the limits are such as the theorems of the bound take
 abbrev pub TermsSound : Type 0
 TermsSound = (p : Plan) (i : Stream) → StreamWithin (p .timing .nb) i → Sound (terms p i)
 
