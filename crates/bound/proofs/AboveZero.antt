@@ -18,13 +18,13 @@ use Rattle.laws.proofs.Round.{ceil-at-most}
 use Rattle.laws.proofs.Chain.{least-below}
 use Rattle.bound.specs.Terms.{Terms}
 use Rattle.bound.specs.Bound.{E, demand, sideL, sideW, busy, Q, w}
-use Rattle.bound.specs.Claims.{Sound, FirstTermAboveZero, TermsAboveZero, TermBelowZero}
+use Rattle.bound.specs.Claims.{Sound, FirstTermNotBelowZero, TermsAboveZero, TermBelowZero}
 use Rattle.bound.proofs.Sides.{E-mono, demand-mono, demand-own, sideL-mono, sideL-pos, busy-is-least}
 use Rattle.bound.proofs.Instances.{w-exists}
 use Rattle.bound.proofs.Largest.{first-term}
 
-pub first-term-above-zero : FirstTermAboveZero
-first-term-above-zero r = rw first-term (le→leb 0 (r .own .J + w r 0 + r .last) (omega arith))
+pub first-term-not-below-zero : FirstTermNotBelowZero
+first-term-not-below-zero r = rw first-term (le→leb 0 (r .own .J + w r 0 + r .last) (omega arith))
 
 -- where no more than q instances have come by x, L's right side is no more than w(q)'s
 sides : (r : Terms) → Sound r → (q x : ℕ) → x + r .own .J ≤ q * r .own .T → sideL r x ≤ sideW r q x

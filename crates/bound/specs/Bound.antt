@@ -47,7 +47,7 @@ orZero Nothing = 0
 unfoldable pub w : Terms → ℕ → ℕ
 w r q = orZero (firstFixed (sideW r q) 0 (ticks + 1))
 
--- the term of q: J + w(q) + C'' - q × T, which may be below zero
+-- the term of q: J + w(q) + C'' - q × T, which may be below zero as a number, though for no q that counts (Claims)
 abbrev pub term : Terms → ℕ → ℤ
 term r q = pos (r .own .J + w r q + r .last) -ℤ pos (q * r .own .T)
 

@@ -21,7 +21,7 @@ BusyIsLeast = (r : Terms) (L : ℕ) → (busy r ≡ At L) ↔ ((L ≤ ticks) × 
 abbrev pub NoneExactly : Type 0
 NoneExactly = (r : Terms) → (busy r ≡ Nothing) ↔ ((L : ℕ) → 1 ≤ L → L ≤ ticks → sideL r L ≡ L → ⊥)
 
--- What the terms of every stream i of a plan have, and all that the theorems ask of them; of hp(i) and of the gaps nothing is asked
+-- What the terms of a stream i have where its plan is within the limits, and all that is asked here; nothing is asked of hp(i) and the gaps
 pub record Sound (r : Terms) : Type 0 where
   -- i's own period is a tick at least
   pub period : 1 ≤ r .own .T
@@ -46,15 +46,15 @@ BoundIsLargest =
     → ((q : ℕ) → q < Q r L → T (leZ (term r q) (pos (bound r L)))) × ((q : ℕ) × (q < Q r L) × (pos (bound r L) ≡ term r q)) × (1 ≤ bound r L)
 
 -- the term of q = 0 is never below zero, whatever the terms are
-abbrev pub FirstTermAboveZero : Type 0
-FirstTermAboveZero = (r : Terms) → T (leZ (pos 0) (term r 0))
+abbrev pub FirstTermNotBelowZero : Type 0
+FirstTermNotBelowZero = (r : Terms) → T (leZ (pos 0) (term r 0))
 
 -- nor is that of any other instance of the busy period, q < Q: it is what the message itself takes at the end, or more. An instance that
 -- waited no longer than to its own release would have found the busy period over
 abbrev pub TermsAboveZero : Type 0
 TermsAboveZero = (r : Terms) → Sound r → (L q : ℕ) → busy r ≡ At L → q < Q r L → T (leZ (pos (r .last)) (term r q))
 
--- A term may be below zero as a number, and so only for a q that does not count. The terms of P1's first stream:
+-- A term may be below zero as a number, though only for a q that does not count. The terms of P1's first stream:
 abbrev pub sparse : Terms
 sparse =
     record {

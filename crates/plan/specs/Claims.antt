@@ -1,4 +1,4 @@
--- What is proved of a plan's streams in document 01's letters; the proofs are in proofs/. With these the rules over terms can be believed of plans.
+-- What is proved of a plan's streams, in document 01's letters; the proofs are in proofs/. So the rules over terms are those of plans.
 use mathlib.Core.Path.{_≡_}
 use mathlib.Core.List.{_∷_}
 use mathlib.Core.Logic.{_↔_}
@@ -42,7 +42,8 @@ BusyPeriod p i L = (L ≤ ticks) × Least (rightL p i) 1 L
 -- i has w(q) for q from 0 to Q - 1: it is the least whole number that is its own right side, and at most L - C''
 abbrev pub HasW : Plan → Stream → Type 0
 HasW p i =
-    (L q : ℕ) → BusyPeriod p i L → q < ceil (L + i .jitter) (i .period) → Least (rightW p i q) 0 (w (terms p i) q) × (w (terms p i) q ≤ L - C″ p i)
+    (L q : ℕ) → BusyPeriod p i L → q < ceil (L + i .jitter) (i .period)
+    → Least (rightW p i q) 0 (w (terms p i) q) × (w (terms p i) q ≤ L - C″ p i)
 
 -- w(q) always exists: each stream of a plan within the limits has it
 abbrev pub RowWExists : Type 0
