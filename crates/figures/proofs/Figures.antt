@@ -1,96 +1,108 @@
--- Every figure of document 01's plans: antt computes it, and a full load shows that P4 and P5 have none. Assumes nothing.
-use mathlib.Core.Path.{_≡_, refl, sym, ap}
-use mathlib.Core.List.{[], _∷_, flatMap}
+-- Every figure of document 01's plans: computed again from what is run, the whole table is the table, and an entry that is the same again
+-- holds. Where a row's own period is full, that stands for the search that finds no busy period. A wrong figure is refused at `same-again`,
+-- which does not say where: ask it of a part of the table. Assumes nothing.
+use mathlib.Core.Path.{_≡_, refl, sym, ap, _∙_}
+use mathlib.Core.Bool.{Bool, true, false, cond, _&&_}
+use mathlib.Core.List.{List, [], _∷_, map, flatMap}
+use Prim.Native.Nat.{ℕ, _+_}
 use native.Mathlib.Omega.{arith}
+use borrow.Author.Tests.{leb-true, ltb-true}
+use lib.Dec.{leb, ltb}
+use lib.ListN.{length}
+use Rattle.laws.specs.declared.Found.{Found}
 use Rattle.laws.specs.declared.Found.the-variants.{Nothing}
 use Rattle.laws.specs.Lists.{sumOf, largestOf, those, rows}
 use Rattle.laws.specs.Search.{first}
 use Rattle.laws.specs.Signed.{largestTo}
+use Rattle.laws.proofs.Tests.{both}
 use Rattle.repeats.specs.Rows.{some}
 use Rattle.repeats.specs.Repeats.{firstRepeat}
-use Rattle.bound.specs.Bound.{E, demand, sideL, busy, sideW, w, bound, answer}
-use Rattle.bound.proofs.Answers.{answer-none}
-use Rattle.plan.specs.Rules.{B, hit, terms}
+use Rattle.bound.specs.Terms.{Terms}
+use Rattle.bound.specs.Bound.{E, demand, sideL, busy, sideW, w, bound, answerOf, answer}
+use Rattle.plan.specs.Rules.{«V», U, C″, B, hit, terms, answers}
 use Rattle.fields.specs.Fields.{fields, lowest}
 use Rattle.checks.specs.Checks.{judge}
 use Rattle.words.specs.Words.{wordsOf, bytesOf}
-use Rattle.file.specs.File.{words, planIn, same, readOf}
+use Rattle.file.specs.File.{words, planIn, same, sizeRight, fileOf, readOf}
 use Rattle.decimal.specs.Decimal.{digitsOf, digits}
 use Rattle.text.specs.Listing.{listingOf}
 use Rattle.text.specs.Listing as text
 use Rattle.tournament_state.specs.Refusals.{eightPriorities, nine, verdictOf}
 use Rattle.tournament.specs.Rule.{begunOf, heardAt, silencedAt, marksAfter, lowestMarked, winnerOf, nextAt, steps}
 use Rattle.tournament.specs.Answers.{startOf, runOf}
-use Rattle.figures.specs.Plans.{P4, P5}
-use Rattle.figures.specs.Load.{load, delayed, Full}
-use Rattle.figures.specs.Figures.{row, file, Figures}
+use Rattle.figures.specs.Load.{load, delayed}
+use Rattle.figures.specs.Figures.{Entry, constants, plan, row, listing, bytes, tournament}
+use Rattle.figures.specs.Figures.{values, file, refusal, at, count, instance, states, Holds, table, All, Figures}
 use Rattle.figures.proofs.Load.{full-is-none}
 
--- in 22 ticks one message is sure to be asked for, and it takes 23
-P4-full : Full (row P4 0) 22
-unfolding load sumOf terms
-P4-full = record { all = omega arith; more = omega arith }
+-- ---- a stream: where its own period is full there is no busy period, and elsewhere it is searched for
+full : Terms → ℕ → Bool
+full r d = leb d (load r d) && ltb d (load r d + delayed r d)
 
--- in 23 ticks one message is sure to be asked for; it takes all 23, and its jitter counts
-P5-full : Full (row P5 0) 23
-unfolding load delayed sumOf terms
-P5-full = record { all = omega arith; more = omega arith }
+abbrev sought : Terms → Bool → Found
+sought r b = cond b Nothing (busy r)
 
-P4-none : busy (row P4 0) ≡ Nothing
-P4-none = full-is-none (row P4 0) 22 P4-full
+is-busy : (r : Terms) → sought r (full r (r .own .T)) ≡ busy r
+unfolding full
+is-busy r = go (full r (r .own .T)) refl
+  where
+    go : (b : Bool) → full r (r .own .T) ≡ b → sought r b ≡ busy r
+    go true e =
+        let (all, more) = both (leb (r .own .T) (load r (r .own .T))) _ e in
+        sym (full-is-none r (r .own .T) (record { all = leb-true _ _ all; more = ltb-true _ _ more }))
+    go false e = refl
 
-P5-none : busy (row P5 0) ≡ Nothing
-P5-none = full-is-none (row P5 0) 23 P5-full
+-- ---- an entry, computed again from what is run
 
-pub figures : Figures
-unfolding sumOf largestOf those rows first largestTo some firstRepeat
+-- any file of a wrong size is refused 1; of a right one the size says nothing, and no number passes
+abbrev bySize : Bool → ℕ → ℕ
+bySize ok number = cond ok (number + 1) 1
+
+again : Entry → Entry
+again (constants t v u) = constants t («V» t) (U t)
+again (plan p c d) = plan p (values p) (file (fileOf p))
+again (row p k c L q is a) =
+    let r = terms p (at p k) in
+    let f = sought r (full r (r .own .T)) in
+    row p k (C″ p (at p k)) f (count r f) (rows (count r f) (instance r)) (answerOf r (at p k .deadline) f)
+again (listing p size text) = listing p (length (fileOf p)) (listingOf p (answers p))
+again (bytes bs size number) = bytes bs (length bs) (bySize (sizeRight bs) number)
+again (tournament NB n places a b ss) =
+    let start = startOf NB n places in
+    tournament NB n places (start .answer) (runOf (start .tournament) .answer) (states (start .tournament))
+
+-- ---- an entry that is the same again holds
+
+-- a file of a wrong size is refused 1, whatever stands in it
+by-size : (bs any : List ℕ) (size number : ℕ) → length bs ≡ size → length any ≡ size → bySize (sizeRight bs) number ≡ number → file any ≡ refusal number 0
+unfolding readOf judge
+by-size bs any size number e f h = go (sizeRight any) refl (rw (f ∙ sym e) h)
+  where
+    go : (ok : Bool) → sizeRight any ≡ ok → bySize ok number ≡ number → file any ≡ refusal number 0
+    go true q d = absurd (omega (arith, d))
+    go false q d = rw (q, file) (ap (λ n. refusal n 0) d)
+
+holds : (e : Entry) → again e ≡ e → Holds e
+unfolding again answer
+holds (constants t v u) e = (cc, cc)
+holds (plan p c d) e = (cc, cc)
+holds (row p k c L q is a) e = let b = is-busy (terms p (at p k)) in (cc, cc, cc, cc, cc)
+holds (listing p size text) e = (cc, cc)
+holds (bytes bs size number) e = (cc, λ any f. by-size bs any size number (cc) f (cc))
+holds (tournament NB n places a b ss) e = (cc, cc, cc)
+
+all-hold : (es : List Entry) → map again es ≡ es → All es
+all-hold [] e = tt
+all-hold (x ∷ es) e = (holds x cc, all-hold es cc)
+
+-- ---- the whole table is the same again: antt computes it
+same-again : map again table ≡ table
+unfolding again full load delayed sumOf largestOf those rows first largestTo some firstRepeat
     E demand sideL busy sideW w bound answer B hit terms
     fields lowest flatMap judge wordsOf bytesOf words planIn same readOf
     listingOf text.rows text.row digits digitsOf
     eightPriorities nine verdictOf begunOf heardAt silencedAt marksAfter lowestMarked winnerOf nextAt steps startOf runOf
-figures =
-    record {
-      base-V = refl;
-      base-U = refl;
-      P1-costs = refl;
-      P1-bytes = refl;
-      P1-answers = refl;
-      P1-listing = refl;
-      P2-answers = refl;
-      P3-L = refl;
-      P3-Q = refl;
-      P3-bound = refl;
-      P3-answers = refl;
-      P4-L = P4-none;
-      P4-answers = ap (λ a. a ∷ []) (sym (answer-none (row P4 0) 1000 P4-none));
-      P5-L = P5-none;
-      P5-answers = ap (λ a. a ∷ []) (sym (answer-none (row P5 0) 1000 P5-none));
-      P6-L = refl;
-      P6-Q = refl;
-      P6-bound = refl;
-      P6-answers = refl;
-      P7-L = refl;
-      P7-Q = refl;
-      P7-w0 = refl;
-      P7-w1 = refl;
-      P7-bound = refl;
-      P7-first = refl;
-      P7-second = refl;
-      values-fine = refl;
-      files-fine = refl;
-      P8-values = refl;
-      P8-file = refl;
-      P9-values = refl;
-      P9-file = refl;
-      P10-bytes = refl;
-      P10-file = refl;
-      P10-any = λ bytes e. rw (e, file);
-      P11-values = refl;
-      P11-file = refl;
-      P12-start = refl;
-      P12-run = refl;
-      P12-wins = refl;
-      P12-second = refl;
-      P12-before = refl;
-      P12-after = refl;
-    }
+same-again = refl
+
+pub figures : Figures
+figures = all-hold table same-again
