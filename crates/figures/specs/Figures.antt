@@ -62,7 +62,7 @@ refusal number place = Refused (record { number = number; place = place })
 abbrev pub at : Plan → ℕ → Stream
 at p k = getD (p .streams) k blank
 
--- Q, which is 0 for none, and what the document says of an instance: w(q), and the bound that q alone gives
+-- Q, which is 0 for none; and of an instance w(q), and the bound that q alone gives
 abbrev pub count : Terms → Found → ℕ
 count r (At L) = Q r L
 count r Nothing = 0
@@ -74,6 +74,7 @@ instance r q = (w r q, term r q)
 abbrev pub state : Tournament → Phase × List Bool
 state t = (t .phase, take (t .count) (t .marks))
 
+-- the states before each step, and the one that the run ends in
 abbrev pub states : Tournament → List (Phase × List Bool)
 states t = rows (t .bits) (λ k. state (steps k t)) ++ state (runOf t .tournament) ∷ []
 
@@ -127,6 +128,7 @@ printed =
     ∷ 49 ∷ 49 ∷ 46 ∷ 50 ∷ 32 ∷ 51 ∷ 32 ∷ 54 ∷ 56 ∷ 32 ∷ 50 ∷ 48 ∷ 48 ∷ 32 ∷ 109 ∷ 101 ∷ 116 ∷ 10
     ∷ []
 
+-- the columns of a row: its number, C'', L, Q, w(q) with what q alone gives, the answer
 abbrev pub table : List Entry
 table =
     -- base constants: V = 8 and U = 10
