@@ -1,5 +1,9 @@
-/* The planner's functions for other languages. A slice is a pointer and then a length; what is lent stays the caller's.
- * A refusal hands back document 01's number and place, and leaves lent memory as it was. Rows count from 0. */
+/* The planner's functions for other languages. A slice is a pointer and then a length, counted in elements; what is lent stays
+ * the caller's. No two slices of one call may overlap, and each must be aligned for its elements. A slice of length 0 may be NULL.
+ * A refusal hands back document 01's number and place, and leaves lent memory as it was. Rows count from 0.
+ *
+ * Every call returns, but livnakesh_answers and livnakesh_screen can take minutes: most plans take well under a millisecond, and
+ * the slowest that are known 190 seconds. All other calls look at what they are lent once or a few times over. */
 #ifndef LIVNAKESH_H
 #define LIVNAKESH_H
 
@@ -86,19 +90,21 @@ struct livnakesh_said livnakesh_parting(uint32_t bits, uint32_t first, uint32_t 
  * then has one in the second, no larger, and what was met is met. */
 struct livnakesh_weighed livnakesh_lighter(const uint8_t *first, size_t first_length, const uint8_t *second, size_t second_length);
 
-/* A tournament's state is its bit count, its number of contenders, its phase, and 128 priorities and marks, of which the first
- * 128 that are lent are taken: a priority that is not lent is 0, and a mark that is not lent is out. A mark is a byte, in if it
- * is not 0. A call that is not refused makes each of the first 128 lent marks 1 for in or 0 for out; the bytes after them stay
- * as found. Refusals 7 to 9. */
+/* A tournament's state is its bit count, its phase, its priorities and its marks. Each lent priority is a contender's, row by row,
+ * and its mark is the byte in the same row, in if it is not 0. Refusals 6 to 9: 6 exactly when fewer marks than priorities are
+ * lent, before all others, with place 0; 7 if no priority or more than 128 are lent. */
 
-/* The start of a tournament, at bit 1 with all contenders in and the other places out. What stands in the marks is not looked
- * at. A refused start has phase 2, at 0. */
-struct livnakesh_stepped livnakesh_start(uint32_t bits, size_t contenders, const uint32_t *priorities, size_t priority_count,
+/* The start of a tournament, at bit 1 with all contenders in; what stands in the marks is not looked at. Unless it is refused,
+ * each contender's mark becomes 1, and those after them become 0 up to the 128th, as far as they are lent; the bytes after the
+ * 128th stay as found. A refused start has phase 2, at 0. */
+struct livnakesh_stepped livnakesh_start(uint32_t bits, const uint32_t *priorities, size_t priority_count,
                                          uint8_t *marks, size_t mark_count);
 
-/* One step, from a state of the caller's own making; phase and at are as in livnakesh_stepped, and a phase above 2 is as 2.
- * A finished tournament stays as it is. A refused step hands back the phase that was lent. */
-struct livnakesh_stepped livnakesh_step(uint32_t bits, size_t contenders, uint32_t phase, uint32_t at,
+/* One step, from a state of the caller's own making; phase and at are as in livnakesh_stepped, and a phase above 2 is as 2, beside
+ * which at is not looked at. The mark of a contender that goes out becomes 0; every other byte stays as found, those of a finished
+ * tournament and those after the contenders' too. A refused step hands back the phase and the at that were lent, right or wrong,
+ * if the phase was 0 or 1, and phase 2, at 0, if it was above. */
+struct livnakesh_stepped livnakesh_step(uint32_t bits, uint32_t phase, uint32_t at,
                                         const uint32_t *priorities, size_t priority_count, uint8_t *marks, size_t mark_count);
 
 #ifdef __cplusplus

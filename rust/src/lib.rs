@@ -70,7 +70,7 @@ pub enum Phase {
     NoWinner,
 }
 
-/// A tournament after a call. A refused step has the phase that was lent, and a refused start no winner.
+/// A tournament after a call. A refused step has the phase that it was given, and a refused start no winner.
 #[derive(Clone, Copy, Debug, PartialEq, Eq)]
 pub struct Outcome {
     pub answer: Result<(), Refused>,
@@ -123,7 +123,6 @@ extern "C" {
     fn livnakesh_lighter(first: *const u8, first_length: usize, second: *const u8, second_length: usize) -> Weighed;
     fn livnakesh_start(
         bits: u32,
-        contenders: usize,
         priorities: *const Priority,
         priority_count: usize,
         marks: *mut u8,
@@ -131,7 +130,6 @@ extern "C" {
     ) -> Stepped;
     fn livnakesh_step(
         bits: u32,
-        contenders: usize,
         phase: u32,
         at: u32,
         priorities: *const Priority,
@@ -264,28 +262,27 @@ fn reason(condition: u64, value: u64) -> Reason {
     }
 }
 
-/// A tournament at its first bit, with all contenders marked in.
+/// A tournament at its first bit, with all contenders marked in: as many as there are priorities.
 ///
-/// The first 128 priorities are taken, and one that is not lent is 0. The first 128 lent marks become 1 for in and 0 for out,
-/// unless the start is refused; what stood there is not looked at.
-pub fn start(bits: u32, contenders: usize, priorities: &[Priority], marks: &mut [u8]) -> Outcome {
+/// Each contender's mark becomes 1, and those after them 0 up to the 128th; what stood there is not looked at. The bytes after the
+/// 128th stay as found. With fewer marks than priorities the start is refused 6. A refused start leaves the marks as found.
+pub fn start(bits: u32, priorities: &[Priority], marks: &mut [u8]) -> Outcome {
     // SAFETY: both slices outlive the call, the library stays within them, and a priority is laid out as its number.
-    outcome(unsafe { livnakesh_start(bits, contenders, priorities.as_ptr(), priorities.len(), marks.as_mut_ptr(), marks.len()) })
+    outcome(unsafe { livnakesh_start(bits, priorities.as_ptr(), priorities.len(), marks.as_mut_ptr(), marks.len()) })
 }
 
-/// A tournament one bit later, from a state of any making; slices as for `start`.
+/// A tournament one bit later, from a state of any making, of as many contenders as there are priorities.
 ///
-/// A mark is in if its byte is not 0, and one that is not lent is out.
-pub fn step(bits: u32, contenders: usize, phase: Phase, priorities: &[Priority], marks: &mut [u8]) -> Outcome {
+/// A mark is in if its byte is not 0. That of a contender which goes out becomes 0, and every other byte stays as found. With fewer
+/// marks than priorities the step is refused 6. A refused step leaves the marks as found.
+pub fn step(bits: u32, phase: Phase, priorities: &[Priority], marks: &mut [u8]) -> Outcome {
     let (phase, at) = match phase {
         Phase::AtBit(bit) => (0, bit),
         Phase::Finished(row) => (1, row.0),
         Phase::NoWinner => (2, 0),
     };
     // SAFETY: both slices outlive the call, the library stays within them, and a priority is laid out as its number.
-    outcome(unsafe {
-        livnakesh_step(bits, contenders, phase, at, priorities.as_ptr(), priorities.len(), marks.as_mut_ptr(), marks.len())
-    })
+    outcome(unsafe { livnakesh_step(bits, phase, at, priorities.as_ptr(), priorities.len(), marks.as_mut_ptr(), marks.len()) })
 }
 
 fn outcome(stepped: Stepped) -> Outcome {

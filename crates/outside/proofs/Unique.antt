@@ -44,10 +44,10 @@ pub livnakesh-lighter-one : OneOutcome 2 lighter-kinds.ps lighter-kinds.r lighte
 livnakesh-lighter-one κs a x y ws us p q = (p ∙ sym q, refl)
 
 pub livnakesh-start-one : OneOutcome 2 start-kinds.ps start-kinds.r start.Post
-livnakesh-start-one κs a x y ws us p q = (p .0 ∙ sym (q .0), ap (λ (l : List ℕ). (tt, (tt, (tt, (l, tt))))) (p .1 ∙ sym (q .1)))
+livnakesh-start-one κs a x y ws us p q = (p .0 ∙ sym (q .0), ap (λ (l : List ℕ). (tt, (tt, (l, tt)))) (p .1 ∙ sym (q .1)))
 
 pub livnakesh-step-one : OneOutcome 2 step-kinds.ps step-kinds.r step.Post
-livnakesh-step-one κs a x y ws us p q = (p .0 ∙ sym (q .0), ap (λ (l : List ℕ). (tt, (tt, (tt, (tt, (tt, (l, tt))))))) (p .1 ∙ sym (q .1)))
+livnakesh-step-one κs a x y ws us p q = (p .0 ∙ sym (q .0), ap (λ (l : List ℕ). (tt, (tt, (tt, (tt, (l, tt)))))) (p .1 ∙ sym (q .1)))
 
 module _ {M : Type 1} (𝓤 : URA M) (H : Heap 𝓤) (A : Atoms 𝓤) (mem : Memory → SProp 𝓤) (run : Routine → Fun 𝓤) where
   pub livnakesh-screen-one : OneOutcome·walked 𝓤 screen.ended (screen.clauses 𝓤 H A mem run)

@@ -1,7 +1,9 @@
 -- What is handed to a caller in another language: numbers, with 0 for "not refused" and document 01's numbers else.
-use mathlib.Core.Bool.{Bool}
+use mathlib.Core.Bool.{cond}
 use mathlib.Core.List.{List}
 use Prim.Native.Nat.{ℕ}
+use lib.Dec.{ltb}
+use lib.ListN.{length}
 use Rattle.names.specs.declared.Refusal.{Refusal}
 use Rattle.checks.specs.declared.Checked.{Checked}
 use Rattle.checks.specs.declared.Checked.the-variants.{Fine, Refused}
@@ -19,11 +21,14 @@ use Rattle.compare.specs.declared.Compared.the-variants.{FirstRefused, SecondRe
 use Rattle.tournament.specs.declared.Parting.{Parting}
 use Rattle.tournament.specs.declared.Parting.the-variants.{At, Refused as Parting·Refused}
 use Rattle.tournament.specs.declared.Outcome.{Outcome}
+use Rattle.tournament.specs.Answers.{nobody, startOf, stepOf}
 use Rattle.tournament_state.specs.declared.Phase.{Phase}
 use Rattle.tournament_state.specs.declared.Phase.the-variants.{AtBit, Finished, NoWinner}
 use Rattle.tournament_state.specs.declared.Answer.{Answer}
 use Rattle.tournament_state.specs.declared.Answer.the-variants.{Done, Refused as Answer·Refused}
-use Rattle.states.specs.States.{marksInto}
+use Rattle.tournament_state.specs.declared.Tournament.{Tournament}
+use Rattle.tournament_state.specs.Refusals.{refused as Answer·refused}
+use Rattle.states.specs.States.{prioritiesFrom, stateFrom, marksInto, markedOut}
 use Rattle.outside.specs.declared.Said.{Said}
 use Rattle.outside.specs.declared.Stepped.{Stepped}
 use Rattle.outside.specs.declared.Weighed.{Weighed}
@@ -108,13 +113,37 @@ abbrev pub stepped : Answer → Phase → Stepped
 stepped Done phase = record { refusal = 0; place = 0; phase = phaseNumber phase; at = phaseAt phase }
 stepped (Answer·Refused r) phase = record { refusal = r .number; place = r .place; phase = phaseNumber phase; at = phaseAt phase }
 
--- the lent marks after it: those of the state, or as they were
-abbrev pub marksUnless : Answer → List Bool → List ℕ → List ℕ
-marksUnless Done marks found = marksInto marks found
-marksUnless (Answer·Refused r) marks found = found
-
 abbrev pub steppedBy : Outcome → Stepped
 steppedBy o = stepped (o .answer) (o .tournament .phase)
 
-abbrev pub marksBy : Outcome → List ℕ → List ℕ
-marksBy o found = marksUnless (o .answer) (o .tournament .marks) found
+-- 6 if fewer marks than contenders are lent, whatever else is wrong, and the state as it was
+abbrev pub unlessFewer : List ℕ → List ℕ → Tournament → Outcome → Outcome
+unlessFewer ps bs before o = cond (ltb (length bs) (length ps)) (record { tournament = before; answer = Answer·refused 6 0 }) o
+
+-- a start on lent priorities, each a contender's
+unfoldable pub startFrom : ℕ → List ℕ → List ℕ → Outcome
+startFrom NB ps bs = unlessFewer ps bs nobody (startOf NB (length ps) (prioritiesFrom ps))
+
+-- a step of the state that is lent
+unfoldable pub stepFrom : ℕ → ℕ → ℕ → List ℕ → List ℕ → Outcome
+stepFrom NB phase at ps bs = unlessFewer ps bs (stateFrom NB phase at ps bs) (stepOf (stateFrom NB phase at ps bs))
+
+-- the lent bytes after a call: as they were if it is refused, ..
+abbrev pub bytesUnless : Answer → List ℕ → List ℕ → List ℕ
+bytesUnless Done after found = after
+bytesUnless (Answer·Refused r) after found = found
+
+-- .. after a start 1 for each contender and 0 for each unused place, ..
+abbrev pub startBytes : Outcome → List ℕ → List ℕ
+startBytes o found = bytesUnless (o .answer) (marksInto (o .tournament .marks) found) found
+
+-- .. and after a step 0 for each contender that it marks out, and every other byte as found
+abbrev pub stepBytes : Outcome → List ℕ → List ℕ
+stepBytes o found = bytesUnless (o .answer) (markedOut (o .tournament .count) (o .tournament .marks) found) found
+
+-- so what the lent bytes end with, of what is lent
+abbrev pub startMarks : ℕ → List ℕ → List ℕ → List ℕ
+startMarks NB ps bs = startBytes (startFrom NB ps bs) bs
+
+abbrev pub stepMarks : ℕ → ℕ → ℕ → List ℕ → List ℕ → List ℕ
+stepMarks NB phase at ps bs = stepBytes (stepFrom NB phase at ps bs) bs

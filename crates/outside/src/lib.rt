@@ -1,13 +1,13 @@
 // The boundary to other languages: a handful of functions on numbers and slices, and what they hand back as numbers.
 //
-// Each answers for every input, as the function that it calls does; nothing is checked or computed here. A slice is a pointer
-// and then a length. Nothing is assumed of the caller but that what it lends is its own to lend.
+// Each answers for every input, as the function that it calls does; nothing is computed here, and nothing checked but that a
+// tournament has a mark for each contender. A slice is a pointer and then a length. Nothing is assumed of the caller but that
+// what it lends is its own to lend.
 ghost use mathlib.Core.Path.{_≡_};
 ghost use Rattle.answers.specs.Words.{answerFileOf};
 ghost use Rattle.compare_files.specs.Files.{comparedFiles};
-ghost use Rattle.tournament.specs.Answers.{partingOf, startOf, stepOf};
+ghost use Rattle.tournament.specs.Answers.{partingOf};
 ghost use Rattle.file.specs.File.{writeOf};
-ghost use Rattle.states.specs.States.{prioritiesFrom, stateFrom};
 ghost use Rattle.values.specs.Values.{sheetFrom};
 ghost use Rattle.outside.specs.Outside as number;
 use answers::answer_file;
@@ -24,6 +24,7 @@ use names::Refusal;
 use plan::Stream;
 use reader::counts;
 use screen::screen;
+use states::mark_out;
 use states::marks_into;
 use states::priorities_from;
 use states::state_from;
@@ -233,9 +234,9 @@ fn at_phase(refusal: u64, place: u64, phase: Phase) -> Stepped
     }
 }
 
-// The state after the call, its marks in the lent bytes; a refused call leaves them as found.
-fn handed_back(outcome: Outcome, marks: &mut [u8]) -> Stepped
-    ensures { λ s. ⌜ (s ≡ number.steppedBy outcome) × (now (marks .exit) ≡ number.marksBy outcome (now (marks .entry))) ⌝ }
+// What a start that is not refused leaves in the lent bytes: every place, in or out.
+fn begun(outcome: Outcome, marks: &mut [u8]) -> Stepped
+    ensures { λ s. ⌜ (s ≡ number.steppedBy outcome) × (now (marks .exit) ≡ number.startBytes outcome (now (marks .entry))) ⌝ }
 {
     let answer = outcome.answer;
     let tournament = outcome.tournament;
@@ -250,34 +251,53 @@ fn handed_back(outcome: Outcome, marks: &mut [u8]) -> Stepped
     }
 }
 
-// The start of a tournament: what stood in the lent marks is not looked at.
-#[no_mangle]
-pub extern "C" fn livnakesh_start(
-    bits: u32,
-    count: usize,
-    priorities: &[u32],
-    marks: &mut [u8],
-) -> Stepped
-    ensures { λ s. ⌜ s ≡ number.steppedBy (startOf bits count (prioritiesFrom (now (priorities .entry)))) ⌝ }
-    ensures { λ _. ⌜ now (marks .exit) ≡ number.marksBy (startOf bits count (prioritiesFrom (now (priorities .entry)))) (now (marks .entry)) ⌝ }
+// What a step that is not refused leaves in them: the bytes as lent, but for the contenders that it marks out.
+fn gone_on(outcome: Outcome, marks: &mut [u8]) -> Stepped
+    ensures { λ s. ⌜ (s ≡ number.steppedBy outcome) × (now (marks .exit) ≡ number.stepBytes outcome (now (marks .entry))) ⌝ }
 {
+    let answer = outcome.answer;
+    let tournament = outcome.tournament;
+    let left = tournament.marks;
+    let phase = tournament.phase;
+    match answer {
+        Answer::Done => {
+            mark_out(tournament.count, left, marks);
+            at_phase(0, 0, phase)
+        }
+        Answer::Refused(r) => at_phase(r.number as u64, r.place as u64, phase),
+    }
+}
+
+// The start of a tournament of as many contenders as there are priorities: what stood in the lent marks is not looked at.
+#[no_mangle]
+pub extern "C" fn livnakesh_start(bits: u32, priorities: &[u32], marks: &mut [u8]) -> Stepped
+    ensures { λ s. ⌜ s ≡ number.steppedBy (number.startFrom bits (now (priorities .entry)) (now (marks .entry))) ⌝ }
+    ensures { λ _. ⌜ now (marks .exit) ≡ number.startMarks bits (now (priorities .entry)) (now (marks .entry)) ⌝ }
+{
+    let n = priorities.len();
+    if marks.len() < n {
+        return at_phase(6, 0, Phase::NoWinner);
+    }
     let places = priorities_from(priorities);
-    handed_back(start(bits, count, places), marks)
+    begun(start(bits, n, places), marks)
 }
 
 // One step of the tournament that is lent: its marks are copied out before they are written over.
 #[no_mangle]
 pub extern "C" fn livnakesh_step(
     bits: u32,
-    count: usize,
     phase: u32,
     at: u32,
     priorities: &[u32],
     marks: &mut [u8],
 ) -> Stepped
-    ensures { λ s. ⌜ s ≡ number.steppedBy (stepOf (stateFrom bits count phase at (now (priorities .entry)) (now (marks .entry)))) ⌝ }
-    ensures { λ _. ⌜ now (marks .exit) ≡ number.marksBy (stepOf (stateFrom bits count phase at (now (priorities .entry)) (now (marks .entry)))) (now (marks .entry)) ⌝ }
+    ensures { λ s. ⌜ s ≡ number.steppedBy (number.stepFrom bits phase at (now (priorities .entry)) (now (marks .entry))) ⌝ }
+    ensures { λ _. ⌜ now (marks .exit) ≡ number.stepMarks bits phase at (now (priorities .entry)) (now (marks .entry)) ⌝ }
 {
-    let t = state_from(bits, count, phase, at, priorities, &marks[..]);
-    handed_back(step(t), marks)
+    let t = state_from(bits, phase, at, priorities, &marks[..]);
+    let lent = t.phase;
+    if marks.len() < priorities.len() {
+        return at_phase(6, 0, lent);
+    }
+    gone_on(step(t), marks)
 }

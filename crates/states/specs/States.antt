@@ -1,12 +1,12 @@
 -- What a caller in another language lends, as a tournament's state, and its marks back as bytes.
-use mathlib.Core.Bool.{Bool, false, not, cond}
+use mathlib.Core.Bool.{Bool, false, _&&_, not, cond}
 use mathlib.Core.List.{List, _++_, map}
-use Prim.Native.Nat.{ℕ, zero, suc}
-use lib.Dec.{eqb}
-use lib.ListN.{length, take, drop}
+use Prim.Native.Nat.{ℕ, zero, suc, min}
+use lib.Dec.{eqb, ltb}
+use lib.ListN.{length, getD, take, drop}
 use Rattle.names.specs.declared.Priority.{Priority}
 use Rattle.names.specs.Limits.{contenders}
-use Rattle.laws.specs.Lists.{placed}
+use Rattle.laws.specs.Lists.{rows, placed}
 use Rattle.tournament_state.specs.declared.Phase.{Phase}
 use Rattle.tournament_state.specs.declared.Phase.the-variants.{AtBit, Finished, NoWinner}
 use Rattle.tournament_state.specs.declared.Tournament.{Tournament}
@@ -33,15 +33,27 @@ phaseFrom zero at = AtBit at
 phaseFrom (suc zero) at = Finished (record { 0 = at })
 phaseFrom (suc (suc k)) at = NoWinner
 
--- the bits and the count are as given: a state that is wrong is refused later
-unfoldable pub stateFrom : ℕ → ℕ → ℕ → ℕ → List ℕ → List ℕ → Tournament
-stateFrom NB n phase at ps bs =
-    record { bits = NB; count = n; priorities = prioritiesFrom ps; marks = marksFrom bs; phase = phaseFrom phase at }
+-- each lent priority is a contender's; a state that is wrong is refused later
+unfoldable pub stateFrom : ℕ → ℕ → ℕ → List ℕ → List ℕ → Tournament
+stateFrom NB phase at ps bs =
+    record { bits = NB; count = length ps; priorities = prioritiesFrom ps; marks = marksFrom bs; phase = phaseFrom phase at }
 
 -- a mark as a byte
 abbrev pub byte : Bool → ℕ
 byte b = cond b 1 0
 
--- as many marks as there are lent bytes; the bytes after the 128th are as found
+-- the lent bytes after a start: as many marks as there are lent bytes; the bytes after the 128th are as found
 unfoldable pub marksInto : List Bool → List ℕ → List ℕ
 marksInto marks out = map byte (take (length out) marks) ++ drop contenders out
+
+-- row i was in, by its lent byte, and is now out
+abbrev pub goesOut : List Bool → List ℕ → ℕ → Bool
+goesOut marks found i = mark (getD found i 0) && not (getD marks i false)
+
+-- the lent bytes after a step: 0 for each contender that goes out, and every other byte as found
+unfoldable pub markedOut : ℕ → List Bool → List ℕ → List ℕ
+markedOut n marks found = rows (length found) (λ i. cond (ltb i (min n contenders) && goesOut marks found i) 0 (getD found i 0))
+
+-- the byte of a contender by its mark: in keeps it, out makes it 0
+abbrev pub kept : Bool → ℕ → ℕ
+kept isIn b = cond isIn b 0

@@ -4,8 +4,8 @@
 // lent bytes end with. Nothing is checked here: a wrong state is refused by the tournament. Nothing is assumed. This crate must
 // not know how a bit is played.
 ghost use mathlib.Core.Path.{_≡_};
-ghost use Rattle.states.specs.States.{prioritiesFrom, marksFrom, phaseFrom, stateFrom, marksInto};
-ghost use Rattle.states.specs.States.{byte as States·byte};
+ghost use Rattle.states.specs.States.{prioritiesFrom, marksFrom, phaseFrom, stateFrom, marksInto, markedOut};
+ghost use Rattle.states.specs.States.{byte as States·byte, kept as States·kept};
 use laws::smaller;
 use names::CONTENDERS;
 use names::Priority;
@@ -48,20 +48,13 @@ fn phase_from(phase: u32, at: u32) -> Phase
     Phase::NoWinner
 }
 
-// The state that is lent, right or wrong.
-pub fn state_from(
-    bits: u32,
-    count: usize,
-    phase: u32,
-    at: u32,
-    priorities: &[u32],
-    marks: &[u8],
-) -> Tournament
-    ensures { λ r. ⌜ r ≡ stateFrom bits count phase at (now (priorities .entry)) (now (marks .entry)) ⌝ }
+// The state that is lent, right or wrong: each lent priority is a contender's.
+pub fn state_from(bits: u32, phase: u32, at: u32, priorities: &[u32], marks: &[u8]) -> Tournament
+    ensures { λ r. ⌜ r ≡ stateFrom bits phase at (now (priorities .entry)) (now (marks .entry)) ⌝ }
 {
     Tournament {
         bits,
-        count,
+        count: priorities.len(),
         priorities: priorities_from(priorities),
         marks: marks_from(marks),
         phase: phase_from(phase, at),
@@ -74,11 +67,28 @@ fn byte(mark: bool) -> u8
     if mark { 1 } else { 0 }
 }
 
+// Every place, in or out.
 pub fn marks_into(marks: [bool; CONTENDERS], out: &mut [u8])
     ensures { λ _. ⌜ now (out .exit) ≡ marksInto marks (now (out .entry)) ⌝ }
 {
     let n = smaller(out.len(), CONTENDERS);
     for i in 0..n {
         out[i] = byte(marks[i]);
+    }
+}
+
+fn kept(mark: bool, byte: u8) -> u8
+    ensures { λ r. ⌜ r ≡ States·kept mark byte ⌝ }
+{
+    if mark { byte } else { 0 }
+}
+
+// Only contenders are marked out, and whatever stands for in stays: a state that is handed back unchanged keeps its bytes.
+pub fn mark_out(count: usize, marks: [bool; CONTENDERS], out: &mut [u8])
+    ensures { λ _. ⌜ now (out .exit) ≡ markedOut count marks (now (out .entry)) ⌝ }
+{
+    let n = smaller(smaller(count, CONTENDERS), out.len());
+    for i in 0..n {
+        out[i] = kept(marks[i], out[i]);
     }
 }

@@ -197,17 +197,17 @@ fn p12_is_won_by_row_1() {
     let done = |phase| Outcome { answer: Ok(()), phase };
     let mut state = Tournament::start(4, &priorities).expect("three contenders");
     let mut marks = [77; 3];
-    let mut said = livnakesh::start(4, 3, &priorities, &mut marks);
+    let mut said = livnakesh::start(4, &priorities, &mut marks);
     assert_eq!(marks, [1, 1, 1]);
     for (bit, left) in (1..).zip([[1, 1, 1], [0, 1, 0], [0, 1, 0], [0, 1, 0]]) {
         assert_eq!((said, state.phase), (done(Phase::AtBit(bit)), Phase::AtBit(bit)));
-        said = livnakesh::step(4, 3, said.phase, &priorities, &mut marks);
+        said = livnakesh::step(4, said.phase, &priorities, &mut marks);
         state = state.step().expect("a state from a start");
         assert_eq!((marks, [0, 1, 2].map(|row| u8::from(state.marks[row]))), (left, left), "after bit {bit}");
     }
     let won = Phase::Finished(Row(1));
     assert_eq!((said, state.phase), (done(won), won));
-    assert_eq!(livnakesh::step(4, 3, won, &priorities, &mut marks), done(won));
+    assert_eq!(livnakesh::step(4, won, &priorities, &mut marks), done(won));
     assert_eq!(state.step(), Ok(state));
     assert_eq!(marks, [0, 1, 0]);
     for loser in [Priority(5), Priority(6)] {

@@ -41,11 +41,10 @@ fn parting_bits() {
 
 // ---- states of any making ----
 
-/// A state as it is lent, with slices of any length.
+/// A state as it is lent: a contender for each priority, and as many marks as it may be.
 #[derive(Clone, Debug)]
 struct Lent {
     bits: u32,
-    contenders: usize,
     phase: Phase,
     priorities: Vec<Priority>,
     marks: Vec<u8>,
@@ -55,51 +54,63 @@ impl Lent {
     fn state(&self) -> Tournament {
         Tournament {
             bits: self.bits,
-            contenders: self.contenders,
+            contenders: self.priorities.len(),
             priorities: std::array::from_fn(|row| self.priorities.get(row).copied().unwrap_or(Priority(0))),
             marks: std::array::from_fn(|row| self.marks.get(row).is_some_and(|&byte| byte != 0)),
             phase: self.phase,
         }
     }
 
-    /// Those that a start takes. One too many is as wrong as all of them.
-    fn entered(&self) -> Vec<Priority> {
-        let mut places = self.state().priorities.to_vec();
-        places.resize(self.contenders.min(PLACES + 1), Priority(0));
-        places
+    /// Refusal 6, which comes before all others.
+    fn enough(&self) -> Result<(), Refused> {
+        match self.marks.len() < self.priorities.len() {
+            true => Err(Refused { number: 6, place: 0 }),
+            false => Ok(()),
+        }
     }
 
-    /// The lent marks after a call: 1 and 0 for in and out, and the bytes after the 128th as found.
-    fn marks_by(&self, state: &Tournament) -> Vec<u8> {
+    /// What a start says and the marks that it leaves: 1 and 0 for in and out, and the bytes after the 128th as found.
+    fn started(&self) -> (Outcome, Vec<u8>) {
         let mut marks = self.marks.clone();
-        for (byte, mark) in marks.iter_mut().zip(state.marks) {
-            *byte = u8::from(mark);
-        }
-        marks
+        let started = self.enough().and_then(|()| Tournament::start(self.bits, &self.priorities)).map(|state| {
+            for (byte, mark) in marks.iter_mut().zip(state.marks) {
+                *byte = u8::from(mark);
+            }
+            state.phase
+        });
+        (said(started, Phase::NoWinner), marks)
     }
 
-    /// What a call says and the marks that it leaves, by the plain tournament.
-    fn wanted(&self, state: Result<Tournament, Refused>, phase_if_refused: Phase) -> (Outcome, Vec<u8>) {
-        match state {
-            Ok(state) => (Outcome { answer: Ok(()), phase: state.phase }, self.marks_by(&state)),
-            Err(refused) => (Outcome { answer: Err(refused), phase: phase_if_refused }, self.marks.clone()),
-        }
+    /// What a step says and the marks that it leaves: 0 for each that goes out, and every other byte as found.
+    fn stepped(&self) -> (Outcome, Vec<u8>) {
+        let mut marks = self.marks.clone();
+        let before = self.state();
+        let stepped = self.enough().and_then(|()| before.step()).map(|after| {
+            for row in (0..PLACES).filter(|&row| before.marks[row] && !after.marks[row]) {
+                marks[row] = 0;
+            }
+            after.phase
+        });
+        (said(stepped, self.phase), marks)
     }
+}
+
+fn said(phase: Result<Phase, Refused>, if_refused: Phase) -> Outcome {
+    Outcome { answer: phase.map(|_| ()), phase: phase.unwrap_or(if_refused) }
 }
 
 fn start_alike(lent: &Lent) -> Outcome {
     let mut marks = lent.marks.clone();
-    let said = livnakesh::start(lent.bits, lent.contenders, &lent.priorities, &mut marks);
-    let wanted = lent.wanted(Tournament::start(lent.bits, &lent.entered()), Phase::NoWinner);
-    assert_eq!((said, marks), wanted, "start: {lent:?}");
+    let said = livnakesh::start(lent.bits, &lent.priorities, &mut marks);
+    assert_eq!((said, marks), lent.started(), "start: {lent:?}");
     said
 }
 
 /// Takes the lent state a step on, unless it is refused.
 fn step_alike(lent: &mut Lent) -> Outcome {
     let mut marks = lent.marks.clone();
-    let said = livnakesh::step(lent.bits, lent.contenders, lent.phase, &lent.priorities, &mut marks);
-    let wanted = lent.wanted(lent.state().step(), lent.phase);
+    let said = livnakesh::step(lent.bits, lent.phase, &lent.priorities, &mut marks);
+    let wanted = lent.stepped();
     assert_eq!((said, &marks), (wanted.0, &wanted.1), "step: {lent:?}");
     lent.marks = marks;
     lent.phase = said.phase;
@@ -107,7 +118,7 @@ fn step_alike(lent: &mut Lent) -> Outcome {
 }
 
 /// Counts that no tournament has, among them some that a cut to fewer bits would take for 2 or 3.
-const WRONG_COUNTS: [usize; 9] = [0, 0, 129, 129, 256 + 2, 65_536 + 3, (1 << 32) + 2, 1 << 63, usize::MAX];
+const WRONG_COUNTS: [usize; 9] = [0, 0, 129, 129, 130, 200, 256 + 2, 256 + 2, 65_536 + 3];
 
 fn contenders(rng: &mut Rng) -> usize {
     match rng.below(8) {
@@ -140,27 +151,29 @@ fn most_priority(bits: u32) -> u32 {
     }
 }
 
-/// A lent length for this many contenders: theirs, too few, all places, or more than there are.
+/// How many marks are lent: too few, as many as there are contenders, all places, or more than there are.
 fn length(rng: &mut Rng, contenders: usize) -> usize {
-    let contenders = contenders.min(PLACES);
+    let places = contenders.max(PLACES);
     match rng.below(8) {
         0 => rng.below(contenders as u64 + 1) as usize,
         1 => contenders.saturating_sub(1),
         2 | 3 => contenders,
-        4 => rng.within(contenders as u64, 128) as usize,
-        5 | 6 => 128,
-        _ => rng.within(129, 200) as usize,
+        4 => rng.within(contenders as u64, places as u64) as usize,
+        5 | 6 => places,
+        _ => rng.within(places as u64 + 1, places as u64 + 72) as usize,
     }
 }
 
-/// Different priorities that fit, as far as there are such, and anything in the unused places; then perhaps one that is wrong.
+/// Different priorities that fit, as far as there are such; then perhaps one that is wrong.
 fn priorities(rng: &mut Rng, bits: u32, contenders: usize) -> Vec<Priority> {
     let most = most_priority(bits);
-    let used = contenders.min(PLACES);
-    let distinct = used.min((most as usize).saturating_add(1));
+    let distinct = contenders.min(PLACES).min((most as usize).saturating_add(1));
     let mut words = rng.distinct(distinct, most);
-    words.extend((distinct..200).map(|row| if row < used { rng.within(0, u64::from(most)) as u32 } else { rng.wide() }));
-    let [one, other] = [0, 1].map(|_| rng.below(used.max(1) as u64) as usize);
+    words.extend((distinct..contenders).map(|_| rng.within(0, u64::from(most)) as u32));
+    if contenders == 0 {
+        return Vec::new();
+    }
+    let [one, other] = [0, 1].map(|_| rng.below(contenders as u64) as usize);
     match rng.below(8) {
         0 => words[one] = words[other],
         1 => words[one] = rng.pick(&[most.wrapping_add(1), most / 2 + 1, u32::MAX, 0x8000_0000]),
@@ -169,7 +182,6 @@ fn priorities(rng: &mut Rng, bits: u32, contenders: usize) -> Vec<Priority> {
         3 => words[one] = words[other] ^ 1,
         _ => {}
     }
-    words.truncate(length(rng, contenders));
     words.into_iter().map(Priority).collect()
 }
 
@@ -186,7 +198,8 @@ fn phase(rng: &mut Rng, bits: u32, contenders: usize) -> Phase {
 }
 
 fn marks(rng: &mut Rng, contenders: usize) -> Vec<u8> {
-    let mut marks = bytes(rng.next(), 200);
+    let lent = length(rng, contenders);
+    let mut marks = bytes(rng.next(), lent.max(PLACES));
     let any = rng.one_in(2);
     let kind = rng.below(4);
     let one = rng.below(contenders.clamp(1, PLACES) as u64) as usize;
@@ -200,7 +213,7 @@ fn marks(rng: &mut Rng, contenders: usize) -> Vec<u8> {
         // Any byte but 0 is in.
         *mark = u8::from(is_in) * if any { rng.pick(&[1, 2, 128, 254, 255]) } else { 1 };
     }
-    marks.truncate(length(rng, contenders));
+    marks.truncate(lent);
     marks
 }
 
@@ -208,12 +221,12 @@ fn made_up(rng: &mut Rng) -> Lent {
     let contenders = contenders(rng);
     let bits = bits(rng, contenders);
     let priorities = priorities(rng, bits, contenders);
-    Lent { bits, contenders, phase: phase(rng, bits, contenders), priorities, marks: marks(rng, contenders) }
+    Lent { bits, phase: phase(rng, bits, contenders), priorities, marks: marks(rng, contenders) }
 }
 
 /// What kind of state was lent, by its values and not by how it was drawn.
 fn tally_lent(tally: &mut Tally, lent: &Lent) {
-    let (bits, contenders) = (lent.bits, lent.contenders);
+    let (bits, contenders) = (lent.bits, lent.priorities.len());
     tally.count(match contenders {
         0..=3 | 127..=129 => format!("contenders: {contenders}"),
         4..=126 => "contenders: 4 to 126".into(),
@@ -231,14 +244,12 @@ fn tally_lent(tally: &mut Tally, lent: &Lent) {
         Phase::Finished(_) => "phase: finished, no contender's row",
         Phase::NoWinner => "phase: no winner",
     });
-    for (what, length) in [("priorities", lent.priorities.len()), ("marks", lent.marks.len())] {
-        tally.count(match length {
-            _ if length < contenders.min(PLACES) => format!("lent {what}: fewer than contenders"),
-            0..=127 => format!("lent {what}: fewer than 128"),
-            128 => format!("lent {what}: 128"),
-            _ => format!("lent {what}: more than 128"),
-        });
-    }
+    tally.count(match lent.marks.len() {
+        length if length < contenders => "lent marks: fewer than contenders",
+        0..=127 => "lent marks: fewer than 128",
+        128 => "lent marks: 128",
+        _ => "lent marks: more than 128",
+    });
     let state = lent.state();
     if (1..=PLACES).contains(&contenders) {
         let used = &state.priorities[..contenders];
@@ -261,7 +272,7 @@ fn tally_lent(tally: &mut Tally, lent: &Lent) {
 
 /// What a step that was not refused came to.
 fn tally_step(tally: &mut Tally, before: &Lent, after: &Lent) {
-    let contenders = before.contenders;
+    let contenders = before.priorities.len();
     let fewer = before.state().marks != after.state().marks;
     tally.count(match (before.phase, after.phase) {
         (Phase::AtBit(_), Phase::AtBit(_)) if fewer => "step: to the next bit, some silent",
@@ -276,6 +287,9 @@ fn tally_step(tally: &mut Tally, before: &Lent, after: &Lent) {
     });
     if before.state().marks[contenders..].contains(&true) {
         tally.count("step: a mark in an unused place");
+    }
+    if after.marks.iter().any(|&byte| byte > 1) {
+        tally.count("step: a byte above 1 kept");
     }
     if let (1..=3 | 127 | 128, 1 | 4 | 31 | 32) = (contenders, before.bits) {
         tally.count(format!("step: {contenders} contenders, {} bits", before.bits));
@@ -310,10 +324,8 @@ fn made_up_states() {
     for bits in [0, 1, 4, 31, 32, 33] {
         tally.need(&format!("bits: {bits}"), 2_000);
     }
-    for what in ["priorities", "marks"] {
-        for length in ["fewer than contenders", "fewer than 128", "128", "more than 128"] {
-            tally.need(&format!("lent {what}: {length}"), 10_000);
-        }
+    for length in ["fewer than contenders", "fewer than 128", "128", "more than 128"] {
+        tally.need(&format!("lent marks: {length}"), 10_000);
     }
     for bits in [1, 4, 31, 32] {
         for count in [1, 2, 3, 127, 128].into_iter().filter(|&count| count <= 1_u64 << bits) {
@@ -326,9 +338,13 @@ fn made_up_states() {
     need_all(&tally, &["priorities: one does not fit", "priorities: repeated", "priorities: different"], 5_000);
     need_all(&tally, &["marks: none in", "marks: one in", "marks: some in", "marks: all in"], 10_000);
     need_all(&tally, &["marks: in by a byte above 1", "start: done"], 10_000);
-    need_all(&tally, &["start: refusal 7", "start: refusal 8", "start: refusal 9"], 5_000);
-    need_all(&tally, &["step: refusal 7", "step: refusal 8", "step: refusal 9"], 5_000);
-    need_all(&tally, &["step: 8 at 0", "step: 8 at a later row", "step: a mark in an unused place"], 2_000);
+    need_all(&tally, &["start: refusal 6", "start: refusal 7", "start: refusal 8", "start: refusal 9"], 5_000);
+    need_all(&tally, &["step: refusal 6", "step: refusal 7", "step: refusal 8", "step: refusal 9"], 5_000);
+    need_all(
+        &tally,
+        &["step: 8 at 0", "step: 8 at a later row", "step: a mark in an unused place", "step: a byte above 1 kept"],
+        2_000,
+    );
     need_all(&tally, &["step: to the next bit, some silent", "step: to the next bit, none silent"], 5_000);
     need_all(&tally, &["step: to the end, one left", "step: to the end, several left", "step: to the end, none left"], 2_000);
     need_all(&tally, &["step: finished already", "step: no winner already"], 5_000);
@@ -350,8 +366,9 @@ fn runs_of_made_up_states() {
         if steps == 0 {
             continue;
         }
-        let marked = (0..lent.contenders).filter(|&row| lent.state().marks[row]).count();
-        let lowest = lent.state().marks[..lent.contenders].iter().position(|&mark| mark);
+        let contenders = lent.priorities.len();
+        let marked = (0..contenders).filter(|&row| lent.state().marks[row]).count();
+        let lowest = lent.state().marks[..contenders].iter().position(|&mark| mark);
         assert_eq!(lent.phase, lowest.map_or(Phase::NoWinner, |row| Phase::Finished(Row(row as u32))), "{lent:?}");
         tally.count(["run: none left", "run: one left", "run: several left"][marked.min(2)]);
         tally.count(format!("run: {} steps", if steps < 16 { "1 to 15" } else { "16 to 32" }));
@@ -389,19 +406,16 @@ fn losers_go_silent_where_they_part() {
             false => livnakesh::parting(bits, entered[winner], entered[row]).expect("two of a start"),
         };
         let silent_at: Vec<u32> = (0..contenders).map(silent_at).collect();
-        // What follows the contenders may be anything.
-        let mut priorities = entered;
-        priorities.extend((0..rng.below(80)).map(|_| Priority(rng.wide())));
-        let found = bytes(rng.next(), rng.pick(&[128, 128, 150]));
-        let mut lent = Lent { bits, contenders, phase: Phase::NoWinner, priorities, marks: found.clone() };
+        let found = bytes(rng.next(), rng.pick(&[contenders, 128, 150]));
+        let mut lent = Lent { bits, phase: Phase::NoWinner, priorities: entered, marks: found.clone() };
         let wanted = |bit: u32| {
             let mut marks = found.clone();
-            for (row, mark) in marks[..PLACES].iter_mut().enumerate() {
+            for (row, mark) in marks.iter_mut().take(PLACES).enumerate() {
                 *mark = u8::from(silent_at.get(row).is_some_and(|&silent| silent > bit));
             }
             marks
         };
-        let mut said = livnakesh::start(bits, contenders, &lent.priorities, &mut lent.marks);
+        let mut said = livnakesh::start(bits, &lent.priorities, &mut lent.marks);
         assert_eq!(lent.marks, wanted(0), "start: {lent:?}");
         for bit in 1..=bits {
             assert_eq!(said, Outcome { answer: Ok(()), phase: Phase::AtBit(bit) }, "before bit {bit}: {lent:?}");
@@ -441,67 +455,124 @@ fn losers_go_silent_where_they_part() {
 
 fn state(bits: u32, priorities: &[u32], phase: Phase) -> Lent {
     let priorities: Vec<Priority> = priorities.iter().copied().map(Priority).collect();
-    Lent { bits, contenders: priorities.len(), phase, priorities, marks: vec![1; PLACES] }
+    let marks = vec![1; priorities.len().max(PLACES)];
+    Lent { bits, phase, priorities, marks }
 }
 
-fn of(contenders: usize, lent: Lent) -> Lent {
-    Lent { contenders, ..lent }
+fn with_marks(marks: &[u8], lent: Lent) -> Lent {
+    Lent { marks: marks.to_vec(), ..lent }
+}
+
+fn done(phase: Phase) -> Outcome {
+    Outcome { answer: Ok(()), phase }
+}
+
+/// Not by the plain tournament alone: the number and the place stand here, and the bytes are as found.
+fn step_is_refused(lent: &Lent, number: u64, place: u64) {
+    let mut after = lent.clone();
+    let answer = Err(Refused { number, place });
+    assert_eq!(step_alike(&mut after), Outcome { answer, phase: lent.phase }, "{lent:?}");
+    assert_eq!(after.marks, lent.marks);
+}
+
+fn start_is_refused(lent: &Lent, number: u64, place: u64) {
+    let mut marks = lent.marks.clone();
+    let answer = Err(Refused { number, place });
+    assert_eq!(livnakesh::start(lent.bits, &lent.priorities, &mut marks), Outcome { answer, phase: Phase::NoWinner }, "{lent:?}");
+    assert_eq!(marks, lent.marks);
+    start_alike(lent);
 }
 
 #[test]
 fn refusals_of_states() {
     let (at, won) = (Phase::AtBit, |row| Phase::Finished(Row(row)));
-    let is_refused = |mut lent: Lent, number, place| {
-        let phase = lent.phase;
-        assert_eq!(step_alike(&mut lent), Outcome { answer: Err(Refused { number, place }), phase }, "{lent:?}");
-    };
-    is_refused(of(0, state(0, &[], at(9))), 7, 0);
-    is_refused(of(129, state(0, &[1, 1], Phase::NoWinner)), 7, 0);
-    is_refused(of(usize::MAX, state(0, &[1, 1], Phase::NoWinner)), 7, 0);
-    is_refused(state(0, &[1, 1], at(1)), 8, 0);
-    is_refused(state(33, &[1, 1], won(5)), 8, 0);
-    is_refused(state(3, &[1, 8, 9], at(0)), 8, 1);
-    is_refused(state(3, &[1, 2, 2], at(0)), 8, 0);
-    is_refused(state(3, &[1, 2, 2], at(4)), 8, 0);
-    is_refused(state(3, &[1, 2, 2], won(3)), 8, 0);
-    is_refused(state(3, &[1, 2, 2], won(2)), 9, 2);
-    is_refused(state(3, &[1, 2, 2], Phase::NoWinner), 9, 2);
-    // A priority that is not lent is 0: one of them may stand, and two repeat each other.
-    is_refused(of(5, state(3, &[1, 2, 3], at(1))), 9, 4);
-    is_refused(of(4, state(3, &[1, 0, 3], at(1))), 9, 3);
-    assert_eq!(step_alike(&mut of(4, state(3, &[1, 2, 3], at(1)))), Outcome { answer: Ok(()), phase: at(2) });
+    step_is_refused(&state(0, &[], at(9)), 7, 0);
+    step_is_refused(&state(0, &[1; 129], Phase::NoWinner), 7, 0);
+    step_is_refused(&state(0, &[1; 258], Phase::NoWinner), 7, 0);
+    step_is_refused(&state(0, &[1, 1], at(1)), 8, 0);
+    step_is_refused(&state(33, &[1, 1], won(5)), 8, 0);
+    step_is_refused(&state(3, &[1, 8, 9], at(0)), 8, 1);
+    step_is_refused(&state(3, &[1, 2, 2], at(0)), 8, 0);
+    step_is_refused(&state(3, &[1, 2, 2], at(4)), 8, 0);
+    step_is_refused(&state(3, &[1, 2, 2], won(3)), 8, 0);
+    step_is_refused(&state(3, &[1, 2, 2], won(2)), 9, 2);
+    step_is_refused(&state(3, &[1, 2, 2], Phase::NoWinner), 9, 2);
 }
 
 #[test]
 fn refusals_of_starts() {
-    let is_refused = |lent: &Lent, number, place| {
-        let answer = Err(Refused { number, place });
-        assert_eq!(start_alike(lent), Outcome { answer, phase: Phase::NoWinner }, "{lent:?}");
-    };
-    is_refused(&state(0, &[], Phase::NoWinner), 7, 0);
-    is_refused(&state(8, &[0; 129], Phase::NoWinner), 7, 0);
-    is_refused(&of(usize::MAX, state(0, &[3, 3], Phase::NoWinner)), 7, 0);
-    is_refused(&state(0, &[3, 3], Phase::NoWinner), 8, 0);
-    is_refused(&state(33, &[3, 3], Phase::NoWinner), 8, 0);
-    is_refused(&state(2, &[3, 3, 4], Phase::NoWinner), 8, 2);
-    is_refused(&state(2, &[3, 3, 3], Phase::NoWinner), 9, 1);
-    is_refused(&of(5, state(2, &[1, 2, 3], Phase::NoWinner)), 9, 4);
-    assert_eq!(start_alike(&of(1, state(2, &[3, 4, 3], Phase::NoWinner))), Outcome { answer: Ok(()), phase: Phase::AtBit(1) });
+    start_is_refused(&state(0, &[], Phase::NoWinner), 7, 0);
+    start_is_refused(&state(8, &[0; 129], Phase::NoWinner), 7, 0);
+    start_is_refused(&state(0, &[3; 258], Phase::NoWinner), 7, 0);
+    start_is_refused(&state(0, &[3, 3], Phase::NoWinner), 8, 0);
+    start_is_refused(&state(33, &[3, 3], Phase::NoWinner), 8, 0);
+    start_is_refused(&state(2, &[3, 3, 4], Phase::NoWinner), 8, 2);
+    start_is_refused(&state(2, &[3, 3, 3], Phase::NoWinner), 9, 1);
+}
+
+/// 6 comes before 7, 8 and 9, whatever else is wrong, and nothing is written.
+#[test]
+fn fewer_marks_than_contenders() {
+    let too_many = vec![0; 129];
+    let wrong = [(4, &[5, 3, 6][..]), (0, &[5, 3, 6]), (2, &[5, 3, 6]), (4, &[5, 5, 6]), (4, &too_many)];
+    for (bits, priorities) in wrong {
+        for fewer in [0, 1, 2, priorities.len() - 1] {
+            for phase in [Phase::AtBit(1), Phase::AtBit(9), Phase::Finished(Row(0)), Phase::Finished(Row(9)), Phase::NoWinner] {
+                let lent = with_marks(&vec![7; fewer], state(bits, priorities, phase));
+                step_is_refused(&lent, 6, 0);
+                start_is_refused(&lent, 6, 0);
+            }
+        }
+    }
+    let enough = with_marks(&[7, 7, 7], state(4, &[5, 3, 6], Phase::AtBit(1)));
+    assert_eq!(start_alike(&enough), done(Phase::AtBit(1)));
+    assert_eq!(step_alike(&mut enough.clone()), done(Phase::AtBit(2)));
+    // Nobody needs no marks, and is refused for being nobody.
+    start_is_refused(&with_marks(&[], state(4, &[], Phase::NoWinner)), 7, 0);
+    step_is_refused(&with_marks(&[], state(4, &[], Phase::AtBit(1))), 7, 0);
+    start_is_refused(&with_marks(&[7; 129], state(4, &too_many, Phase::NoWinner)), 7, 0);
+}
+
+/// Two priorities are two contenders, however many marks are lent: nobody of priority 0 joins them.
+#[test]
+fn no_contender_is_made_up() {
+    let mut lent = with_marks(&[7; 130], state(3, &[6, 5], Phase::NoWinner));
+    let mut said = livnakesh::start(3, &lent.priorities, &mut lent.marks);
+    assert_eq!(said, done(Phase::AtBit(1)));
+    assert_eq!((&lent.marks[..3], &lent.marks[127..]), (&[1, 1, 0][..], &[0, 7, 7][..]));
+    for _ in 0..3 {
+        lent.phase = said.phase;
+        said = step_alike(&mut lent);
+    }
+    assert_eq!(said, done(Phase::Finished(Row(1))));
+    assert_eq!((&lent.marks[..3], &lent.marks[127..]), (&[0, 1, 0][..], &[0, 7, 7][..]));
 }
 
 #[test]
 fn ends_that_no_start_has() {
-    let done = |phase| Outcome { answer: Ok(()), phase };
-    let none = Lent { marks: vec![0; PLACES], ..state(3, &[1, 2], Phase::AtBit(3)) };
+    let none = with_marks(&[0, 0], state(3, &[1, 2], Phase::AtBit(3)));
     assert_eq!(step_alike(&mut none.clone()), done(Phase::NoWinner));
-    // A mark that is not lent is out, and an unused place has no winner.
-    assert_eq!(step_alike(&mut Lent { marks: vec![], ..none.clone() }), done(Phase::NoWinner));
-    assert_eq!(step_alike(&mut Lent { marks: vec![0, 0, 1], ..none }), done(Phase::NoWinner));
+    // An unused place has no winner.
+    assert_eq!(step_alike(&mut with_marks(&[0, 0, 1], none)), done(Phase::NoWinner));
     assert_eq!(step_alike(&mut state(3, &[4, 6], Phase::AtBit(3))), done(Phase::Finished(Row(0))));
-    // Marks in unused places are not heard and not touched.
-    let mut lent = Lent { marks: vec![9; 130], ..state(3, &[7, 5], Phase::AtBit(2)) };
+}
+
+/// Only the byte of a contender that goes out is changed.
+#[test]
+fn bytes_that_a_step_keeps() {
+    // Row 0 goes out, row 1 is in by a 7, row 2 was out; marks in unused places are not heard and not touched.
+    let mut lent = with_marks(&[9; 130], state(3, &[7, 5, 4], Phase::AtBit(2)));
+    lent.marks[1] = 7;
+    lent.marks[2] = 0;
     assert_eq!(step_alike(&mut lent), done(Phase::AtBit(3)));
-    assert_eq!((&lent.marks[..3], &lent.marks[127..]), (&[0, 1, 1][..], &[1, 9, 9][..]));
+    assert_eq!((&lent.marks[..4], &lent.marks[4..]), (&[0, 7, 0, 9][..], &[9; 126][..]));
+    // A finished state is handed back as it is, byte for byte.
+    for phase in [Phase::Finished(Row(2)), Phase::NoWinner] {
+        let found: Vec<u8> = (0..200).map(|k| k as u8).collect();
+        let mut lent = with_marks(&found, state(3, &[7, 5, 4], phase));
+        assert_eq!(step_alike(&mut lent), done(phase));
+        assert_eq!(lent.marks, found);
+    }
 }
 
 // ---- the numbers themselves ----
@@ -517,7 +588,6 @@ struct Stepped {
 extern "C" {
     fn livnakesh_step(
         bits: u32,
-        contenders: usize,
         phase: u32,
         at: u32,
         priorities: *const u32,
@@ -527,26 +597,39 @@ extern "C" {
     ) -> Stepped;
 }
 
-fn step_numbers(bits: u32, phase: u32, at: u32) -> ([u64; 4], [u8; 3]) {
-    let (priorities, mut marks) = ([5, 3, 6], [7, 0, 9]);
-    // SAFETY: both arrays outlive the call, and the library stays within them.
-    let said = unsafe { livnakesh_step(bits, 3, phase, at, priorities.as_ptr(), 3, marks.as_mut_ptr(), 3) };
-    ([said.refusal, said.place, said.phase, said.at], marks)
+fn step_numbers(bits: u32, phase: u32, at: u32, marks: &mut [u8]) -> [u64; 4] {
+    let priorities = [5, 3, 6];
+    // SAFETY: both slices outlive the call, and the library stays within them.
+    let said = unsafe { livnakesh_step(bits, phase, at, priorities.as_ptr(), 3, marks.as_mut_ptr(), marks.len()) };
+    [said.refusal, said.place, said.phase, said.at]
 }
 
 /// The wrapper's phases have no numbers above 2, and no number beside no winner.
 #[test]
 fn phases_by_number() {
-    assert_eq!(step_numbers(4, 0, 2), ([0, 0, 0, 3], [1, 0, 1]));
-    assert_eq!(step_numbers(4, 0, 4), ([0, 0, 1, 2], [0, 0, 1]));
-    assert_eq!(step_numbers(4, 1, 2), ([0, 0, 1, 2], [1, 0, 1]));
-    assert_eq!(step_numbers(4, 0, 5), ([8, 0, 0, 5], [7, 0, 9]));
-    assert_eq!(step_numbers(4, 1, u32::MAX), ([8, 0, 1, u64::from(u32::MAX)], [7, 0, 9]));
-    assert_eq!(step_numbers(2, 1, 1), ([8, 0, 1, 1], [7, 0, 9]));
+    let step = |bits, phase, at| {
+        let mut marks = [7, 0, 9];
+        (step_numbers(bits, phase, at, &mut marks), marks)
+    };
+    assert_eq!(step(4, 0, 2), ([0, 0, 0, 3], [7, 0, 9]));
+    assert_eq!(step(4, 0, 3), ([0, 0, 0, 4], [7, 0, 0]));
+    assert_eq!(step(4, 0, 4), ([0, 0, 1, 2], [0, 0, 9]));
+    assert_eq!(step(4, 1, 2), ([0, 0, 1, 2], [7, 0, 9]));
+    assert_eq!(step(4, 0, 5), ([8, 0, 0, 5], [7, 0, 9]));
+    assert_eq!(step(4, 1, u32::MAX), ([8, 0, 1, u64::from(u32::MAX)], [7, 0, 9]));
+    assert_eq!(step(2, 1, 1), ([8, 0, 1, 1], [7, 0, 9]));
+    // A phase from 2 on has no winner, whatever stands beside it, and is handed back as 2 and 0, refused or not.
     for phase in [2, 3, 4, 255, 256, 257, 65_536, 0x8000_0001, u32::MAX] {
         for at in [0, 1, 5, u32::MAX] {
-            assert_eq!(step_numbers(4, phase, at), ([0, 0, 2, 0], [1, 0, 1]), "phase {phase}, {at}");
-            assert_eq!(step_numbers(40, phase, at), ([8, 0, 2, 0], [7, 0, 9]), "phase {phase}, {at}");
+            assert_eq!(step(4, phase, at), ([0, 0, 2, 0], [7, 0, 9]), "phase {phase}, {at}");
+            assert_eq!(step(40, phase, at), ([8, 0, 2, 0], [7, 0, 9]), "phase {phase}, {at}");
+            let mut two = [7, 7];
+            assert_eq!((step_numbers(4, phase, at, &mut two), two), ([6, 0, 2, 0], [7, 7]), "phase {phase}, {at}");
         }
+    }
+    // One that is 0 or 1 is handed back as lent, right or wrong.
+    for (phase, at) in [(0, 0), (0, 9), (1, 2), (1, u32::MAX)] {
+        let mut two = [7, 7];
+        assert_eq!((step_numbers(4, phase, at, &mut two), two), ([6, 0, u64::from(phase), u64::from(at)], [7, 7]));
     }
 }

@@ -1,7 +1,20 @@
--- What comes back and the lent marks are those of the start on the priorities that are lent. Assumes nothing.
+-- Fewer marks than priorities are refused, and else what comes back and the lent bytes are those of the start on the priorities. Assumes nothing.
+use mathlib.Core.Path.{sym, ap, _∙_}
 use borrow.Author.Needs.{needs}
+use denote.Ref.{now}
+use Rattle.outside.specs.Outside.{steppedBy, startBytes}
+use Rattle.outside.proofs.Fewer.{start-fewer, start-enough}
 use Rattle.outside.proofs.livnakesh_start.Statement.{statement}
 use Rattle.outside.proofs.livnakesh_start.Tie as tie
+
+at-phase-requires : tie.Need-at-phase-requires
+at-phase-requires c κs = search needs
+
+returns : tie.Need-returns
+returns c =
+    let a = c .before .before .before .before .args in
+    let e = sym (start-fewer (a .bits) (now (a .priorities)) (now (a .marks)) (c .before .if1 .taken)) in
+    (c .at-phase .ensures ∙ ap steppedBy e, ap (λ o. startBytes o (now (a .marks))) e)
 
 priorities-from-requires : tie.Need-priorities-from-requires
 priorities-from-requires c κs = search needs
@@ -9,19 +22,28 @@ priorities-from-requires c κs = search needs
 start-requires : tie.Need-start-requires
 start-requires c κs = search needs
 
-handed-back-requires : tie.Need-handed-back-requires
-handed-back-requires c κs = search needs
+begun-requires : tie.Need-begun-requires
+begun-requires c κs = search needs
 
 same-length : tie.Need-same-length
 same-length c = search needs
 
-returns : tie.Need-returns
-returns c =
+returns-2 : tie.Need-returns-2
+returns-2 c =
     let h = c .before .before in
     let s = h .before .before in
-    rw (s .start .ensures, s .before .priorities-from .ensures) at (h .handed-back .ensures)
+    let p = s .before in
+    let a = p .before .before .before .before .args in
+    rw (s .start .ensures, p .priorities-from .ensures, ← start-enough (a .bits) (now (a .priorities)) (now (a .marks)) (p .before .if1 .left)) at (h .begun .ensures)
 
 pub livnakesh-start-spec : {M : Type 1} → statement M
 livnakesh-start-spec =
     tie.close
-    (tie.spec priorities-from-requires start-requires handed-back-requires same-length returns)
+    (tie.spec
+    at-phase-requires
+    returns
+    priorities-from-requires
+    start-requires
+    begun-requires
+    same-length
+    returns-2)

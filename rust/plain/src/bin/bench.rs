@@ -141,9 +141,9 @@ fn parting_row(name: &str) {
 
 /// From a start to the winner, a call for the start and one for each bit.
 fn proved_tournament(bits: u32, priorities: &[Priority], marks: &mut [u8]) -> Outcome {
-    let mut state = livnakesh::start(bits, priorities.len(), priorities, marks);
+    let mut state = livnakesh::start(bits, priorities, marks);
     while let Outcome { answer: Ok(()), phase: Phase::AtBit(_) } = state {
-        state = livnakesh::step(bits, priorities.len(), state.phase, priorities, marks);
+        state = livnakesh::step(bits, state.phase, priorities, marks);
     }
     state
 }

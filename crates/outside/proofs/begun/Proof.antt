@@ -1,10 +1,11 @@
--- The marks go into the lent bytes where the call was not refused. Assumes nothing.
+-- Every place goes into the lent bytes where the start was not refused. Assumes nothing.
 use mathlib.Core.Path.{sym, ap, _∙_}
 use borrow.Author.Needs.{needs}
 use denote.Ref.{now}
-use Rattle.outside.specs.Outside.{stepped, marksUnless}
-use Rattle.outside.proofs.handed_back.Statement.{statement}
-use Rattle.outside.proofs.handed_back.Tie as tie
+use Rattle.states.specs.States.{marksInto}
+use Rattle.outside.specs.Outside.{stepped, bytesUnless}
+use Rattle.outside.proofs.begun.Statement.{statement}
+use Rattle.outside.proofs.begun.Tie as tie
 
 enum-told : tie.Need-enum-told
 enum-told c = search needs
@@ -34,7 +35,7 @@ returns c =
     let a = t .before .before .before .before .before .args in
     let o = a .outcome in
     let e = sym (t .enum-told .given .1) in
-    (c .at-phase .ensures ∙ ap (λ k. stepped k (o .tournament .phase)) e, m .marks-into .ensures ∙ ap (λ k. marksUnless k (o .tournament .marks) (now (a .marks))) e)
+    (c .at-phase .ensures ∙ ap (λ k. stepped k (o .tournament .phase)) e, m .marks-into .ensures ∙ ap (λ k. bytesUnless k (marksInto (o .tournament .marks) (now (a .marks))) (now (a .marks))) e)
 
 returns-2 : tie.Need-returns-2
 returns-2 c =
@@ -42,10 +43,10 @@ returns-2 c =
     let a = t .before .before .before .before .before .args in
     let o = a .outcome in
     let e = sym (t .answer .given .1) in
-    (c .at-phase2 .ensures ∙ ap (λ k. stepped k (o .tournament .phase)) e, ap (λ k. marksUnless k (o .tournament .marks) (now (a .marks))) e)
+    (c .at-phase2 .ensures ∙ ap (λ k. stepped k (o .tournament .phase)) e, ap (λ k. bytesUnless k (marksInto (o .tournament .marks) (now (a .marks))) (now (a .marks))) e)
 
-pub handed-back-spec : {M : Type 1} → statement M
-handed-back-spec =
+pub begun-spec : {M : Type 1} → statement M
+begun-spec =
     tie.close
     (tie.spec
     enum-told
