@@ -1,0 +1,120 @@
+// Plan files: their answers, written again, and two compared.
+use crate::writing::one_file;
+use crate::writing::p1_file;
+use crate::writing::p2_file;
+use console::print;
+use outside::livnakesh_answers;
+use outside::livnakesh_lighter;
+use outside::livnakesh_rewrite;
+use shown::answer;
+use shown::bytes;
+use shown::number;
+use shown::words;
+
+fn answers(file: &[u8], lent: &mut [u64]) {
+    print(b"answers");
+    let said = livnakesh_answers(file, lent);
+    answer(said.refusal, said.value);
+    words(&lent[..]);
+}
+
+fn rewrite(file: &[u8], lent: &mut [u8]) {
+    print(b"again");
+    let said = livnakesh_rewrite(file, lent);
+    answer(said.refusal, said.value);
+    bytes(&lent[..]);
+}
+
+// Both into a few words and bytes.
+fn both(file: &[u8]) {
+    let mut few_words = [7; 3];
+    answers(file, &mut few_words);
+    let mut few_bytes = [7; 10];
+    rewrite(file, &mut few_bytes);
+}
+
+fn of_p1() {
+    let file = p1_file(152, 0, 152, 0);
+    let mut room = [7; 8];
+    answers(&file, &mut room);
+    let mut too_few = [7; 5];
+    answers(&file, &mut too_few);
+    let mut enough = [7; 160];
+    rewrite(&file, &mut enough);
+    let mut too_short = [7; 151];
+    rewrite(&file, &mut too_short);
+}
+
+fn of_others() {
+    let p2 = p2_file();
+    let mut enough = [7; 6];
+    answers(&p2, &mut enough);
+    let p3 = one_file(23);
+    both(&p3);
+    let p4 = one_file(22);
+    both(&p4);
+}
+
+fn lengths() {
+    print(b"43, 44, 1648 and 1649 bytes of 0\n");
+    let none = [0; 1649];
+    both(&none[..43]);
+    both(&none[..44]);
+    both(&none[..1648]);
+    both(&none);
+}
+
+// P1 and P1 with other bytes: both of the second, and whether it is lighter.
+fn changed(at: usize, byte: u8, also: usize, other: u8) {
+    print(b"P1 with");
+    number(at as u64);
+    number(byte as u64);
+    number(also as u64);
+    number(other as u64);
+    let p1 = p1_file(152, 0, 152, 0);
+    let new = p1_file(at, byte, also, other);
+    lighter(&p1, &new);
+    both(&new);
+}
+
+fn lighter(old: &[u8], new: &[u8]) {
+    let weighed = livnakesh_lighter(old, new);
+    print(b":");
+    number(weighed.answer);
+    number(weighed.number);
+    number(weighed.value);
+    print(b"\n");
+}
+
+fn compared() {
+    let p1 = p1_file(152, 0, 152, 0);
+    let p2 = p2_file();
+    print(b"P1, P2");
+    lighter(&p1, &p2);
+    print(b"P2, P1");
+    lighter(&p2, &p1);
+    let p11 = p1_file(96, 0, 152, 0);
+    print(b"P11, P8");
+    let p8 = p1_file(108, 1, 152, 0);
+    lighter(&p11, &p8);
+}
+
+pub(crate) fn cases() {
+    of_p1();
+    of_others();
+    lengths();
+    changed(44, 5, 152, 0);
+    changed(80, 2, 152, 0);
+    changed(88, 99, 152, 0);
+    changed(92, 1, 152, 0);
+    changed(96, 6, 152, 0);
+    changed(100, 59, 152, 0);
+    changed(100, 61, 152, 0);
+    changed(84, 2, 108, 1);
+    changed(96, 0, 152, 0);
+    changed(108, 1, 152, 0);
+    changed(108, 1, 104, 1);
+    changed(104, 1, 152, 0);
+    changed(148, 0, 149, 0);
+    compared();
+}

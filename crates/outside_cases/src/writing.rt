@@ -1,0 +1,127 @@
+// Plans written from their values, and the files that the other calls are lent.
+use console::print;
+use outside::livnakesh_write;
+use shown::answer;
+use shown::bytes;
+use shown::number;
+
+// The words of P2, which are those of P1 and a gap, with another word in one place.
+fn values(at: usize, word: u32) -> [u32; 28] {
+    let mut words = [
+        4,
+        1,
+        1,
+        2,
+        1,
+        1,
+        2,
+        1,
+        4,
+        655361,
+        1,
+        100,
+        0,
+        5,
+        60,
+        655370,
+        2,
+        150,
+        10,
+        7,
+        120,
+        720898,
+        3,
+        400,
+        0,
+        2,
+        200,
+        1000,
+    ];
+    if at < 28 {
+        words[at] = word;
+    }
+    words
+}
+
+// So many of the bytes that are lent.
+fn write(n: usize, m: usize, at: usize, word: u32, lent: &mut [u8]) {
+    print(b"write");
+    number(n as u64);
+    number(m as u64);
+    print(b" with word");
+    number(at as u64);
+    number(word as u64);
+    let words = values(at, word);
+    let said = livnakesh_write(n, m, &words, lent);
+    answer(said.refusal, said.value);
+    bytes(&lent[..]);
+}
+
+// P1 and P2 whole, with less than their bytes, and in no byte; the first stream of P1 alone.
+fn room() {
+    let mut long = [7; 160];
+    write(3, 1, 28, 0, &mut long);
+    let mut enough = [7; 152];
+    write(3, 0, 28, 0, &mut enough);
+    let mut short = [7; 151];
+    write(3, 0, 28, 0, &mut short);
+    let mut one = [7; 104];
+    write(1, 0, 28, 0, &mut one);
+}
+
+// Wrong counts, a payload and a period of 0, one priority and one label twice: a buffer that is too small comes last.
+fn wrong() {
+    let mut few = [7; 10];
+    write(0, 0, 28, 0, &mut few);
+    write(65, 0, 28, 0, &mut few);
+    write(3, 9, 28, 0, &mut few);
+    write(3, 1, 13, 0, &mut few);
+    write(3, 1, 11, 0, &mut few);
+    write(3, 1, 16, 1, &mut few);
+    write(3, 1, 15, 655361, &mut few);
+}
+
+// A gap that is not lent is 0.
+fn not_lent() {
+    let words = [4, 1, 1, 2, 1, 1, 2, 1, 4, 655361, 1, 100, 0, 5, 60];
+    let mut few = [7; 10];
+    let said = livnakesh_write(1, 1, &words, &mut few);
+    print(b"write 1 1 without the gap");
+    answer(said.refusal, said.value);
+    bytes(&few);
+}
+
+pub(crate) fn p2_file() -> [u8; 156] {
+    let mut file = [7; 156];
+    let words = values(28, 0);
+    livnakesh_write(3, 1, &words, &mut file);
+    file
+}
+
+// The file of P1 with other bytes in two places; a place past its end changes nothing.
+pub(crate) fn p1_file(at: usize, byte: u8, also: usize, other: u8) -> [u8; 152] {
+    let mut file = [7; 152];
+    let words = values(28, 0);
+    livnakesh_write(3, 0, &words, &mut file);
+    if at < 152 {
+        file[at] = byte;
+    }
+    if also < 152 {
+        file[also] = other;
+    }
+    file
+}
+
+// The file of one stream: P3 has a period of 23, and P4 one of 22.
+pub(crate) fn one_file(period: u32) -> [u8; 104] {
+    let mut file = [7; 104];
+    let words = [4, 1, 1, 2, 1, 1, 2, 1, 4, 655361, 1, period, 0, 5, 1000];
+    livnakesh_write(1, 0, &words, &mut file);
+    file
+}
+
+pub(crate) fn cases() {
+    room();
+    wrong();
+    not_lent();
+}
