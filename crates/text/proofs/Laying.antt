@@ -1,19 +1,29 @@
 -- What it is to lay texts into a buffer, by the question that a proof asks: stores one after the other, one text and then another, a text byte
--- by byte, a number digit by digit, and a text that is measured and then put or not. Assumes nothing.
+-- by byte, a number digit by digit, and a text that is measured and then put or not. Other crates lay their texts by these laws. Assumes nothing.
 use mathlib.Core.Path.{_≡_, refl, sym, ap, _∙_}
-use mathlib.Core.List.{List, [], _∷_, _++_}
-use Prim.Native.Nat.{ℕ, suc, _+_, _-_, _/_, _%_, _^_, _≤_, _<_}
+use mathlib.Core.Bool.{Bool, true, false}
+use mathlib.Core.Logic.{_⊎_, inl, inr, ⊎-elim}
+use mathlib.Core.List.{List, [], _∷_, _++_, append-nil}
+use Prim.Native.Nat.{ℕ, suc, _+_, _-_, _*_, _/_, _%_, _≤_, _<_, min}
 use native.Mathlib.Nat.{le-refl}
 use native.Mathlib.Numerals.{add-one}
 use native.Mathlib.Omega.{arith}
-use borrow.Author.Tests.{le-leb, lt-leb}
-use lib.ListN.{length, getD, set, take, length-append}
-use lib.Seq.{sets, sets-eq, set-out, length-sets, take-suc, take-length}
+use borrow.Author.Tests.{le-leb, lt-leb, leb-true, leb-false}
+use lib.Dec.{leb}
+use lib.ListN.{length, getD, set, take, drop, length-append, length-take, take-append-drop, drop-of-length-le}
+use lib.Seq.{sets, sets-eq, set-out, length-sets, take-suc, take-length, take-all}
 use Rattle.decimal.specs.Decimal.{digit, digits}
-use Rattle.decimal.proofs.Decimal.{digits-one, digits-more, few-digits}
+use Rattle.decimal.proofs.Decimal.{digits-one, digits-more}
 use Rattle.text.specs.declared.Put.the-variants.{At, Full}
-use Rattle.text.specs.Put.{Puts}
-use Rattle.text.specs.Private.{Laid, ofNumber}
+use Rattle.text.specs.Put.{lastPlace, laid, Lays, put, Puts}
+use Rattle.text.specs.Claims.{LaidInTurn, LaidWhole}
+
+le-or-lt : (m n : ℕ) → (m ≤ n) ⊎ (n < m)
+le-or-lt m n = go (leb m n) refl
+  where
+    go : (b : Bool) → leb m n ≡ b → (m ≤ n) ⊎ (n < m)
+    go true e = inl (leb-true m n e)
+    go false e = inr (leb-false m n e)
 
 -- ---- a run of stores, and then another
 sets-append : (l : List ℕ) (i : ℕ) (s t : List ℕ) → sets l i (s ++ t) ≡ sets (sets l i s) (i + length s) t
@@ -25,51 +35,113 @@ sets-past : (l : List ℕ) (i : ℕ) (s : List ℕ) → length l ≤ i → sets 
 sets-past l i [] h = refl
 sets-past l i (a ∷ s) h = ap (λ m. sets m (suc i) s) (set-out l i a h) ∙ sets-past l (suc i) s (omega arith)
 
--- ---- one text, and then another
-module _ {m n i j k : ℕ} {a b c s t : List ℕ} where
-  pub then : Laid m a i s j b → Laid n b j t k c → Laid (m + n) a i (s ++ t) k c
-  then p q =
-      record {
-        place = omega (arith, p .place, q .place, length-append s t);
-        small = omega (arith, p .small, q .small);
-        bytes = q .bytes ∙ ap (λ l. sets l j t) (p .bytes) ∙ ap (λ z. sets (sets a i s) z t) (p .place) ∙ sym (sets-append a i s t);
-      }
+-- ---- to lay a text is to store its bytes one after the other
+-- past the end
+laid-past : (l : List ℕ) (i : ℕ) (s : List ℕ) → length l ≤ i → laid l i s ≡ l
+unfolding laid
+laid-past l i s h =
+    let z : length l - i ≡ 0 = omega arith in
+    rw (z, take-all i l h, drop-of-length-le l {i = i + length s} (omega arith)) (append-nil (l ++ []) ∙ append-nil l)
 
+-- where all of it has room
+put-is : (l : List ℕ) (i : ℕ) (s : List ℕ) → i + length s ≤ length l → put l i s .1 ≡ take i l ++ s ++ drop (i + length s) l
+put-is l i s h = rw (le-leb (i + length s) (length l) h) refl
+
+pub laid-whole : LaidWhole
+unfolding laid
+laid-whole l i s h = rw (take-all (length l - i) s (omega arith), le-leb (i + length s) (length l) h) refl
+
+-- where some of it has
+laid-some : (l : List ℕ) (i : ℕ) (s : List ℕ) → i ≤ length l → length l < i + length s → sets l i s ≡ laid l i s
+unfolding laid
+laid-some l i s h g =
+    let r = length l - i in
+    let n : length (take r s) ≡ r = length-take r s ∙ omega arith in
+    let z : drop (i + length (take r s)) l ≡ drop (i + length s) l = drop-of-length-le l {i = i + length (take r s)} (omega arith) ∙ sym (drop-of-length-le l {i = i + length s} (omega arith)) in
+    ap (sets l i) (sym (take-append-drop r s))
+    ∙ sets-append l i (take r s) (drop r s)
+    ∙ sets-past (sets l i (take r s)) (i + length (take r s)) (drop r s) (omega (arith, length-sets l i (take r s)))
+    ∙ sets-eq (take r s) l i (omega arith)
+    ∙ ap (λ d. take i l ++ take r s ++ d) z
+
+pub laid-sets : (l : List ℕ) (i : ℕ) (s : List ℕ) → sets l i s ≡ laid l i s
+laid-sets l i s =
+    ⊎-elim
+    (λ (h : length l ≤ i). sets-past l i s h ∙ sym (laid-past l i s h))
+    (λ (h : i < length l).
+    ⊎-elim
+    (λ (g : i + length s ≤ length l). sets-eq s l i g ∙ sym (put-is l i s g) ∙ sym (laid-whole l i s g))
+    (λ (g : length l < i + length s). laid-some l i s (omega arith) g)
+    (le-or-lt (i + length s) (length l)))
+    (le-or-lt (length l) i)
+
+pub length-laid : (l : List ℕ) (i : ℕ) (s : List ℕ) → length (laid l i s) ≡ length l
+length-laid l i s = ap length (sym (laid-sets l i s)) ∙ length-sets l i s
+
+-- ---- one text, and then another
 -- the buffer keeps its length
-pub same : {m i j : ℕ} {a b s : List ℕ} → Laid m a i s j b → length b ≡ length a
-same {m} {i} {j} {a} {b} {s} p = ap length (p .bytes) ∙ length-sets a i s
+pub same : {i j : ℕ} {a b s : List ℕ} → Lays a i s j b → length b ≡ length a
+same {i} {j} {a} {b} {s} p = ap length (p .bytes) ∙ length-laid a i s
 
 -- the same text under another name
-pub is : {m i j : ℕ} {a b s t : List ℕ} → s ≡ t → Laid m a i s j b → Laid m a i t j b
-is {m} {i} {j} {a} {b} e p = rw (← e) p
+pub is : {i j : ℕ} {a b s t : List ℕ} → s ≡ t → Lays a i s j b → Lays a i t j b
+is {i} {j} {a} {b} e p = rw (← e) p
 
--- with more room than it takes
-pub within : {m i j : ℕ} {a b s : List ℕ} (n : ℕ) → m ≤ n → Laid m a i s j b → Laid n a i s j b
-within n h p = record { place = p .place; small = omega (arith, p .small); bytes = p .bytes }
+pub laid-in-turn : LaidInTurn
+laid-in-turn l i s t h =
+    let j = min (i + length s) lastPlace in
+    sym (laid-sets (laid l i s) j t)
+    ∙ ap (λ m. sets m j t) (sym (laid-sets l i s))
+    ∙ ⊎-elim
+    (λ (q : i + length s ≤ lastPlace). let e : j ≡ i + length s = omega arith in ap (λ k. sets (sets l i s) k t) e)
+    (λ (q : lastPlace < i + length s).
+    sets-past (sets l i s) j t (omega (arith, length-sets l i s)) ∙ sym (sets-past (sets l i s) (i + length s) t (omega (arith, length-sets l i s))))
+    (le-or-lt (i + length s) lastPlace)
+    ∙ sym (sets-append l i s t)
+    ∙ laid-sets l i (s ++ t)
+
+-- texts in turn, in any buffer that can be counted: a text and then others, or the last
+abbrev pub InTurn : List ℕ → ℕ → List ℕ → ℕ → List ℕ → Type 0
+InTurn a i s j b = length a ≤ lastPlace → Lays a i s j b
+
+module _ {i j k : ℕ} {a b c s t : List ℕ} where
+  pub then : Lays a i s j b → InTurn b j t k c → InTurn a i (s ++ t) k c
+  then p f h =
+      let q = f (omega (arith, same p)) in
+      record {
+        place = omega (arith, p .place, q .place, length-append s t);
+        bytes =
+            q .bytes ∙ ap (λ l. laid l j t) (p .bytes) ∙ ap (λ k. laid (laid a i s) k t) (p .place) ∙ laid-in-turn a i s t h;
+      }
+
+pub last : {i j : ℕ} {a b s : List ℕ} → Lays a i s j b → InTurn a i s j b
+last p h = p
 
 -- ---- a text, byte by byte
+-- one byte
+pub one : {a b : List ℕ} {i j x : ℕ} → j ≡ min (i + 1) lastPlace → b ≡ set a i x → Lays a i (x ∷ []) j b
+one {a} {b} {i} {j} {x} p e = record { place = p; bytes = e ∙ laid-sets a i (x ∷ []) }
+
 -- nothing is laid yet
-pub none : (a : List ℕ) (i : ℕ) → Laid 0 a i [] i a
-none a i = record { place = omega arith; small = omega arith; bytes = refl }
+pub none : (a : List ℕ) (i : ℕ) → i ≤ lastPlace → Lays a i [] i a
+none a i h = record { place = omega arith; bytes = laid-sets a i [] }
 
 -- one byte more of a text
-pub more : {a b c : List ℕ} {i j n : ℕ} (t : List ℕ) (k : ℕ) → k < length t
-    → Laid k a i (take k t) j b → Laid 1 b j (getD t k 0 ∷ []) n c → Laid (k + 1) a i (take (k + 1) t) n c
-more t k h p q = is (sym (ap (λ m. take m t) (add-one k) ∙ take-suc t k 0 h)) (then p q)
+pub more : {a b c : List ℕ} {i j n : ℕ} (t : List ℕ) (k : ℕ) → k < length t → length a ≤ lastPlace
+    → Lays a i (take k t) j b → Lays b j (getD t k 0 ∷ []) n c → Lays a i (take (k + 1) t) n c
+more t k h g p q = is (sym (ap (λ m. take m t) (add-one k) ∙ take-suc t k 0 h)) (then p (last q) g)
 
 -- all bytes of a text
-pub whole : {a b : List ℕ} {i j k : ℕ} (t : List ℕ) → k ≡ length t → Laid k a i (take k t) j b → Laid (length t) a i t j b
-whole t e p = is (ap (λ m. take m t) e ∙ take-length t) (within (length t) (omega arith) p)
+pub whole : {a b : List ℕ} {i j k : ℕ} (t : List ℕ) → k ≡ length t → Lays a i (take k t) j b → Lays a i t j b
+whole t e p = is (ap (λ m. take m t) e ∙ take-length t) p
 
 -- ---- a number: its one digit, or the digits of its tenth and then its last one
-pub number-one : {a b : List ℕ} {i j : ℕ} (x : ℕ) → x < 10 → Laid 1 a i (digit x ∷ []) j b → Laid ofNumber a i (digits x) j b
-number-one x h p = is (sym (digits-one x h)) (within ofNumber (omega arith) p)
+pub number-one : {a b : List ℕ} {i j : ℕ} (x : ℕ) → x < 10 → Lays a i (digit x ∷ []) j b → Lays a i (digits x) j b
+number-one x h p = is (sym (digits-one x h)) p
 
-pub number-more : {a b c : List ℕ} {i j k : ℕ} (x : ℕ) → 10 ≤ x → x < 2 ^ 64
-    → Laid ofNumber a i (digits (x / 10)) j b → Laid 1 b j (digit (x % 10) ∷ []) k c → Laid ofNumber a i (digits x) k c
-number-more x h l p q =
-    let r = is (sym (digits-more x h)) (then p q) in
-    record { place = r .place; small = omega (arith, r .place, few-digits ofNumber x (omega arith) (omega arith)); bytes = r .bytes }
+pub number-more : {a b c : List ℕ} {i j k : ℕ} (x : ℕ) → 10 ≤ x → length a ≤ lastPlace
+    → Lays a i (digits (x / 10)) j b → Lays b j (digit (x % 10) ∷ []) k c → Lays a i (digits x) k c
+number-more x h g p q = is (sym (digits-more x h)) (then p (last q) g)
 
 -- ---- a text that is measured past the end of the buffer, and then put or not
 full : (e : List ℕ) (i : ℕ) (t : List ℕ) → length e < i + length t → Puts e i t Full e
@@ -79,10 +151,10 @@ full e i t h = let f = lt-leb (i + length t) (length e) h in (rw f refl, rw f re
 pub put-past : (e : List ℕ) (i : ℕ) (t : List ℕ) → length e < i → Puts e i t Full e
 put-past e i t h = full e i t (omega arith)
 
--- it was measured past the end
-module _ {n : ℕ} {e b t : List ℕ} {j : ℕ} (i : ℕ) (p : Laid n e (length e) t j b) where
+-- it was measured past the end: a buffer is so short that a text that cannot be counted from there on cannot fit
+module _ {e b t : List ℕ} {j : ℕ} (i : ℕ) (short : 2 * length e < lastPlace) (p : Lays e (length e) t j b) where
   kept : b ≡ e
-  kept = p .bytes ∙ sets-past e (length e) t (le-refl _)
+  kept = p .bytes ∙ laid-past e (length e) t (le-refl _)
 
   -- it does not fit
   pub put-full : length e < i + (j - length e) → Puts e i t Full b
@@ -91,8 +163,9 @@ module _ {n : ℕ} {e b t : List ℕ} {j : ℕ} (i : ℕ) (p : Laid n e (length 
       (f .0, kept ∙ f .1)
 
   -- it fits
-  pub put-at : {m k : ℕ} {d : List ℕ} → i + (j - length e) ≤ length e → Laid m b i t k d → Puts e i t (At k) d
-  put-at h q =
+  pub put-at : {k : ℕ} {d : List ℕ} → i + (j - length e) ≤ length e → Lays b i t k d → Puts e i t (At k) d
+  put-at {k} h q =
       let g : i + length t ≤ length e = omega (arith, p .place) in
       let f = le-leb (i + length t) (length e) g in
-      (rw f (ap At (q .place)), rw f (q .bytes ∙ ap (λ l. sets l i t) kept ∙ sets-eq t e i g))
+      let m : k ≡ i + length t = omega (arith, q .place) in
+      (rw f (ap At m), q .bytes ∙ ap (λ l. laid l i t) kept ∙ laid-whole e i t g)

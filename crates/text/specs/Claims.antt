@@ -1,7 +1,7 @@
--- What is proved of the sizes of the listing and of a refusal's line; the proofs are in proofs/Size.antt.
+-- What is proved of laying a text, in proofs/Laying.antt, and of the sizes of the listing and of a refusal's line, in proofs/Size.antt.
 use mathlib.Core.Path.{_≡_}
-use mathlib.Core.List.{List, map}
-use Prim.Native.Nat.{ℕ, _+_, _*_, _^_, _≤_, _<_}
+use mathlib.Core.List.{List, _++_, map}
+use Prim.Native.Nat.{ℕ, _+_, _*_, _^_, _≤_, _<_, min}
 use lib.ListN.{length, getD}
 use Rattle.names.specs.Limits.{streams, ticks}
 use Rattle.names.specs.declared.Refusal.{Refusal}
@@ -10,7 +10,17 @@ use Rattle.plan.specs.declared.Stream.{Stream}
 use Rattle.plan.specs.Plan.{Plan, blank}
 use Rattle.text.specs.declared.Put.the-variants.{At}
 use Rattle.text.specs.Listing.{listingOf, refusedOf}
-use Rattle.text.specs.Put.{put}
+use Rattle.text.specs.Put.{lastPlace, laid, put}
+
+-- to lay a text and then another is to lay them as one text, in any buffer whose places can be counted, ..
+abbrev pub LaidInTurn : Type 0
+LaidInTurn =
+    (buffer : List ℕ) (at : ℕ) (s t : List ℕ) → length buffer ≤ lastPlace
+    → laid (laid buffer at s) (min (at + length s) lastPlace) t ≡ laid buffer at (s ++ t)
+
+-- .. and a text that fits is laid whole, as it would be put
+abbrev pub LaidWhole : Type 0
+LaidWhole = (buffer : List ℕ) (at : ℕ) (text : List ℕ) → at + length text ≤ length buffer → laid buffer at text ≡ put buffer at text .1
 
 -- what is printed of a stream is a word of 32 bits
 pub record Printed (s : Stream) : Type 0 where

@@ -2,4 +2,3 @@ pub mod Words
 pub mod Listing
 pub mod Put
 pub mod Claims
-pub mod Private

@@ -1,15 +1,16 @@
 // The listing as text: numbers, labels, and the whole listing or a refusal's line, into a lent buffer.
 //
-// Every public function answers for every input, and its contract fixes each byte of the buffer: a text that does not
-// fit is answered `Full` and leaves the buffer as it was. Nothing is assumed. This crate must not know of files, of checks,
-// or of how an answer comes about.
+// Every public function answers for every input, and its contract fixes each byte of the buffer. What is put is there whole,
+// or is answered `Full` and leaves the buffer as it was; what is laid is there as far as there is room, so that texts can be
+// laid one after the other and measured before they are put. Nothing is assumed. This crate must not know of files, of
+// checks, or of how an answer comes about.
+ghost use mathlib.Core.Path.{_≡_};
 ghost use mathlib.Core.List.{[], _∷_};
-ghost use lib.ListN.{length};
+ghost use Prim.Native.Nat.{_+_, min};
 ghost use Rattle.decimal.specs.Decimal.{digits};
 ghost use Rattle.plan.specs.Plan.{planOf};
 ghost use Rattle.text.specs.Listing as text;
-ghost use Rattle.text.specs.Put.{Puts};
-ghost use Rattle.text.specs.Private.{Laid, Countable, ofNumber, ofLabel, ofVerdict, ofRow, ofHeader, ofListing, ofRefusal};
+ghost use Rattle.text.specs.Put.{lastPlace, Lays, Puts};
 use bound::Answer;
 use bound::Verdict;
 use laws::smaller;
@@ -28,20 +29,26 @@ pub enum Put {
 // A label is group * 65,536 + number.
 const GROUP: u32 = 65536;
 
-// Lays a byte at a place. Past the buffer's end nothing is laid, so a text laid there is only measured.
+// The next place; the last one has none after it.
+fn place_after(at: usize) -> usize
+    ensures { λ r. ⌜ r ≡ min (at + 1) lastPlace ⌝ }
+{
+    if at < usize::MAX { at + 1 } else { at }
+}
+
+// Past the buffer's end nothing is laid, so a text laid there is only measured.
 fn lay(out: &mut [u8], at: usize, byte: u8) -> usize
-    requires { ⌜ Countable at 0 ⌝ }
-    ensures { λ r. ⌜ Laid 1 (now (out .entry)) at (byte ∷ []) r (now (out .exit)) ⌝ }
+    ensures { λ r. ⌜ Lays (now (out .entry)) at (byte ∷ []) r (now (out .exit)) ⌝ }
 {
     if at < out.len() {
         out[at] = byte;
     }
-    at + 1
+    place_after(at)
 }
 
-fn lay_text(out: &mut [u8], at: usize, text: &[u8]) -> usize
-    requires { ⌜ Countable at (length (now text)) ⌝ }
-    ensures { λ r. ⌜ Laid (length (now (text .entry))) (now (out .entry)) at (now (text .entry)) r (now (out .exit)) ⌝ }
+// A text from a place on; the answer is the place after it, room or not.
+pub fn lay_text(out: &mut [u8], at: usize, text: &[u8]) -> usize
+    ensures { λ r. ⌜ Lays (now (out .entry)) at (now (text .entry)) r (now (out .exit)) ⌝ }
 {
     let mut next = at;
     let mut i: usize = 0;
@@ -52,9 +59,9 @@ fn lay_text(out: &mut [u8], at: usize, text: &[u8]) -> usize
     next
 }
 
-fn lay_number(out: &mut [u8], at: usize, x: u64) -> usize
-    requires { ⌜ Countable at ofNumber ⌝ }
-    ensures { λ r. ⌜ Laid ofNumber (now (out .entry)) at (digits x) r (now (out .exit)) ⌝ }
+// A number's digits, laid.
+pub fn lay_number(out: &mut [u8], at: usize, x: u64) -> usize
+    ensures { λ r. ⌜ Lays (now (out .entry)) at (digits x) r (now (out .exit)) ⌝ }
 {
     if x < 10 {
         return lay(out, at, b'0' + x as u8);
@@ -63,9 +70,9 @@ fn lay_number(out: &mut [u8], at: usize, x: u64) -> usize
     lay(out, last, b'0' + (x % 10) as u8)
 }
 
-fn lay_label(out: &mut [u8], at: usize, label: Label) -> usize
-    requires { ⌜ Countable at ofLabel ⌝ }
-    ensures { λ r. ⌜ Laid ofLabel (now (out .entry)) at (text.labelText label) r (now (out .exit)) ⌝ }
+// A label as group.number, laid.
+pub fn lay_label(out: &mut [u8], at: usize, label: Label) -> usize
+    ensures { λ r. ⌜ Lays (now (out .entry)) at (text.labelText label) r (now (out .exit)) ⌝ }
 {
     let group = label.0 / GROUP;
     let number = label.0 % GROUP;
@@ -75,8 +82,7 @@ fn lay_label(out: &mut [u8], at: usize, label: Label) -> usize
 }
 
 fn lay_bound(out: &mut [u8], at: usize, verdict: Verdict, bound: u64) -> usize
-    requires { ⌜ Countable at ofNumber ⌝ }
-    ensures { λ r. ⌜ Laid ofNumber (now (out .entry)) at (text.boundText verdict bound) r (now (out .exit)) ⌝ }
+    ensures { λ r. ⌜ Lays (now (out .entry)) at (text.boundText verdict bound) r (now (out .exit)) ⌝ }
 {
     match verdict {
         Verdict::Met => lay_number(out, at, bound),
@@ -86,8 +92,7 @@ fn lay_bound(out: &mut [u8], at: usize, verdict: Verdict, bound: u64) -> usize
 }
 
 fn lay_verdict(out: &mut [u8], at: usize, verdict: Verdict) -> usize
-    requires { ⌜ Countable at ofVerdict ⌝ }
-    ensures { λ r. ⌜ Laid ofVerdict (now (out .entry)) at (text.verdictText verdict) r (now (out .exit)) ⌝ }
+    ensures { λ r. ⌜ Lays (now (out .entry)) at (text.verdictText verdict) r (now (out .exit)) ⌝ }
 {
     match verdict {
         Verdict::Met => lay_text(out, at, b"met"),
@@ -97,8 +102,7 @@ fn lay_verdict(out: &mut [u8], at: usize, verdict: Verdict) -> usize
 }
 
 fn lay_row(out: &mut [u8], at: usize, stream: Stream, answer: Answer) -> usize
-    requires { ⌜ Countable at ofRow ⌝ }
-    ensures { λ r. ⌜ Laid ofRow (now (out .entry)) at (text.row stream answer) r (now (out .exit)) ⌝ }
+    ensures { λ r. ⌜ Lays (now (out .entry)) at (text.row stream answer) r (now (out .exit)) ⌝ }
 {
     let label = stream.label;
     let verdict = answer.verdict;
@@ -115,15 +119,13 @@ fn lay_row(out: &mut [u8], at: usize, stream: Stream, answer: Answer) -> usize
 }
 
 fn lay_header(out: &mut [u8], at: usize) -> usize
-    requires { ⌜ Countable at ofHeader ⌝ }
-    ensures { λ r. ⌜ Laid ofHeader (now (out .entry)) at text.header r (now (out .exit)) ⌝ }
+    ensures { λ r. ⌜ Lays (now (out .entry)) at text.header r (now (out .exit)) ⌝ }
 {
     lay_text(out, at, b"label priority bound deadline verdict\n")
 }
 
 fn lay_listing(out: &mut [u8], at: usize, sheet: Sheet, rows: [Answer; STREAMS]) -> usize
-    requires { ⌜ Countable at ofListing ⌝ }
-    ensures { λ r. ⌜ Laid ofListing (now (out .entry)) at (text.listingOf (planOf sheet) rows) r (now (out .exit)) ⌝ }
+    ensures { λ r. ⌜ Lays (now (out .entry)) at (text.listingOf (planOf sheet) rows) r (now (out .exit)) ⌝ }
 {
     let n = smaller(sheet.count, STREAMS);
     let mut next = lay_header(out, at);
@@ -137,9 +139,9 @@ fn lay_listing(out: &mut [u8], at: usize, sheet: Sheet, rows: [Answer; STREAMS])
     next
 }
 
-fn lay_refusal(out: &mut [u8], at: usize, refusal: Refusal) -> usize
-    requires { ⌜ Countable at ofRefusal ⌝ }
-    ensures { λ r. ⌜ Laid ofRefusal (now (out .entry)) at (text.refusedOf refusal) r (now (out .exit)) ⌝ }
+// The line of a refusal, laid.
+pub fn lay_refusal(out: &mut [u8], at: usize, refusal: Refusal) -> usize
+    ensures { λ r. ⌜ Lays (now (out .entry)) at (text.refusedOf refusal) r (now (out .exit)) ⌝ }
 {
     let at = lay_text(out, at, b"refused ");
     let at = lay_number(out, at, refusal.number as u64);

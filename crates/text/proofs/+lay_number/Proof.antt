@@ -1,5 +1,6 @@
 -- A number below 10 is its one digit; any other is what its tenth lays, and then its last digit. Its tenth is smaller.
 use Prim.Native.Nat.{ℕ, _<_}
+use native.Mathlib.Omega.{arith}
 use Rattle.text.proofs.Laying.{number-one, number-more}
 use borrow.Author.Needs.{needs}
 use borrow.Fn.Kinds.{In}
@@ -111,7 +112,7 @@ lay-number-returns-2 : (t : ℕ) → lay-number-lts.Need-returns-2 (
 lay-number-returns-2 t c =
     let d = c .before .before in
     let n = d .before .before .before .before in
-    number-more _ (n .before .before .if1 .left) (n .before .before .before .before .fits .x .fits) (n .lay-number .ensures) (d .lay2 .ensures)
+    number-more _ (n .before .before .if1 .left) (omega arith) (n .lay-number .ensures) (d .lay2 .ensures)
 
 pub +lay-number-spec : {M : Type 1} → statement M
 +lay-number-spec = close μ-lay-number λ t. lay-number-lts.spec (

@@ -1,29 +1,25 @@
 -- Within the buffer the byte is stored; past its end a store changes nothing.
-use mathlib.Core.Path.{sym, refl, ap, _∙_}
+use mathlib.Core.Path.{sym, ap, _∙_}
 use mathlib.Core.Logic.{⊎-elim}
-use native.Mathlib.Nat.{le-refl}
 use lib.ListN.{length, length-set}
 use lib.Seq.{set-out}
 use borrow.Author.Needs.{needs}
+use Rattle.text.proofs.Laying.{one}
 use Rattle.text.proofs.lay.Statement.{statement}
 use Rattle.text.proofs.lay.Tie as tie
 
 slice-write-out : tie.Need-slice-write-out
 slice-write-out c = search needs
 
-add-result : tie.Need-add-result
-add-result c = search needs
+place-after-requires : tie.Need-place-after-requires
+place-after-requires c κs = search needs
 
 same-length : tie.Need-same-length
-same-length c = ⊎-elim (λ w. ap length (w .1) ∙ simp length-set) (λ w. ap length (w .1)) (c .if1 .came)
+same-length c = ⊎-elim (λ w. ap length (w .1) ∙ simp length-set) (λ w. ap length (w .1)) (c .before .if1 .came)
 
 returns : tie.Need-returns
 returns c =
-    record {
-      place = refl;
-      small = le-refl _;
-      bytes = ⊎-elim (λ w. w .1) (λ w. w .1 ∙ sym (set-out _ _ _ (w .0 .left))) (c .if1 .came);
-    }
+    one (c .place-after .ensures) (⊎-elim (λ w. w .1) (λ w. w .1 ∙ sym (set-out _ _ _ (w .0 .left))) (c .before .if1 .came))
 
 pub lay-spec : {M : Type 1} → statement M
-lay-spec = tie.close (tie.spec slice-write-out add-result same-length returns)
+lay-spec = tie.close (tie.spec slice-write-out place-after-requires same-length returns)

@@ -1,9 +1,7 @@
 -- The bound's digits, or "-" where there is none.
 use mathlib.Core.Path.{sym, ap}
-use native.Mathlib.Omega.{arith}
 use Rattle.text.specs.Listing.{boundText}
-use Rattle.text.specs.Private.{ofNumber}
-use Rattle.text.proofs.Laying.{is, within}
+use Rattle.text.proofs.Laying.{is}
 use borrow.Author.Needs.{needs}
 use Rattle.text.proofs.lay_bound.Statement.{statement}
 use Rattle.text.proofs.lay_bound.Tie as tie
@@ -42,7 +40,7 @@ same-length-3 : tie.Need-same-length-3
 same-length-3 c = search needs
 
 returns-3 : tie.Need-returns-3
-returns-3 c = is (ap (λ v. boundText v (c .before .before .before .before .before .before .before .args .bound)) (sym (c .before .before .before .before .enum-told3 .given .1))) (within ofNumber (omega arith) (c .before .before .lay .ensures))
+returns-3 c = is (ap (λ v. boundText v (c .before .before .before .before .before .before .before .args .bound)) (sym (c .before .before .before .before .enum-told3 .given .1))) (c .before .before .lay .ensures)
 
 pub lay-bound-spec : {M : Type 1} → statement M
 lay-bound-spec =

@@ -1,5 +1,6 @@
 -- The group, the point, the number.
-use Rattle.text.proofs.Laying.{then}
+use Rattle.text.proofs.Laying.{then, last}
+use native.Mathlib.Omega.{arith}
 use borrow.Author.Needs.{needs}
 use Rattle.text.proofs.lay_label.Statement.{statement}
 use Rattle.text.proofs.lay_label.Tie as tie
@@ -27,7 +28,7 @@ returns c =
     let n = c .before .before in
     let p = n .before .before .before .before in
     let g = p .before .before .before .before in
-    then (g .lay-number .ensures) (then (p .lay .ensures) (n .lay-number2 .ensures))
+    then (g .lay-number .ensures) (then (p .lay .ensures) (last (n .lay-number2 .ensures))) (omega arith)
 
 pub lay-label-spec : {M : Type 1} → statement M
 lay-label-spec =

@@ -1,7 +1,7 @@
 -- The header, and then each turn lays one row's line.
 use mathlib.Core.Path.{_≡_, sym, ap, _∙_}
 use mathlib.Core.List.{_++_}
-use Prim.Native.Nat.{_-_, _*_, _≤_, min}
+use Prim.Native.Nat.{_-_, _≤_, min}
 use native.Mathlib.Omega.{arith}
 use borrow.Author.Needs.{needs}
 use lib.ListN.{length, take, length-map}
@@ -10,15 +10,15 @@ use Rattle.laws.proofs.Lists.{take-min}
 use Rattle.plan.specs.Plan.{blank}
 use Rattle.plan.proofs.Stream as stream
 use Rattle.text.specs.Listing.{header, rows, listingOf}
-use Rattle.text.specs.Private.{Laid, ofRow, ofListing}
-use Rattle.text.proofs.Laying.{none, then, is, within, same}
+use Rattle.text.specs.Put.{Lays}
+use Rattle.text.proofs.Laying.{none, then, last, is, same}
 use Rattle.text.proofs.Rows.{rows-more, rows-all}
 use Rattle.text.proofs.lay_listing.Statement.{statement}
 use Rattle.text.proofs.lay_listing.Tie as tie
 
 abbrev Inv-loop : tie.InvT-loop
 Inv-loop out₀ at sheet answers n next₀ k₀ out next k =
-    (k ≤ n) × Laid (ofRow * k) out₀ next₀ (rows (take k (sheet .streams)) (take k answers)) next out
+    (k ≤ n) × Lays out₀ next₀ (rows (take k (sheet .streams)) (take k answers)) next out
 
 abbrev μ-loop : tie.MeasureT-loop
 μ-loop out₀ at sheet answers n next₀ k₀ out next k = n - k
@@ -35,7 +35,7 @@ lay-header-requires c κs = search needs
 
 loop-holds : tie.Need-loop-holds Inv-loop μ-loop
 unfolding rows
-loop-holds c = (omega arith, none _ _)
+loop-holds c = (omega arith, none _ _ (omega arith))
 
 mul-stream : tie.Need-mul-stream Inv-loop μ-loop
 mul-stream c = search needs
@@ -50,10 +50,7 @@ array-copy-out-answer : tie.Need-array-copy-out-answer Inv-loop μ-loop
 array-copy-out-answer c = search needs
 
 lay-row-requires : tie.Need-lay-row-requires Inv-loop μ-loop
-lay-row-requires c κs =
-    let l = c .before .before .before .before in
-    let h = l .before .before .before in
-    omega (arith, l .loop .inv .0, l .loop .inv .1 .small, c .before .before .before .loop-test .taken, h .before .before .smaller .ensures, h .lay-header .ensures .small, h .before .before .before .before .pre)
+lay-row-requires c κs = search needs
 
 add-k : tie.Need-add-k Inv-loop μ-loop
 add-k c = search needs
@@ -69,7 +66,7 @@ loop-again c =
     let s = h .before .before .before .before in
     let g : length (s .args .t4) ≡ streams = search needs in (
       omega arith,
-      is (rows-more (l .k) (s .args .t3 .streams) (s .args .t4) blank _ (omega (arith, places s, d .loop-test .taken, h .before .before .smaller .ensures)) (omega (arith, d .loop-test .taken, h .before .before .smaller .ensures))) (within _ (omega arith) (then (l .inv .1) (c .before .before .lay-row .ensures))),
+      is (rows-more (l .k) (s .args .t3 .streams) (s .args .t4) blank _ (omega (arith, places s, d .loop-test .taken, h .before .before .smaller .ensures)) (omega (arith, d .loop-test .taken, h .before .before .smaller .ensures))) (then (l .inv .1) (last (c .before .before .lay-row .ensures)) (omega arith)),
     )
 
 returns : tie.Need-returns Inv-loop μ-loop
@@ -82,7 +79,7 @@ returns c =
     let m : length ss ≤ streams = omega (arith, places s) in
     let e : take (c .before .loop .k) ss ≡ take (s .args .t3 .count) ss = ap (λ k. take k ss) n ∙ take-min (s .args .t3 .count) streams ss m in
     is (ap (λ t. header ++ t) (rows-all (c .before .loop .k) ss (s .args .t4) ∙ ap (λ t. rows t (s .args .t4)) e))
-    (within ofListing (omega arith) (then (h .lay-header .ensures) (c .before .loop .inv .1)))
+    (then (h .lay-header .ensures) (last (c .before .loop .inv .1)) (omega arith))
 
 same-length : tie.Need-same-length Inv-loop μ-loop
 same-length c = same (returns c)

@@ -1,26 +1,17 @@
 -- The fields in their order, each followed by its space, the last by the newline.
-use Prim.Native.Nat.{_+_, _^_, _<_}
+use Prim.Native.Nat.{_≤_}
 use native.Mathlib.Omega.{arith}
+use lib.ListN.{length}
 use Rattle.text.specs.Listing.{row}
-use Rattle.text.proofs.Laying.{then, same}
+use Rattle.text.specs.Put.{lastPlace}
+use Rattle.text.proofs.Laying.{then, last, same}
 use borrow.Author.Needs.{needs}
 use Rattle.text.proofs.lay_row.Statement.{statement}
 use Rattle.text.proofs.lay_row.Tie as tie
 
--- how far the line goes up to its bound, and up to its deadline
-to-bound : (c : tie.After-lay3) → c .lay3 .result + 29 < 2 ^ 64
-to-bound c =
-    let b = c .before .before .before .before in
-    let s = b .before .before .before .before in
-    let p = s .before .before .before .before in
-    let t = p .before .before .before .before .before in
-    let l = t .before .before .before .before in
-    omega (arith, c .lay3 .ensures .small, b .lay-bound .ensures .small, s .lay2 .ensures .small, p .lay-number .ensures .small, t .lay .ensures .small, l .lay-label .ensures .small, l .before .before .before .before .pre)
-
-to-deadline : (c : tie.After-lay4) → c .lay4 .result + 8 < 2 ^ 64
-to-deadline c =
-    let n = c .before .before .before .before in
-    omega (arith, c .lay4 .ensures .small, n .lay-number2 .ensures .small, to-bound (n .before .before .before .before .before))
+-- the buffer can be counted
+room : (c : tie.Start) → length (c .args .out .now) ≤ lastPlace
+room c = omega arith
 
 lay-label-requires : tie.Need-lay-label-requires
 lay-label-requires c κs = search needs
@@ -47,20 +38,16 @@ cast-lay-number-2 : tie.Need-cast-lay-number-2
 cast-lay-number-2 c = search needs
 
 lay-number-requires-2 : tie.Need-lay-number-requires-2
-lay-number-requires-2 c κs = omega (arith, to-bound (c .before .before .before .before))
+lay-number-requires-2 c κs = search needs
 
 lay-requires-4 : tie.Need-lay-requires-4
-lay-requires-4 c κs =
-    let n = c .before .before .before in
-    omega (arith, n .lay-number2 .ensures .small, to-bound (n .before .before .before .before .before))
+lay-requires-4 c κs = search needs
 
 lay-verdict-requires : tie.Need-lay-verdict-requires
-lay-verdict-requires c κs = omega (arith, to-deadline (c .before .before .before))
+lay-verdict-requires c κs = search needs
 
 lay-requires-5 : tie.Need-lay-requires-5
-lay-requires-5 c κs =
-    let v = c .before .before .before in
-    omega (arith, v .lay-verdict .ensures .small, to-deadline (v .before .before .before .before))
+lay-requires-5 c κs = search needs
 
 returns : tie.Need-returns
 unfolding row
@@ -84,7 +71,7 @@ returns c =
     (then (n .lay-number2 .ensures)
     (then (t .lay4 .ensures)
     (then (v .lay-verdict .ensures)
-    (e .lay5 .ensures)))))))))
+    (last (e .lay5 .ensures)))))))))) (room (l .before .before .before .before))
 
 same-length : tie.Need-same-length
 same-length c = same (returns c)

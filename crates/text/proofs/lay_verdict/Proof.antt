@@ -1,9 +1,7 @@
 -- The verdict's word.
 use mathlib.Core.Path.{sym, ap}
-use native.Mathlib.Omega.{arith}
 use Rattle.text.specs.Listing.{verdictText}
-use Rattle.text.specs.Private.{ofVerdict}
-use Rattle.text.proofs.Laying.{is, within}
+use Rattle.text.proofs.Laying.{is}
 use borrow.Author.Needs.{needs}
 use Rattle.text.proofs.lay_verdict.Statement.{statement}
 use Rattle.text.proofs.lay_verdict.Tie as tie
@@ -39,19 +37,19 @@ same-length : tie.Need-same-length
 same-length c = search needs
 
 returns : tie.Need-returns
-returns c = is (ap verdictText (sym (c .before .before .before .before .before .enum-told .given .1))) (within ofVerdict (omega arith) (c .before .before .lay-text .ensures))
+returns c = is (ap verdictText (sym (c .before .before .before .before .before .enum-told .given .1))) (c .before .before .lay-text .ensures)
 
 same-length-2 : tie.Need-same-length-2
 same-length-2 c = search needs
 
 returns-2 : tie.Need-returns-2
-returns-2 c = is (ap verdictText (sym (c .before .before .before .before .before .enum-told2 .given .1))) (within ofVerdict (omega arith) (c .before .before .lay-text2 .ensures))
+returns-2 c = is (ap verdictText (sym (c .before .before .before .before .before .enum-told2 .given .1))) (c .before .before .lay-text2 .ensures)
 
 same-length-3 : tie.Need-same-length-3
 same-length-3 c = search needs
 
 returns-3 : tie.Need-returns-3
-returns-3 c = is (ap verdictText (sym (c .before .before .before .before .before .enum-told3 .given .1))) (within ofVerdict (omega arith) (c .before .before .lay-text3 .ensures))
+returns-3 c = is (ap verdictText (sym (c .before .before .before .before .before .enum-told3 .given .1))) (c .before .before .lay-text3 .ensures)
 
 pub lay-verdict-spec : {M : Type 1} → statement M
 lay-verdict-spec =

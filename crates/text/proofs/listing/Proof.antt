@@ -15,7 +15,7 @@ same-length : tie.Need-same-length
 same-length c = search needs
 
 returns : tie.Need-returns
-returns c = put-full 0 (c .before .before .before .lay-listing .ensures) (omega arith)
+returns c = put-full 0 (omega arith) (c .before .before .before .lay-listing .ensures) (omega arith)
 
 lay-listing-requires-2 : tie.Need-lay-listing-requires-2
 lay-listing-requires-2 c κs = search needs
@@ -26,7 +26,7 @@ same-length-2 c = search needs
 returns-2 : tie.Need-returns-2
 returns-2 c =
     let l = c .before .before in
-    put-at 0 (l .before .before .before .before .before .lay-listing .ensures) (omega arith) (l .lay-listing2 .ensures)
+    put-at 0 (omega arith) (l .before .before .before .before .before .lay-listing .ensures) (omega arith) (l .lay-listing2 .ensures)
 
 pub listing-spec : {M : Type 1} → statement M
 listing-spec =

@@ -19,7 +19,7 @@ same-length : tie.Need-same-length
 same-length c = search needs
 
 returns-2 : tie.Need-returns-2
-returns-2 c = put-full _ (c .before .before .before .lay-label .ensures) (omega arith)
+returns-2 c = put-full (c .before .before .before .before .before .before .before .args .at) (omega arith) (c .before .before .before .lay-label .ensures) (omega arith)
 
 lay-label-requires-2 : tie.Need-lay-label-requires-2
 lay-label-requires-2 c κs = search needs
@@ -30,7 +30,7 @@ same-length-2 c = search needs
 returns-3 : tie.Need-returns-3
 returns-3 c =
     let l = c .before .before in
-    put-at _ (l .before .before .before .before .before .lay-label .ensures) (omega arith) (l .lay-label2 .ensures)
+    put-at (l .before .before .before .before .before .before .before .before .before .args .at) (omega arith) (l .before .before .before .before .before .lay-label .ensures) (omega arith) (l .lay-label2 .ensures)
 
 pub put-label-spec : {M : Type 1} → statement M
 put-label-spec =

@@ -15,7 +15,7 @@ same-length : tie.Need-same-length
 same-length c = search needs
 
 returns : tie.Need-returns
-returns c = put-full 0 (c .before .before .before .lay-refusal .ensures) (omega arith)
+returns c = put-full 0 (omega arith) (c .before .before .before .lay-refusal .ensures) (omega arith)
 
 lay-refusal-requires-2 : tie.Need-lay-refusal-requires-2
 lay-refusal-requires-2 c κs = search needs
@@ -26,7 +26,7 @@ same-length-2 c = search needs
 returns-2 : tie.Need-returns-2
 returns-2 c =
     let l = c .before .before in
-    put-at 0 (l .before .before .before .before .before .lay-refusal .ensures) (omega arith) (l .lay-refusal2 .ensures)
+    put-at 0 (omega arith) (l .before .before .before .before .before .lay-refusal .ensures) (omega arith) (l .lay-refusal2 .ensures)
 
 pub refused-spec : {M : Type 1} → statement M
 refused-spec =
