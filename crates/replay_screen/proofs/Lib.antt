@@ -1,0 +1,5 @@
+pub mod Rows
+pub mod Play
+pub mod Winner
+pub mod Size
+pub mod Unique

@@ -1,0 +1,190 @@
+-- How many bytes a replay has at most: each line by its parts, each part by its digits. Assumes nothing.
+use mathlib.Core.Path.{_≡_, refl, sym, ap, _∙_}
+use mathlib.Core.Bool.{Bool, true, false, not, _&&_, cond}
+use native.Mathlib.Decide.{decLe}
+use mathlib.Core.List.{List, [], _∷_, _++_, map}
+use Prim.Native.Nat.{ℕ, zero, suc, _+_, _*_, _^_, _≤_, _<_}
+use native.Mathlib.Nat.{lt-of-not-le, zero-add, suc-mul, mul-le-mul-right}
+use native.Mathlib.Omega.{arith}
+use borrow.Author.Tests.{le-leb, leb-true}
+use lib.Dec.{leb}
+use lib.ListN.{length, getD, take, length-append, length-take, length-map}
+use Rattle.names.specs.declared.Priority.{Priority}
+use Rattle.names.specs.declared.Row.{Row}
+use Rattle.names.specs.declared.Refusal.{Refusal}
+use Rattle.names.specs.Limits.{contenders, bits, ticks}
+use Rattle.laws.specs.declared.Found.{Found}
+use Rattle.laws.specs.declared.Found.the-variants.{At as Found·At, Nothing as Found·Nothing}
+use Rattle.laws.specs.Lists.{rows, those}
+use Rattle.laws.specs.Search.{first}
+use Rattle.repeats.specs.declared.Repeat.{Repeat}
+use Rattle.repeats.specs.declared.Repeat.the-variants.{At as Repeat·At, Nothing as Repeat·Nothing}
+use Rattle.repeats.specs.Repeats.{firstRepeat}
+use Rattle.repeats.proofs.Rows.{finds-lowest}
+use Rattle.repeats.proofs.Repeats.{at-the-lowest}
+use Rattle.decimal.specs.Decimal.{digitsOf, digits}
+use Rattle.decimal.proofs.Decimal.{few-digits}
+use Rattle.text.specs.declared.Put.the-variants.{At}
+use Rattle.text.specs.Listing.{refusedOf}
+use Rattle.text.proofs.Size.{largest-refusal}
+use Rattle.tournament_state.specs.declared.Phase.{Phase}
+use Rattle.tournament_state.specs.declared.Phase.the-variants.{AtBit, Finished, NoWinner}
+use Rattle.tournament_state.specs.declared.Tournament.{Tournament}
+use Rattle.tournament_state.specs.declared.Answer.{Answer}
+use Rattle.tournament_state.specs.declared.Answer.the-variants.{Done, Refused}
+use Rattle.tournament_state.specs.Refusals.{number, none, fitsIn, unfitAt, repeatedAt, seven, eightBits, eightPriorities, eightPhase, nine, unless, refused, _then_, verdictOf}
+use Rattle.tournament_state.specs.Meaning.{at, Within}
+use Rattle.tournament_state.proofs.Meaning.{done-limits}
+use Rattle.tournament.specs.Rule.{begunOf, heardAt, steps}
+use Rattle.tournament.specs.Answers.{outcome, nobody, startOf}
+use Rattle.tournament_laws.proofs.Start.{kept, unused-at-start}
+use Rattle.replay_screen.specs.Words as word
+use Rattle.replay_screen.specs.Shown.{marked, gone, spaced, rowsText, carrierText, bitLine, bitLines, winsLine, winnerLine, playedOf, shownBy, shownOf}
+use Rattle.replay_screen.specs.Private.{Begun}
+use Rattle.replay_screen.specs.Claims.{mostRows, mostOfBit, mostOfWinner, mostShown, LargestShown, NeverFull, MostIs}
+use Rattle.replay_screen.proofs.Play.{priority-in, judged-steps, begun-of-done}
+
+-- ---- the rows
+some-of : (t : ℕ → Bool) (l : List ℕ) → length (spaced (those t l)) ≤ length (spaced l)
+unfolding spaced those
+some-of t [] = omega arith
+some-of t (r ∷ l) = by-test (t r) (some-of t l)
+  where
+    by-test : (b : Bool) → length (spaced (those t l)) ≤ length (spaced l) → length (spaced (cond b (r ∷ those t l) (those t l))) ≤ length (word.space ++ digits r ++ spaced l)
+    by-test true h = omega (arith, length-append (word.space ++ digits r) (spaced (those t l)), length-append (word.space ++ digits r) (spaced l))
+    by-test false h = omega (arith, length-append (word.space ++ digits r) (spaced l))
+
+text-size : (n : ℕ) (l : List ℕ) → length word.nobody ≤ n → length (spaced l) ≤ n → length (rowsText l) ≤ n
+unfolding rowsText
+text-size n [] h g = h
+text-size n (r ∷ l) h g = g
+
+none-size : length word.nobody ≤ mostRows
+unfolding spaced rows digits digitsOf
+none-size = leb-true _ _ refl
+
+rows-size : (m : List Bool) → length (rowsText (marked m)) ≤ mostRows
+unfolding marked
+rows-size m = text-size mostRows _ none-size (some-of (λ i. getD m i false) (rows contenders (λ i. i)))
+
+-- ---- the lines
+carrier-size : (h : Bool) → length (carrierText h) ≤ length word.heard
+carrier-size true = omega arith
+carrier-size false = omega arith
+
+bit-size : (k : ℕ) (h : Bool) (before after : List Bool) → k < 10 ^ 2 → length (bitLine k h before after) ≤ mostOfBit
+unfolding bitLine
+bit-size k h before after l =
+    simp length-append
+    (omega (arith, few-digits 2 k (omega arith) l, carrier-size h, rows-size (gone before after), rows-size after))
+
+bits-size : (t : Tournament) (k : ℕ) → k ≤ bits → length (bitLines t k) ≤ k * mostOfBit
+unfolding bitLines
+bits-size t zero h = omega arith
+bits-size t (suc k) h =
+    let line = bitLine (suc k) (heardAt (steps k t) (suc k)) (steps k t .marks) (steps (suc k) t .marks) in
+    omega (
+      arith,
+      length-append (bitLines t k) line,
+      suc-mul k mostOfBit,
+      bit-size (suc k) (heardAt (steps k t) (suc k)) (steps k t .marks) (steps (suc k) t .marks) (omega arith),
+      bits-size t k (omega arith),
+    )
+
+wins-size : (row : Row) (p : Priority) → row .0 < contenders → number p ≤ ticks → length (winsLine row p) ≤ mostOfWinner
+unfolding winsLine
+wins-size row p h g =
+    simp length-append (omega (arith, few-digits 3 (row .0) (omega arith) (omega arith), few-digits 10 (number p) (omega arith) (omega arith)))
+
+winner-size : (places : List Priority) (phase : Phase) (NB n : ℕ) → Within NB n phase → n ≤ contenders → ((i : ℕ) → at places i ≤ ticks)
+    → length (winnerLine places phase) ≤ mostOfWinner
+unfolding winnerLine
+winner-size places (AtBit k) NB n w h p = omega arith
+winner-size places (Finished row) NB n w h p = wins-size row (getD places (row .0) none) (omega arith) (p (row .0))
+winner-size places NoWinner NB n w h p = omega arith
+
+-- ---- a tournament that was begun
+played-size : (t : Tournament) → Begun t → ((i : ℕ) → at (t .priorities) i ≤ ticks) → length (playedOf t) ≤ mostShown
+unfolding playedOf
+played-size t b p =
+    let s = steps (t .bits) t in
+    let l = done-limits (s .bits) (s .count) (s .priorities) (s .phase) (judged-steps t b (t .bits)) in
+    let k = kept t (t .bits) in
+    let few : t .bits ≤ bits = omega (arith, l .to, k .bits) in
+    omega (
+      arith,
+      length-append (bitLines t (t .bits)) (winnerLine (s .priorities) (s .phase)),
+      bits-size t (t .bits) few,
+      mul-le-mul-right mostOfBit few,
+      winner-size (s .priorities) (s .phase) (s .bits) (s .count) (l .within) (l .few) (λ i. rw (k .priorities) (p i)),
+    )
+
+-- ---- a refusal: its number has one digit, and its place is 0 or a row
+abbrev Small : Answer → Type 0
+Small Done = Unit {0}
+Small (Refused r) = (r .number ≤ 9) × (r .place ≤ contenders)
+
+small-then : (a b : Answer) → Small a → Small b → Small (a then b)
+small-then Done b p q = q
+small-then (Refused r) b p q = p
+
+small-unless : (b : Bool) (k : ℕ) → k ≤ 9 → Small (unless b (refused k 0))
+small-unless true k h = tt
+small-unless false k h = (h, omega arith)
+
+small-unfit : (NB : ℕ) (ps : List Priority) → length ps ≤ contenders → Small (eightPriorities NB ps)
+unfolding eightPriorities
+small-unfit NB ps h = by-found (first unfit 0 (length ps)) refl
+  where
+    unfit : ℕ → Bool
+    unfit i = not (fitsIn NB (getD ps i none))
+
+    by-found : (f : Found) → first unfit 0 (length ps) ≡ f → Small (unfitAt f)
+    by-found (Found·At i) e = (omega arith, omega (arith, finds-lowest unfit 0 (length ps) i .0 e .below))
+    by-found Found·Nothing e = tt
+
+small-repeated : (ps : List Priority) → length ps ≤ contenders → Small (nine ps)
+unfolding nine
+small-repeated ps h = by-repeat (firstRepeat (map number ps)) refl
+  where
+    by-repeat : (r : Repeat) → firstRepeat (map number ps) ≡ r → Small (repeatedAt r)
+    by-repeat (Repeat·At row) e = (omega arith, omega (arith, at-the-lowest (map number ps) row .0 e .0 .among, length-map ps number))
+    by-repeat Repeat·Nothing e = tt
+
+small-verdict : (NB n : ℕ) (places : List Priority) → length places ≡ contenders → Small (verdictOf NB n places (AtBit 1))
+unfolding verdictOf
+small-verdict NB n places h =
+    let ps = take n places in
+    let few : length ps ≤ contenders = omega (arith, length-take n places) in
+    small-then (seven n) _ (small-unless (leb 1 n && leb n contenders) 7 (omega arith))
+    (small-then (eightBits NB) _ (small-unless (leb 1 NB && leb NB bits) 8 (omega arith))
+    (small-then (eightPriorities NB ps) _ (small-unfit NB ps few)
+    (small-then (eightPhase NB n (AtBit 1)) _ (small-unless (leb 1 1 && leb 1 NB) 8 (omega arith)) (small-repeated ps few))))
+
+refused-size : (r : Refusal) → (r .number ≤ 9) × (r .place ≤ contenders) → length (refusedOf r) ≤ mostShown
+refused-size r (p, q) = omega (arith, largest-refusal r (omega arith) (omega arith))
+
+-- ---- what is shown
+begun-small : (NB n : ℕ) (places : List Priority) → n ≤ length places → ((i : ℕ) → at places i ≤ ticks) → (i : ℕ) → at (begunOf NB n places .priorities) i ≤ ticks
+unfolding steps
+begun-small NB n places h p i =
+    elim (decLe n i) [
+      | yes g ↦ rw (unused-at-start NB n places 0 i g .0) (omega arith)
+      | no g ↦ rw (priority-in NB n i places (lt-of-not-le g) h) (p i)
+    ]
+
+pub largest-shown : LargestShown
+unfolding shownOf startOf
+largest-shown NB n places l = by-answer (verdictOf NB n places (AtBit 1)) refl
+  where
+    by-answer : (a : Answer) → verdictOf NB n places (AtBit 1) ≡ a → length (shownBy (outcome a nobody (begunOf NB n places) .answer) (outcome a nobody (begunOf NB n places) .tournament)) ≤ mostShown
+    by-answer Done e = played-size (begunOf NB n places) (begun-of-done NB n places (l .long) e) (begun-small NB n places (omega (arith, done-limits NB n places (AtBit 1) e .few, l .long)) (l .small))
+    by-answer (Refused r) e = refused-size r (rw e at (small-verdict NB n places (l .long)))
+
+pub never-full : NeverFull
+never-full NB n places buffer l h =
+    rw (le-leb (0 + length (shownOf NB n places)) (length buffer) (omega (arith, largest-shown NB n places l))) (ap At (zero-add _))
+
+pub most-is : MostIs
+unfolding spaced rows digits digitsOf
+most-is = refl

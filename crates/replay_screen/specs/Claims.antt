@@ -1,0 +1,60 @@
+-- What is proved of a replay: its last line names the smallest priority, in proofs/Winner.antt, and how long it is at most, in proofs/Size.antt.
+use mathlib.Core.Path.{_≡_}
+use mathlib.Core.List.{List, _++_}
+use Prim.Native.Nat.{ℕ, _+_, _*_, _≤_}
+use lib.ListN.{length, getD}
+use Rattle.names.specs.declared.Priority.{Priority}
+use Rattle.names.specs.Limits.{contenders, bits, ticks}
+use Rattle.laws.specs.Lists.{rows}
+use Rattle.text.specs.declared.Put.the-variants.{At}
+use Rattle.text.specs.Put.{put}
+use Rattle.tournament_state.specs.declared.Answer.the-variants.{Done}
+use Rattle.tournament_state.specs.Refusals.{none}
+use Rattle.tournament_state.specs.Meaning.{at}
+use Rattle.tournament.specs.Rule.{begunOf}
+use Rattle.tournament.specs.Answers.{startOf}
+use Rattle.tournament_laws.specs.Facts.{Smallest}
+use Rattle.replay_screen.specs.Words as word
+use Rattle.replay_screen.specs.Shown.{spaced, bitLines, winsLine, shownOf}
+
+-- a start that is not refused: a line for each of the NB bits, and the row and the priority of the smallest
+abbrev pub SmallestShown : Type 0
+SmallestShown =
+    (NB n : ℕ) (places : List Priority) → length places ≡ contenders → startOf NB n places .answer ≡ Done
+    → (w : ℕ) × Smallest n places w × (shownOf NB n places ≡ bitLines (begunOf NB n places) NB ++ winsLine (record { 0 = w }) (getD places w none))
+
+-- every row after its space
+abbrev pub mostRows : ℕ
+mostRows = length (spaced (rows contenders (λ i. i)))
+
+-- the longest line of a bit, whose number has two digits at most, with every row in both places
+abbrev pub mostOfBit : ℕ
+mostOfBit =
+    length word.bit + 2 + length word.colon + length word.heard + length word.goesSilent + mostRows + length word.stillIn + mostRows
+    + length word.newline
+
+-- the longest line of a winner, whose row has three digits and whose priority has ten
+abbrev pub mostOfWinner : ℕ
+mostOfWinner = length word.row + 3 + length word.wins + 10 + length word.newline
+
+abbrev pub mostShown : ℕ
+mostShown = bits * mostOfBit + mostOfWinner
+
+-- 128 places with priorities of 32 bits, as a call is lent them
+pub record Lent (places : List Priority) : Type 0 where
+  pub long : length places ≡ contenders
+  pub small : (i : ℕ) → at places i ≤ ticks
+
+-- no replay is longer, ..
+abbrev pub LargestShown : Type 0
+LargestShown = (NB n : ℕ) (places : List Priority) → Lent places → length (shownOf NB n places) ≤ mostShown
+
+-- .. so a buffer of that length is never too small, ..
+abbrev pub NeverFull : Type 0
+NeverFull =
+    (NB n : ℕ) (places : List Priority) (buffer : List ℕ) → Lent places → mostShown ≤ length buffer
+    → put buffer 0 (shownOf NB n places) .0 ≡ At (length (shownOf NB n places))
+
+-- .. and it has 27,270 bytes
+abbrev pub MostIs : Type 0
+MostIs = mostShown ≡ 27270

@@ -1,0 +1,210 @@
+// What the replay screen shows of a tournament: a line for each bit, and the winner in the last line, or the line of a refusal.
+//
+// Each public function answers for every input, and its contract fixes each byte of the lent buffer. Nothing is assumed.
+// This crate must not know the rule of the tournament, nor of input and output.
+ghost use mathlib.Core.Path.{_≡_};
+ghost use mathlib.Core.Bool.{_||_, _&&_, not, cond};
+ghost use mathlib.Core.List.{[], _++_};
+ghost use lib.ListN.{getD};
+ghost use Rattle.text.specs.Put.{Lays, Puts};
+ghost use Rattle.decimal.specs.Decimal.{digits};
+ghost use Rattle.tournament_state.specs.Refusals.{none as Refusals·none};
+ghost use Rattle.tournament.specs.Answers.{carrierOf};
+ghost use Rattle.replay_screen.specs.Words as word;
+ghost use Rattle.replay_screen.specs.Shown.{marked, gone as Shown·gone, rowsText, carrierText, bitLine, winsLine, winnerLine, playedOf, shownOf};
+ghost use Rattle.replay_screen.specs.Private.{Begun, isHeard};
+use names::CONTENDERS;
+use names::Priority;
+use names::Row;
+use text::Put;
+use text::lay_number;
+use text::lay_refusal;
+use text::lay_text;
+use tournament::Carrier;
+use tournament::listen;
+use tournament::start;
+use tournament::step;
+use tournament_state::Answer;
+use tournament_state::Phase;
+use tournament_state::Tournament;
+
+fn either(a: bool, b: bool) -> bool
+    ensures { λ r. ⌜ r ≡ a || b ⌝ }
+{
+    if a { true } else { b }
+}
+
+// A row after a space, if it is marked.
+fn lay_row(out: &mut [u8], at: usize, row: usize, mark: bool) -> usize
+    ensures { λ r. ⌜ Lays (now (out .entry)) at (cond mark (word.space ++ digits row) []) r (now (out .exit)) ⌝ }
+{
+    if mark {
+        let at = lay_text(out, at, b" ");
+        return lay_number(out, at, row as u64);
+    }
+    at
+}
+
+// That there are none, unless there are some.
+fn lay_none(out: &mut [u8], at: usize, some: bool) -> usize
+    ensures { λ r. ⌜ Lays (now (out .entry)) at (cond some [] word.nobody) r (now (out .exit)) ⌝ }
+{
+    if some {
+        return at;
+    }
+    lay_text(out, at, b" none")
+}
+
+// The rows that are marked, or that there are none.
+fn lay_rows(out: &mut [u8], at: usize, marks: [bool; CONTENDERS]) -> usize
+    ensures { λ r. ⌜ Lays (now (out .entry)) at (rowsText (marked marks)) r (now (out .exit)) ⌝ }
+{
+    let mut next = at;
+    let mut some = false;
+    for i in 0..CONTENDERS {
+        let mark = marks[i];
+        next = lay_row(out, next, i, mark);
+        some = either(some, mark);
+    }
+    lay_none(out, next, some)
+}
+
+fn in_and_out(was: bool, is: bool) -> bool
+    ensures { λ r. ⌜ r ≡ was && not is ⌝ }
+{
+    if was { !is } else { false }
+}
+
+// Marks for those that were in and are out.
+fn gone(before: [bool; CONTENDERS], after: [bool; CONTENDERS]) -> [bool; CONTENDERS]
+    ensures { λ r. ⌜ r ≡ Shown·gone before after ⌝ }
+{
+    let mut marks = [false; CONTENDERS];
+    for i in 0..CONTENDERS {
+        marks[i] = in_and_out(before[i], after[i]);
+    }
+    marks
+}
+
+fn heard(t: Tournament) -> bool
+    ensures { λ r. ⌜ r ≡ isHeard (carrierOf t) ⌝ }
+{
+    match listen(t) {
+        Carrier::Heard => true,
+        Carrier::NotHeard => false,
+        Carrier::Refused(_) => false,
+    }
+}
+
+fn lay_carrier(out: &mut [u8], at: usize, heard: bool) -> usize
+    ensures { λ r. ⌜ Lays (now (out .entry)) at (carrierText heard) r (now (out .exit)) ⌝ }
+{
+    if heard {
+        return lay_text(out, at, b"carrier heard");
+    }
+    lay_text(out, at, b"no carrier")
+}
+
+// The line of a bit, between the marks before it and the marks after it.
+fn lay_bit(
+    out: &mut [u8],
+    at: usize,
+    k: u64,
+    heard: bool,
+    before: [bool; CONTENDERS],
+    after: [bool; CONTENDERS],
+) -> usize
+    ensures { λ r. ⌜ Lays (now (out .entry)) at (bitLine k heard before after) r (now (out .exit)) ⌝ }
+{
+    let silent = gone(before, after);
+    let at = lay_text(out, at, b"bit ");
+    let at = lay_number(out, at, k);
+    let at = lay_text(out, at, b": ");
+    let at = lay_carrier(out, at, heard);
+    let at = lay_text(out, at, b"; goes silent:");
+    let at = lay_rows(out, at, silent);
+    let at = lay_text(out, at, b"; still in:");
+    let at = lay_rows(out, at, after);
+    lay_text(out, at, b"\n")
+}
+
+fn priority_at(priorities: [Priority; CONTENDERS], row: Row) -> Priority
+    ensures { λ r. ⌜ r ≡ getD priorities (row .0) Refusals·none ⌝ }
+{
+    let i = row.0;
+    if i < CONTENDERS {
+        return priorities[i];
+    }
+    Priority(0)
+}
+
+fn lay_wins(out: &mut [u8], at: usize, row: Row, priority: Priority) -> usize
+    ensures { λ r. ⌜ Lays (now (out .entry)) at (winsLine row priority) r (now (out .exit)) ⌝ }
+{
+    let at = lay_text(out, at, b"row ");
+    let at = lay_number(out, at, row.0 as u64);
+    let at = lay_text(out, at, b" wins with priority ");
+    let at = lay_number(out, at, priority.0 as u64);
+    lay_text(out, at, b"\n")
+}
+
+fn lay_winner(out: &mut [u8], at: usize, priorities: [Priority; CONTENDERS], phase: Phase) -> usize
+    ensures { λ r. ⌜ Lays (now (out .entry)) at (winnerLine priorities phase) r (now (out .exit)) ⌝ }
+{
+    match phase {
+        Phase::Finished(row) => lay_wins(out, at, row, priority_at(priorities, row)),
+        Phase::AtBit(_) => at,
+        Phase::NoWinner => at,
+    }
+}
+
+// All lines of a tournament that is at its first bit.
+fn lay_played(out: &mut [u8], at: usize, t: Tournament) -> usize
+    requires { ⌜ Begun t ⌝ }
+    ensures { λ r. ⌜ Lays (now (out .entry)) at (playedOf t) r (now (out .exit)) ⌝ }
+{
+    let bits = t.bits;
+    let mut next = at;
+    let mut now = t;
+    for k in 0..bits {
+        let after = step(now).tournament;
+        let carrier = heard(now);
+        let were = now.marks;
+        let are = after.marks;
+        next = lay_bit(out, next, k as u64 + 1, carrier, were, are);
+        now = after;
+    }
+    let priorities = now.priorities;
+    let phase = now.phase;
+    lay_winner(out, next, priorities, phase)
+}
+
+// What is shown of a bit count and the priorities of so many contenders, from a place on.
+pub fn lay_shown(
+    out: &mut [u8],
+    at: usize,
+    bits: u32,
+    count: usize,
+    priorities: [Priority; CONTENDERS],
+) -> usize
+    ensures { λ r. ⌜ Lays (now (out .entry)) at (shownOf bits count priorities) r (now (out .exit)) ⌝ }
+{
+    let begun = start(bits, count, priorities);
+    let answer = begun.answer;
+    match answer {
+        Answer::Done => lay_played(out, at, begun.tournament),
+        Answer::Refused(no) => lay_refusal(out, at, no),
+    }
+}
+
+// The same, at the start of the buffer, whole or not at all.
+pub fn show(bits: u32, count: usize, priorities: [Priority; CONTENDERS], out: &mut [u8]) -> Put
+    ensures { λ r. ⌜ Puts (now (out .entry)) 0 (shownOf bits count priorities) r (now (out .exit)) ⌝ }
+{
+    let size = out.len();
+    let bytes = lay_shown(out, size, bits, count, priorities) - size;
+    if size < bytes {
+        return Put::Full;
+    }
+    Put::At(lay_shown(out, 0, bits, count, priorities))
+}
