@@ -47,7 +47,7 @@ unfolding digits
 digits-more n h = of-more n n h ∙ ap (λ t. t ++ (digit (n % 10) ∷ [])) (of-same n (suc (n / 10)) (n / 10) (omega arith) (omega arith))
 
 -- ---- the value read back
-value-snoc : (n : ℕ) (bs : List ℕ) (b : ℕ) → valueFrom n (bs ++ (b ∷ [])) ≡ valueFrom n bs * 10 + (b - digit 0)
+pub value-snoc : (n : ℕ) (bs : List ℕ) (b : ℕ) → valueFrom n (bs ++ (b ∷ [])) ≡ valueFrom n bs * 10 + (b - digit 0)
 unfolding valueFrom
 value-snoc n [] b = refl
 value-snoc n (c ∷ bs) b = value-snoc (n * 10 + (c - digit 0)) bs b

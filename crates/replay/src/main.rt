@@ -1,47 +1,90 @@
 // Shows tournaments to a person: a line for each bit, and the winner in the last line.
 //
 // Called as `replay BITS PRIORITY..`. With no arguments it reads the same numbers from standard input, where a
-// blank line parts two tournaments. What is shown comes from the crate tournament, whose answers are proved;
-// that the text says it well is seen by running. This program must not know the rule of the tournament.
-// How many bytes of standard input are read.
+// blank line parts two tournaments. Which bytes are shown of a text, and where a tournament's text ends, is said and proved in
+// replay_words; this program reads, calls and prints.
+use console::print;
+use console::print_first;
+use replay_screen::SHOWN;
+use replay_words::first_end;
+use replay_words::has_word;
+use replay_words::replay;
+use text::Put;
+use text::lay_text;
+
+// How many bytes are read.
 const INPUT: usize = 65536;
 
-mod read;
-mod show;
+// The longest argument that is looked at; a number has ten digits.
+const WORD: usize = 64;
 
-use read::Reader;
-
-// An argument that is empty, or longer than any number, is read as no number.
-fn argument(r: Reader, i: usize) -> Reader {
-    let mut text = [0u8; 64];
-    let n = os::arg(i, &mut text);
-    let next = if n == 0 {
-        read::byte(r, b'?')
-    } else {
-        read::bytes(r, &text[..n])
-    };
-    read::byte(next, b' ')
+fn show(text: &[u8]) {
+    let mut out = [0u8; SHOWN];
+    if let Put::At(n) = replay(text, &mut out) {
+        print_first(&out, n);
+    }
 }
 
-fn arguments(count: usize) -> Reader {
-    let mut r = read::nothing();
-    for i in 1..count {
-        r = argument(r, i);
+fn blank_line() {
+    print(b"\n");
+}
+
+// Each tournament of a text, parted by a blank line.
+fn show_all(text: &[u8]) {
+    let mut at = first_end(text);
+    show(&text[..at]);
+    while has_word(&text[at..]) {
+        blank_line();
+        let end = at + first_end(&text[at..]);
+        show(&text[at..end]);
+        at = end;
     }
-    r
+}
+
+// An argument that is empty, or longer than any number, is no number.
+fn lay_word(out: &mut [u8], at: usize, word: &[u8]) -> usize {
+    if word.len() == 0 {
+        return lay_text(out, at, b"?");
+    }
+    lay_text(out, at, word)
+}
+
+fn lay_argument(out: &mut [u8], at: usize, i: usize) -> usize {
+    let mut word = [0u8; WORD];
+    let n = os::arg(i, &mut word);
+    let at = lay_word(out, at, &word[..n]);
+    lay_text(out, at, b" ")
+}
+
+// The arguments as one text.
+fn lay_arguments(out: &mut [u8], count: usize) -> usize {
+    let mut at: usize = 0;
+    for i in 1..count {
+        at = lay_argument(out, at, i);
+    }
+    at
+}
+
+fn too_long() {
+    print(b"the input is longer than 65535 bytes\n");
 }
 
 fn main() {
+    let mut text = io::large_buffer();
     let count = os::arg_count();
     if 1 < count {
-        show::tournament(arguments(count));
+        let n = lay_arguments(&mut text, count);
+        if n < INPUT {
+            show(&text[..n]);
+        } else {
+            too_long();
+        }
     } else {
-        let mut text = io::large_buffer();
         let n = io::read_full(libc::STDIN_FILENO, &mut text);
         if n < INPUT {
-            show::tournaments(&text[..n]);
+            show_all(&text[..n]);
         } else {
-            show::line(b"the input is longer than 65535 bytes");
+            too_long();
         }
     }
 }

@@ -28,6 +28,9 @@ use tournament_state::Answer;
 use tournament_state::Phase;
 use tournament_state::Tournament;
 
+// No replay has more bytes (specs/Claims.antt works it out), so a buffer of this length is never too small.
+pub const SHOWN: usize = 27270;
+
 fn either(a: bool, b: bool) -> bool
     ensures { λ r. ⌜ r ≡ a || b ⌝ }
 {

@@ -1,23 +1,22 @@
 -- Each turn is one argument nearer the last. Assumes nothing.
+use mathlib.Core.Path.{_≡_}
 use Prim.Native.Nat.{_-_}
+use lib.ListN.{length}
 use borrow.Author.Needs.{needs}
-use Rattle.replay.proofs.arguments.Statement.{statement}
-use Rattle.replay.proofs.arguments.Tie as tie
+use Rattle.replay.proofs.lay_arguments.Statement.{statement}
+use Rattle.replay.proofs.lay_arguments.Tie as tie
 
 abbrev Inv-loop : tie.InvT-loop
-Inv-loop count r₀ i₀ r i = Unit {0}
+Inv-loop out₀ count at₀ i₀ out at i = length out ≡ length out₀
 
 abbrev μ-loop : tie.MeasureT-loop
-μ-loop count r₀ i₀ r i = count - i
-
-nothing-requires : tie.Need-nothing-requires Inv-loop μ-loop
-nothing-requires c κs = search needs
+μ-loop out₀ count at₀ i₀ out at i = count - i
 
 loop-holds : tie.Need-loop-holds Inv-loop μ-loop
 loop-holds c = search needs
 
-argument-requires : tie.Need-argument-requires Inv-loop μ-loop
-argument-requires c κs = search needs
+lay-argument-requires : tie.Need-lay-argument-requires Inv-loop μ-loop
+lay-argument-requires c κs = search needs
 
 add-i : tie.Need-add-i Inv-loop μ-loop
 add-i c = search needs
@@ -28,19 +27,22 @@ loop-less c = search needs
 loop-again : tie.Need-loop-again Inv-loop μ-loop
 loop-again c = search needs
 
+same-length : tie.Need-same-length Inv-loop μ-loop
+same-length c = search needs
+
 returns : tie.Need-returns Inv-loop μ-loop
 returns c = search needs
 
-pub arguments-spec : {M : Type 1} → statement M
-arguments-spec =
+pub lay-arguments-spec : {M : Type 1} → statement M
+lay-arguments-spec =
     tie.close
     (tie.spec
     Inv-loop
     μ-loop
-    nothing-requires
     loop-holds
-    argument-requires
+    lay-argument-requires
     add-i
     loop-less
     loop-again
+    same-length
     returns)

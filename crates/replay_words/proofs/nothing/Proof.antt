@@ -1,0 +1,16 @@
+-- No word is read, and none has begun. Assumes nothing.
+use mathlib.Core.Path.{refl}
+use Rattle.laws.specs.Lists.{placed}
+use Rattle.decimal.specs.Decimal.{valueFrom}
+use Rattle.replay_words.specs.Words.{allDigits, isNumber, numberOf, wrongFrom, placesOf}
+use Rattle.replay_words.specs.Private.{soFar, readOf}
+use borrow.Author.Needs.{needs}
+use Rattle.replay_words.proofs.nothing.Statement.{statement}
+use Rattle.replay_words.proofs.nothing.Tie as tie
+
+returns : tie.Need-returns
+unfolding readOf placesOf placed numberOf wrongFrom soFar isNumber allDigits valueFrom
+returns c = refl
+
+pub nothing-spec : {M : Type 1} → statement M
+nothing-spec = tie.close (tie.spec returns)
