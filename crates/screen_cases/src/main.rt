@@ -1,0 +1,94 @@
+// The planner's screen as other languages call it, on three streams of this program's own, a line for each call: what is lent, what comes
+// back and, after a bar, what all the lent words end with. Lent words are 7 before the call.
+//
+// The answers are proved in the crate outside; here they are run and compared. This program must not know any rule. Lending a list of
+// records is proved by hand, in one function.
+use console::print;
+use names::Label;
+use names::Priority;
+use outside::Said;
+use outside::livnakesh_screen;
+use plan::Stream;
+use shown::answer;
+use shown::number;
+use shown::words;
+
+fn stream(
+    label: u32,
+    priority: u32,
+    period: u32,
+    jitter: u32,
+    payload: u32,
+    deadline: u32,
+) -> Stream {
+    Stream {
+        label: Label(label),
+        priority: Priority(priority),
+        period,
+        jitter,
+        payload,
+        deadline,
+    }
+}
+
+// Those of P1, but for the first one's payload and the second one's label and priority.
+fn streams(payload: u32, label: u32, priority: u32) -> [Stream; 3] {
+    let first = stream(655361, 1, 100, 0, payload, 60);
+    let second = stream(label, priority, 150, 10, 7, 120);
+    let third = stream(720898, 3, 400, 0, 2, 200);
+    [first, second, third]
+}
+
+fn screened(streams: [Stream; 3], timing: &[u32], gaps: &[u32], out: &mut [u64]) -> Said {
+    livnakesh_screen(&streams, timing, gaps, out)
+}
+
+fn screen(streams: [Stream; 3], timing: &[u32], gaps: &[u32], out: &mut [u64]) {
+    print(b"screen");
+    number(timing.len() as u64);
+    number(gaps.len() as u64);
+    let said = screened(streams, timing, gaps, out);
+    answer(said.refusal, said.value);
+    words(&out[..]);
+}
+
+// P1 with words to spare and with too few, and P2.
+fn answered() {
+    let p1 = streams(5, 655370, 2);
+    let timing = [4, 1, 1, 2, 1, 1, 2, 1, 4];
+    let gaps = [1000];
+    let mut long = [7; 8];
+    screen(p1, &timing, &gaps[..0], &mut long);
+    let mut short = [7; 5];
+    screen(p1, &timing, &gaps[..0], &mut short);
+    let mut enough = [7; 6];
+    screen(p1, &timing, &gaps, &mut enough);
+}
+
+// A timing without its last word, which is then 0, and one with a word more; nine gaps.
+fn lengths() {
+    let p1 = streams(5, 655370, 2);
+    let timing = [4, 1, 1, 2, 1, 1, 2, 1, 4, 9];
+    let gaps = [1000; 9];
+    let mut out = [7; 6];
+    screen(p1, &timing[..8], &gaps[..0], &mut out);
+    screen(p1, &timing, &gaps, &mut out);
+    screen(p1, &timing, &gaps[..0], &mut out);
+}
+
+// One stream that is wrong, in too few words, since 6 comes last.
+fn wrong(payload: u32, label: u32, priority: u32) {
+    let timing = [4, 1, 1, 2, 1, 1, 2, 1, 4];
+    let gaps = [1000];
+    let mut out = [7; 2];
+    screen(streams(payload, label, priority), &timing, &gaps, &mut out);
+}
+
+fn main() {
+    answered();
+    lengths();
+    wrong(0, 655370, 2);
+    wrong(5, 655370, 1);
+    wrong(5, 655361, 1);
+    wrong(5, 655361, 2);
+}
