@@ -1,4 +1,5 @@
 pub mod Words
+pub mod Reading
 pub mod Parts
 pub mod Size
 pub mod Unique

@@ -21,13 +21,17 @@ or-assoc : (a b c : Bool) → a || (b || c) ≡ a || b || c
 or-assoc true b c = refl
 or-assoc false b c = refl
 
-or-false : (a : Bool) → a || false ≡ a
+pub or-false : (a : Bool) → a ≡ a || false
 or-false true = refl
 or-false false = refl
 
+pub or-true : (a : Bool) → true ≡ a || true
+or-true true = refl
+or-true false = refl
+
 has-snoc : (text : List ℕ) (b : ℕ) → hasWord (text ++ (b ∷ [])) ≡ hasWord text || not (parts b)
 unfolding hasWord
-has-snoc [] b = or-false (not (parts b))
+has-snoc [] b = sym (or-false (not (parts b)))
 has-snoc (c ∷ text) b = ap (λ h. not (parts c) || h) (has-snoc text b) ∙ or-assoc (not (parts c)) (hasWord text) (not (parts b))
 
 ends-snoc : (n : ℕ) (text : List ℕ) (b : ℕ) → endsAfter n (text ++ (b ∷ [])) ≡ endsWith (endsAfter n text) b
@@ -51,11 +55,7 @@ pub has-at : (text : List ℕ) (i : ℕ) → i < length text → parts (getD tex
 unfolding hasWord
 has-at [] i h e = absurd (omega arith)
 has-at (b ∷ text) zero h e = rw e refl
-has-at (b ∷ text) (suc i) h e = ap (λ t. not (parts b) || t) (has-at text i (omega arith) e) ∙ or-true (not (parts b))
-  where
-    or-true : (a : Bool) → a || true ≡ true
-    or-true true = refl
-    or-true false = refl
+has-at (b ∷ text) (suc i) h e = ap (λ t. not (parts b) || t) (has-at text i (omega arith) e) ∙ sym (or-true (not (parts b)))
 
 -- a byte more adds one line end at most
 pub ends-few : (n b i : ℕ) → n ≤ i → endsWith n b ≤ i + 1

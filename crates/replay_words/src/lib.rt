@@ -21,7 +21,7 @@ use text::lay_text;
 
 // What is read of a text: so many words, the first as the bit count, the others as priorities, and the place of the first that
 // is no number, from 1 on, or 0. Then whether a word has begun, and its value; more than TICKS stands for no number.
-pub struct Reader {
+struct Reader {
     words: usize,
     bits: u32,
     priorities: [Priority; CONTENDERS],
@@ -230,19 +230,13 @@ fn ends_with(ends: usize, c: u8) -> usize
     ends
 }
 
-fn either(a: bool, b: bool) -> bool
-    ensures { λ r. ⌜ r ≡ a || b ⌝ }
-{
-    if a { true } else { b }
-}
-
-fn above_space(c: u8) -> bool
-    ensures { λ r. ⌜ r ≡ not (parts c) ⌝ }
+fn some_with(some: bool, c: u8) -> bool
+    ensures { λ r. ⌜ r ≡ some || not (parts c) ⌝ }
 {
     if b' ' < c {
         return true;
     }
-    false
+    some
 }
 
 fn is_over(some: bool, ends: usize) -> bool
@@ -266,7 +260,7 @@ pub fn first_end(text: &[u8]) -> usize
         }
         let c = text[i];
         ends = ends_with(ends, c);
-        some = either(some, above_space(c));
+        some = some_with(some, c);
     }
     text.len()
 }

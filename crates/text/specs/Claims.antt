@@ -1,15 +1,17 @@
--- What is proved of laying a text, in proofs/Laying.antt, and of the sizes of the listing and of a refusal's line, in proofs/Size.antt.
+-- What is proved of laying a text, in proofs/Laying.antt, of labels, in proofs/Labels.antt, and of the sizes of the listing and of a refusal's
+-- line, in proofs/Size.antt.
 use mathlib.Core.Path.{_≡_}
 use mathlib.Core.List.{List, _++_, map}
 use Prim.Native.Nat.{ℕ, _+_, _*_, _^_, _≤_, _<_, min}
 use lib.ListN.{length, getD}
 use Rattle.names.specs.Limits.{streams, ticks}
+use Rattle.names.specs.declared.Label.{Label}
 use Rattle.names.specs.declared.Refusal.{Refusal}
 use Rattle.bound.specs.declared.Answer.{Answer}
 use Rattle.plan.specs.declared.Stream.{Stream}
 use Rattle.plan.specs.Plan.{Plan, blank}
 use Rattle.text.specs.declared.Put.the-variants.{At}
-use Rattle.text.specs.Listing.{listingOf, refusedOf}
+use Rattle.text.specs.Listing.{labelText, listingOf, refusedOf}
 use Rattle.text.specs.Put.{lastPlace, laid, put}
 
 -- to lay a text and then another is to lay them as one text, in any buffer whose places can be counted, ..
@@ -21,6 +23,10 @@ LaidInTurn =
 -- .. and a text that fits is laid whole, as it would be put
 abbrev pub LaidWhole : Type 0
 LaidWhole = (buffer : List ℕ) (at : ℕ) (text : List ℕ) → at + length text ≤ length buffer → laid buffer at text ≡ put buffer at text .1
+
+-- no two labels have one text: 10.10 is not printed as 10.1 is
+abbrev pub LabelsApart : Type 0
+LabelsApart = (a b : Label) → labelText a ≡ labelText b → a ≡ b
 
 -- what is printed of a stream is a word of 32 bits
 pub record Printed (s : Stream) : Type 0 where

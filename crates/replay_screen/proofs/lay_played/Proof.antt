@@ -7,7 +7,7 @@ use Rattle.tournament_state.specs.declared.Tournament.{Tournament}
 use Rattle.tournament.specs.Rule.{steps}
 use Rattle.text.specs.Put.{Lays}
 use Rattle.text.proofs.Laying.{is, then, last, none, same}
-use Rattle.replay_screen.specs.Shown.{bitLines, winnerLine, playedOf}
+use Rattle.replay_screen.specs.Shown.{bitLine, bitLines, winnerLine, playedOf}
 use Rattle.replay_screen.proofs.Play.{bit-more}
 use borrow.Author.Needs.{needs}
 use Rattle.replay_screen.proofs.lay_played.Statement.{statement}
@@ -52,7 +52,7 @@ loop-again c =
     let l = s .before .before .loop in
     let a = s .before .before .before .before in
     let m = bit-more (a .args .t) (a .pre) (l .k) (l .now) _ _ (s .before .loop-test .taken) (l .inv .1) (h .heard .ensures) (ap (λ o. o .tournament) (s .step .ensures)) in
-    (omega arith, m .0, is (m .1) (then (l .inv .2) (last (b .lay-bit .ensures)) (omega arith)))
+    (omega arith, m .0, is (m .1) (then {t = bitLine (l .k + 1) (h .heard .result) (l .now .marks) (s .step .result .tournament .marks)} (l .inv .2) (last (b .lay-bit .ensures)) (omega arith)))
 
 lay-winner-requires : tie.Need-lay-winner-requires Inv-loop μ-loop
 lay-winner-requires c κs = search needs

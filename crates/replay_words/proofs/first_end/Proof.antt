@@ -49,11 +49,8 @@ shared-slice-read-c c = search needs
 ends-with-requires : tie.Need-ends-with-requires Inv-loop μ-loop
 ends-with-requires c κs = omega (arith, c .before .before .before .before .loop .inv .5)
 
-above-space-requires : tie.Need-above-space-requires Inv-loop μ-loop
-above-space-requires c κs = search needs
-
-either-requires : tie.Need-either-requires Inv-loop μ-loop
-either-requires c κs = search needs
+some-with-requires : tie.Need-some-with-requires Inv-loop μ-loop
+some-with-requires c κs = search needs
 
 add-i : tie.Need-add-i Inv-loop μ-loop
 add-i c = search needs
@@ -63,15 +60,15 @@ loop-less c = search needs
 
 loop-again : tie.Need-loop-again Inv-loop μ-loop
 loop-again c =
-    let o = c .before .before .before .before .before in
+    let o = c .before .before .before .before in
     let l = o .before .before .loop in
     let text = o .before .before .before .before .args .text .now in
-    let w = c .before .before .ends-with .ensures in (
+    let w = c .before .ends-with .ensures in (
       omega arith,
       l .inv .1,
-      none-more (overAt text) (l .i) (l .inv .2) (is-over-at text (l .i) (l .inv .3) (l .inv .4) (o .is-over .ensures) ∙ c .before .before .before .before .if1 .left),
+      none-more (overAt text) (l .i) (l .inv .2) (is-over-at text (l .i) (l .inv .3) (l .inv .4) (o .is-over .ensures) ∙ c .before .before .before .if1 .left),
       w ∙ ap (λ n. endsWith n (getD text (l .i) 0)) (l .inv .3) ∙ ends-more text (l .i) (omega arith),
-      c .either .ensures ∙ rw (l .inv .4, c .before .above-space .ensures) (has-more text (l .i) (omega arith)),
+      c .some-with .ensures ∙ rw (l .inv .4) (has-more text (l .i) (omega arith)),
       rw w (ends-few (l .ends) (getD text (l .i) 0) (l .i) (l .inv .5)),
     )
 
@@ -93,8 +90,7 @@ first-end-spec =
     returns
     shared-slice-read-c
     ends-with-requires
-    above-space-requires
-    either-requires
+    some-with-requires
     add-i
     loop-less
     loop-again
