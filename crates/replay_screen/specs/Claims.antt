@@ -1,4 +1,5 @@
--- What is proved of a replay: its last line names the smallest priority, in proofs/Winner.antt, and how long it is at most, in proofs/Size.antt.
+-- What is proved of a replay: that its last line names the smallest priority, in proofs/Winner.antt, and how long it is at most, in
+-- proofs/Size.antt.
 use mathlib.Core.Path.{_≡_}
 use mathlib.Core.List.{List, _++_}
 use Prim.Native.Nat.{ℕ, _+_, _*_, _≤_}
@@ -21,7 +22,8 @@ use Rattle.replay_screen.specs.Shown.{spaced, bitLines, winsLine, shownO
 abbrev pub SmallestShown : Type 0
 SmallestShown =
     (NB n : ℕ) (places : List Priority) → length places ≡ contenders → startOf NB n places .answer ≡ Done
-    → (w : ℕ) × Smallest n places w × (shownOf NB n places ≡ bitLines (begunOf NB n places) NB ++ winsLine (record { 0 = w }) (getD places w none))
+    → (w : ℕ) × Smallest n places w
+    × (shownOf NB n places ≡ bitLines (begunOf NB n places) NB ++ winsLine (record { 0 = w }) (getD places w none))
 
 -- every row after its space
 abbrev pub mostRows : ℕ

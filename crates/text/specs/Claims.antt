@@ -1,5 +1,5 @@
--- What is proved of laying a text, in proofs/Laying.antt, of labels, in proofs/Labels.antt, and of the sizes of the listing and of a refusal's
--- line, in proofs/Size.antt.
+-- What is proved of laying a text, in proofs/Laying.antt, of labels, in proofs/Labels.antt, and of the sizes of the listing and of
+-- a refusal's line, in proofs/Size.antt.
 use mathlib.Core.Path.{_≡_}
 use mathlib.Core.List.{List, _++_, map}
 use Prim.Native.Nat.{ℕ, _+_, _*_, _^_, _≤_, _<_, min}
