@@ -7,3 +7,4 @@ pub mod Writing
 pub mod RoundTrip
 pub mod Numbers
 pub mod Unique
+pub mod Exactly

@@ -1,6 +1,6 @@
 -- What the contents say, answer by answer; what reading gives then; what a fine answer says; a plan has one sheet. Assumes nothing.
 use mathlib.Core.Path.{_≡_, refl, sym, ap, ap₂, _∙_}
-use mathlib.Core.Bool.{Bool, true, false, true≢false}
+use mathlib.Core.Bool.{Bool, true, false, true≢false, _&&_}
 use mathlib.Core.List.{List, [], _∷_, _++_}
 use Prim.Native.Nat.{ℕ, _+_, _-_, _≤_}
 use native.Mathlib.Decide.{decLe}
@@ -23,7 +23,7 @@ use Rattle.laws.proofs.Tests.{both}
 use Rattle.checks.specs.declared.Checked.{Checked}
 use Rattle.checks.specs.declared.Checked.the-variants.{Fine, Refused}
 use Rattle.checks.specs.Checks.{Line, judge, unless, counted, lines, checkedOf}
-use Rattle.checks.proofs.Judge.{given, passed, nothing-given, not-given, fine-then, refused-then, too-many, too-noisy, line-2}
+use Rattle.checks.proofs.Judge.{given, passed, nothing-given, not-given, fine-then, refused-then, too-few, too-many, too-noisy, line-2}
 use Rattle.checks.proofs.Fine.{unless-not}
 use Rattle.file.specs.declared.Counts.{Counts}
 use Rattle.file.specs.declared.Counts.the-variants.{Of, Refused as Counts·Refused}
@@ -121,18 +121,22 @@ judge-on l ks ls e = go (l .place) refl
     go Nothing d = passed l ks d ∙ e ∙ sym (passed l ls d)
 
 module _ (n m : ℕ) where
-  pub in-range : n ≤ streams → m ≤ sources → rangesRight n m ≡ true
-  in-range h k = simp (le-leb n streams h, le-leb m sources k)
+  pub in-range : 1 ≤ n → n ≤ streams → m ≤ sources → rangesRight n m ≡ true
+  in-range g h k = simp (le-leb 1 n g, le-leb n streams h, le-leb m sources k)
 
   out-of-range : (p : Plan) → rangesRight n m ≡ false → counted n m p ≡ false
   out-of-range p e =
-      elim (decLe n streams) [
-        | yes h ↦
-            elim (decLe m sources) [
-              | yes k ↦ absurd (true≢false (sym (in-range h k) ∙ e))
-              | no k ↦ too-noisy n m p (lt-of-not-le k)
+      elim (decLe 1 n) [
+        | yes g ↦
+            elim (decLe n streams) [
+              | yes h ↦
+                  elim (decLe m sources) [
+                    | yes k ↦ absurd (true≢false (sym (in-range g h k) ∙ e))
+                    | no k ↦ too-noisy n m p (lt-of-not-le k)
+                  ]
+              | no h ↦ too-many n m p (lt-of-not-le h)
             ]
-        | no h ↦ too-many n m p (lt-of-not-le h)
+        | no g ↦ too-few n m p (lt-of-not-le g)
       ]
 
   -- the ranges are a part of the values' first line, with the same answer
@@ -148,7 +152,7 @@ module _ (n m : ℕ) where
   first-then : (bs : List ℕ) → judge (linesIn n m bs) ≡ judge (linesFirst n m bs ++ lines n m (planAt n m bs))
   first-then bs = judge-on _ _ _ (judge-on _ _ _ (sym (ranges-too (planAt n m bs))))
 
-  as-refused : (c : Checked) (r : Refusal) → countsAs c n m ≡ Counts·Refused r → c ≡ Refused r
+  pub as-refused : (c : Checked) (r : Refusal) → countsAs c n m ≡ Counts·Refused r → c ≡ Refused r
   as-refused Fine r e = absurd (let z : _≡_ {A = ℕ} 0 1 = cc in omega arith)
   as-refused (Refused q) r e = cc
 
@@ -182,13 +186,18 @@ module _ (bs : List ℕ) (n m : ℕ) (e : countsOf bs ≡ Of n m) where
       ap₂ (λ x y. readAs (judge (linesIn x y bs)) (planAt x y bs)) p q
       ∙ ap (λ c. readAs c (planAt n m bs)) (first-then n m bs ∙ fine-then (linesFirst n m bs) _ j)
 
-  -- there are no more than a plan may have, ..
-  pub counts-few : (n ≤ streams) × (m ≤ sources)
-  counts-few =
+  -- there are as many streams and gaps as a plan may have, ..
+  pub counts-right : ((1 ≤ n) × (n ≤ streams)) × (m ≤ sources)
+  counts-right =
       let (p, q, j) = first-fine in
       let (three, _) = not-given _ _ (not-given _ _ (not-given _ _ j .1) .1) in
-      let (a, b) = both (leb n streams) (leb m sources) (unless-not (rangesRight n m) three) in
-      (leb-true n streams a, leb-true m sources b)
+      let (ab, c) = both (leb 1 n && leb n streams) (leb m sources) (unless-not (rangesRight n m) three) in
+      let (a, b) = both (leb 1 n) (leb n streams) ab in
+      ((leb-true 1 n a, leb-true n streams b), leb-true m sources c)
+
+  -- .. so no more than there are places for, ..
+  pub counts-few : (n ≤ streams) × (m ≤ sources)
+  counts-few = (counts-right .0 .1, counts-right .1)
 
   -- .. and the file ends where they say
   pub counts-size : length bs ≡ layout.size n m

@@ -1,19 +1,23 @@
--- What is proved of the plan file: one plan, one file (proofs/RoundTrip.antt), and document 01's numbers (proofs/Numbers.antt).
+-- What is proved of the plan file: one plan, one file (proofs/RoundTrip.antt), when its contents alone refuse it (proofs/Exactly.antt), and
+-- document 01's numbers (proofs/Numbers.antt).
 use mathlib.Core.Path.{_≡_}
 use mathlib.Core.List.{List, [], _∷_, _++_}
+use mathlib.Core.Logic.{_↔_}
 use Prim.Native.Nat.{ℕ, _+_, _*_, _^_, _≤_, _<_}
 use lib.ListN.{length, getD, take, drop}
 use Rattle.names.specs.Limits.{streams, sources}
+use Rattle.names.specs.declared.Refusal.{Refusal}
 use Rattle.words.specs.Words.{Below}
 use Rattle.plan.specs.declared.Sheet.{Sheet}
 use Rattle.plan.specs.Plan.{Plan, planOf}
 use Rattle.fields.specs.Layout as layout
 use Rattle.fields.specs.Fields.{fields}
 use Rattle.fields.specs.Claims.{fieldAt}
-use Rattle.checks.specs.declared.Checked.the-variants.{Fine}
+use Rattle.checks.specs.declared.Checked.the-variants.{Fine, Refused as Checked·Refused}
 use Rattle.checks.specs.Checks.{judge, lines}
+use Rattle.file.specs.declared.Counts.the-variants.{Refused as Counts·Refused}
 use Rattle.file.specs.declared.Written.the-variants.{Bytes}
-use Rattle.file.specs.File.{contents, words, fileOf, sheetOf, readAs, readOf, writeOf}
+use Rattle.file.specs.File.{contents, words, fileOf, countsOf, sheetOf, readAs, readOf, writeOf}
 
 -- the file of any plan of at most 64 streams and 8 gaps, whose words fit 32 bits, is answered as the plan's values are, with the same place
 abbrev pub ReadsAsItsValues : Type 0
@@ -32,6 +36,11 @@ abbrev pub WritesWhatWasRead : Type 0
 WritesWhatWasRead =
     (bs buf : List ℕ) → Below 256 bs → readOf bs .answer ≡ Fine → length bs ≤ length buf
     → writeOf (readOf bs .sheet) buf ≡ (Bytes (length bs), bs ++ drop (length bs) buf)
+
+-- the contents are refused exactly where the file is refused 1 or 2, and then as the file is
+abbrev pub ContentsRefused : Type 0
+ContentsRefused =
+    (bs : List ℕ) (r : Refusal) → (countsOf bs ≡ Counts·Refused r) ↔ ((readOf bs .answer ≡ Checked·Refused r) × (r .number ≤ 2))
 
 -- a plan has one sheet: the plan on it is that plan, and what was read is such a sheet
 abbrev pub OneSheet : Type 0

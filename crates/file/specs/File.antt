@@ -78,9 +78,9 @@ linesIn n m bs =
     ∷ record { number = 2; place = unless (contentsRight n m bs) }
     ∷ lines n m (planIn n m (wordsOf bs))
 
--- also 2: there are more than 64 streams or 8 gaps
+-- also 2: n or m is outside its range, 1 to 64 streams and 0 to 8 gaps
 abbrev pub rangesRight : ℕ → ℕ → Bool
-rangesRight n m = leb n streams && leb m sources
+rangesRight n m = leb 1 n && leb n streams && leb m sources
 
 -- the lines of the contents alone, before any value is read
 abbrev pub linesFirst : ℕ → ℕ → List ℕ → List Line

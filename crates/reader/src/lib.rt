@@ -168,6 +168,9 @@ pub fn counts(bytes: &[u8]) -> Counts
     }
     let n = word_at(bytes, STREAMS_LENGTH) as usize / (WORD * STREAM);
     let m = word_at(bytes, NOISE_LENGTH) as usize / WORD;
+    if n < 1 {
+        return refused_counts(2);
+    }
     if STREAMS < n {
         return refused_counts(2);
     }

@@ -28,8 +28,11 @@ module _ (bs : List ℕ) where
   right-size h k = simp (le-leb (layout.word * layout.contents) (length bs) h, le-leb (length bs) (layout.size streams sources) k)
 
   module _ (n m : ℕ) where
+    too-few : n < 1 → rangesRight n m ≡ false
+    too-few h = simp (lt-leb 1 n h)
+
     too-many : streams < n → rangesRight n m ≡ false
-    too-many h = simp (lt-leb n streams h)
+    too-many h = simp (lt-leb n streams h, and-false)
 
     too-noisy : sources < m → rangesRight n m ≡ false
     too-noisy h = simp (lt-leb m sources h, and-false)
@@ -71,11 +74,11 @@ contents-refused : (w : tie.After-word-at2) → contentsRight (n-at w) (m-at w) 
 contents-refused w = said-contents (bs-at w) (n-at w) (m-at w) (n-is w) (m-is w) (one (w .before .before))
 
 -- the contents are those of its n and m, and it ends where they say
-two : (c : tie.Else6) → let w = c .before .before .before .before .before .before in contentsRight (n-at w) (m-at w) (bs-at w) ≡ true
+two : (c : tie.Else7) → let w = c .before .before .before .before .before .before .before in contentsRight (n-at w) (m-at w) (bs-at w) ≡ true
 two c =
     let k = c .before .before .before in
-    let w = k .before .before .before in
-    right-contents (bs-at w) (n-at w) (m-at w) (sym (k .contents-in .ensures) ∙ not-false (k .contents-in .result) (c .before .before .if5 .left)) (c .if6 .left ∙ c .before .size2 .ensures)
+    let w = k .before .before .before .before in
+    right-contents (bs-at w) (n-at w) (m-at w) (sym (k .contents-in .ensures) ∙ not-false (k .contents-in .result) (c .before .before .if6 .left)) (c .if7 .left ∙ c .before .size2 .ensures)
 
 mul-if1 : tie.Need-mul-if1
 mul-if1 c = search needs
@@ -129,7 +132,7 @@ refused-counts-requires-3 c κs = search needs
 returns-3 : tie.Need-returns-3
 returns-3 c =
     let w = c .before .before in
-    c .refused-counts3 .ensures ∙ sym (ranges-refused w (too-many (bs-at w) (n-at w) (m-at w) (c .before .if3 .taken)))
+    c .refused-counts3 .ensures ∙ sym (ranges-refused w (too-few (bs-at w) (n-at w) (m-at w) (omega arith)))
 
 refused-counts-requires-4 : tie.Need-refused-counts-requires-4
 refused-counts-requires-4 c κs = search needs
@@ -137,20 +140,28 @@ refused-counts-requires-4 c κs = search needs
 returns-4 : tie.Need-returns-4
 returns-4 c =
     let w = c .before .before .before in
-    c .refused-counts4 .ensures ∙ sym (ranges-refused w (too-noisy (bs-at w) (n-at w) (m-at w) (c .before .if4 .taken)))
-
-contents-in-requires : tie.Need-contents-in-requires
-contents-in-requires c κs = search needs
+    c .refused-counts4 .ensures ∙ sym (ranges-refused w (too-many (bs-at w) (n-at w) (m-at w) (omega arith)))
 
 refused-counts-requires-5 : tie.Need-refused-counts-requires-5
 refused-counts-requires-5 c κs = search needs
 
 returns-5 : tie.Need-returns-5
 returns-5 c =
+    let w = c .before .before .before .before in
+    c .refused-counts5 .ensures ∙ sym (ranges-refused w (too-noisy (bs-at w) (n-at w) (m-at w) (omega arith)))
+
+contents-in-requires : tie.Need-contents-in-requires
+contents-in-requires c κs = search needs
+
+refused-counts-requires-6 : tie.Need-refused-counts-requires-6
+refused-counts-requires-6 c κs = search needs
+
+returns-6 : tie.Need-returns-6
+returns-6 c =
     let k = c .before .before in
-    let w = k .before .before .before in
-    let differ = sym (k .contents-in .ensures) ∙ not-true (k .contents-in .result) (c .before .if5 .taken) in
-    c .refused-counts5 .ensures ∙ sym (contents-refused w (wrong-words (bs-at w) (n-at w) (m-at w) differ))
+    let w = k .before .before .before .before in
+    let differ = sym (k .contents-in .ensures) ∙ not-true (k .contents-in .result) (c .before .if6 .taken) in
+    c .refused-counts6 .ensures ∙ sym (contents-refused w (wrong-words (bs-at w) (n-at w) (m-at w) differ))
 
 cast-size-3 : tie.Need-cast-size-3
 cast-size-3 c = search needs
@@ -161,20 +172,20 @@ cast-size-4 c = search needs
 size-requires-2 : tie.Need-size-requires-2
 size-requires-2 c κs = search needs
 
-refused-counts-requires-6 : tie.Need-refused-counts-requires-6
-refused-counts-requires-6 c κs = search needs
-
-returns-6 : tie.Need-returns-6
-returns-6 c =
-    let z = c .before .before in
-    let w = z .before .before .before .before .before in
-    c .refused-counts6 .ensures
-    ∙ sym (contents-refused w (wrong-end (bs-at w) (n-at w) (m-at w) (λ q. c .before .if6 .taken (q ∙ sym (z .size2 .ensures)))))
+refused-counts-requires-7 : tie.Need-refused-counts-requires-7
+refused-counts-requires-7 c κs = search needs
 
 returns-7 : tie.Need-returns-7
 returns-7 c =
-    let w = c .before .before .before .before .before .before in
-    sym (said-counts (bs-at w) (n-at w) (m-at w) (n-is w) (m-is w) (one (w .before .before)) (two c) (in-range (n-at w) (m-at w) (omega arith) (omega arith)))
+    let z = c .before .before in
+    let w = z .before .before .before .before .before .before in
+    c .refused-counts7 .ensures
+    ∙ sym (contents-refused w (wrong-end (bs-at w) (n-at w) (m-at w) (λ q. c .before .if7 .taken (q ∙ sym (z .size2 .ensures)))))
+
+returns-8 : tie.Need-returns-8
+returns-8 c =
+    let w = c .before .before .before .before .before .before .before in
+    sym (said-counts (bs-at w) (n-at w) (m-at w) (n-is w) (m-is w) (one (w .before .before)) (two c) (in-range (n-at w) (m-at w) (omega arith) (omega arith) (omega arith)))
 
 pub counts-spec : {M : Type 1} → statement M
 counts-spec =
@@ -198,12 +209,14 @@ counts-spec =
     returns-3
     refused-counts-requires-4
     returns-4
-    contents-in-requires
     refused-counts-requires-5
     returns-5
+    contents-in-requires
+    refused-counts-requires-6
+    returns-6
     cast-size-3
     cast-size-4
     size-requires-2
-    refused-counts-requires-6
-    returns-6
-    returns-7)
+    refused-counts-requires-7
+    returns-7
+    returns-8)
