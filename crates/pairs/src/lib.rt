@@ -1,0 +1,85 @@
+// Two names a line of a text: what programs that are given pairs of files share.
+//
+// The one public function answers for every text and every place. It hands back where the names stand, so no name is copied and
+// none is cut; a line that is not two names is said to be wrong, and no line is passed over. Nothing is assumed. This crate
+// must not know of files.
+ghost use mathlib.Core.Path.{_≡_};
+ghost use Prim.Native.Nat.{_+_, _≤_};
+ghost use lib.ListN.{length, drop};
+ghost use Rattle.pairs.specs.Pairs.{before, lineAs, lineOf};
+
+// The bytes of a text from a place up to another.
+pub struct Part {
+    pub from: usize,
+    pub to: usize,
+}
+
+// What a line is: two names, or not two names, each with the place where the next line starts; or the text is over.
+pub enum Line {
+    Names(Part, Part, usize),
+    Wrong(usize),
+    Over,
+}
+
+// The place of the first such byte from a place on, or the text's end.
+fn place_of(text: &[u8], from: usize, byte: u8) -> usize
+    requires { ⌜ from ≤ length (now text) ⌝ }
+    ensures { λ r. ⌜ r ≡ from + length (before byte (drop from (now (text .entry)))) ⌝ }
+    ensures { λ r. ⌜ r ≤ length (now (text .entry)) ⌝ }
+{
+    let mut i = from;
+    while i < text.len() {
+        if text[i] == byte {
+            return i;
+        }
+        i += 1;
+    }
+    i
+}
+
+// What the line is that starts at a place of a text and ends where the text does.
+fn names_in(text: &[u8], at: usize, next: usize) -> Line
+    requires { ⌜ at ≤ length (now text) ⌝ }
+    ensures { λ r. ⌜ r ≡ lineAs (drop at (now (text .entry))) at next ⌝ }
+{
+    let end = text.len();
+    let space = place_of(text, at, b' ');
+    if space == at {
+        return Line::Wrong(next);
+    }
+    if space == end {
+        return Line::Wrong(next);
+    }
+    let second = space + 1;
+    if second == end {
+        return Line::Wrong(next);
+    }
+    if place_of(text, second, b' ') < end {
+        return Line::Wrong(next);
+    }
+    Line::Names(
+        Part {
+            from: at,
+            to: space,
+        },
+        Part {
+            from: second,
+            to: end,
+        },
+        next,
+    )
+}
+
+// The line that starts at a place of a text.
+pub fn line_at(text: &[u8], at: usize) -> Line
+    ensures { λ r. ⌜ r ≡ lineOf (now (text .entry)) at ⌝ }
+{
+    if text.len() <= at {
+        return Line::Over;
+    }
+    let end = place_of(text, at, b'\n');
+    if end < text.len() {
+        return names_in(&text[..end], at, end + 1);
+    }
+    names_in(text, at, end)
+}
