@@ -1,4 +1,5 @@
--- The functions return nothing and lend nothing to be changed, so any two outcomes are equal. Assumes nothing.
+-- The functions that print return nothing and lend nothing to be changed, so any two outcomes are equal. What `read` gives is the system's to say.
+-- Assumes nothing.
 use mathlib.Core.Path.{refl}
 use Rattle.laws.specs.Determined.{OneOutcome}
 use Rattle.console.proofs.print.Kinds as print-kinds
@@ -9,6 +10,8 @@ use Rattle.console.proofs.print_number.Kinds as print-number-kinds
 use Rattle.console.proofs.print_number.Reads as print-number
 use Rattle.console.proofs.print_refusal.Kinds as print-refusal-kinds
 use Rattle.console.proofs.print_refusal.Reads as print-refusal
+use Rattle.console.proofs.print_unreadable.Kinds as print-unreadable-kinds
+use Rattle.console.proofs.print_unreadable.Reads as print-unreadable
 
 pub print-one : OneOutcome 1 print-kinds.ps print-kinds.r print.Post
 print-one κs a x y ws us p q = (refl, refl)
@@ -21,3 +24,6 @@ print-number-one κs a x y ws us p q = (refl, refl)
 
 pub print-refusal-one : OneOutcome 0 print-refusal-kinds.ps print-refusal-kinds.r print-refusal.Post
 print-refusal-one κs a x y ws us p q = (refl, refl)
+
+pub print-unreadable-one : OneOutcome 2 print-unreadable-kinds.ps print-unreadable-kinds.r print-unreadable.Post
+print-unreadable-one κs a x y ws us p q = (refl, refl)

@@ -1,3 +1,4 @@
 pub mod Shown
+pub mod Again
 pub mod Unique
 pub mod Fits

@@ -1,10 +1,20 @@
--- The public contract determines its outcome, lent memory included.
+-- Each public contract determines its outcome, lent memory included. Assumes nothing.
 use mathlib.Core.Path.{_∙_, sym, ap}
 use mathlib.Core.List.{List}
 use Prim.Native.Nat.{ℕ}
 use Rattle.laws.specs.Determined.{OneOutcome}
 use Rattle.desk.proofs.show.Kinds as show-kinds
 use Rattle.desk.proofs.show.Reads as show
+use Rattle.desk.proofs.show_refusal.Kinds as refusal-kinds
+use Rattle.desk.proofs.show_refusal.Reads as refusal
+use Rattle.desk.proofs.show_file.Kinds as file-kinds
+use Rattle.desk.proofs.show_file.Reads as file
 
 pub show-one : OneOutcome 2 show-kinds.ps show-kinds.r show.Post
 show-one κs a x y ws us p q = (p .0 ∙ sym (q .0), ap (λ (l : List ℕ). (tt, (l, tt))) (p .1 ∙ sym (q .1)))
+
+pub show-refusal-one : OneOutcome 2 refusal-kinds.ps refusal-kinds.r refusal.Post
+show-refusal-one κs a x y ws us p q = (p .0 ∙ sym (q .0), ap (λ (l : List ℕ). (tt, (l, tt))) (p .1 ∙ sym (q .1)))
+
+pub show-file-one : OneOutcome 2 file-kinds.ps file-kinds.r file.Post
+show-file-one κs a x y ws us p q = (p .0 ∙ sym (q .0), ap (λ (l : List ℕ). (tt, (l, tt))) (p .1 ∙ sym (q .1)))

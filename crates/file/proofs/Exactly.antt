@@ -17,9 +17,14 @@ use Rattle.checks.specs.Claims.{lineAt}
 use Rattle.checks.proofs.Judge.{passed, refused-by-the-first, right-counts}
 use Rattle.file.specs.declared.Counts.{Counts}
 use Rattle.file.specs.declared.Counts.the-variants.{Of, Refused as Counts·Refused}
-use Rattle.file.specs.File.{streamsIn, gapsIn, streamIn, planIn, linesFirst, countsAs, countsOf, readAs, readOf}
+use Rattle.file.specs.File.{streamsIn, gapsIn, streamIn, planIn, linesIn, linesFirst, countsOf, readAs, readOf}
 use Rattle.file.specs.Claims.{ContentsRefused}
 use Rattle.file.proofs.Reading.{as-refused, counts-refused, counts-are, counts-right}
+
+-- the answer to a reading is that to its lines
+answer-refused : (c : Checked) (p : Plan) (r : Refusal) → readAs c p .answer ≡ Refused r → c ≡ Refused r
+answer-refused Fine p r e = e
+answer-refused (Refused q) p r e = e
 
 -- a refusal has the number of one of its lines
 number-of : (P : ℕ → Type 0) (ls : List Line) (r : Refusal) → ((i : ℕ) → i < length ls → P (lineAt ls i .number)) → judge ls ≡ Refused r → P (r .number)
@@ -31,6 +36,23 @@ first-number n m bs (suc zero) h = omega arith
 first-number n m bs (suc (suc zero)) h = omega arith
 first-number n m bs (suc (suc (suc i))) h = absurd (omega arith)
 
+-- reading knows 1 to 5
+read-number : (n m : ℕ) (bs : List ℕ) (i : ℕ) → i < 6 → lineAt (linesIn n m bs) i .number ≤ 5
+read-number n m bs zero h = omega arith
+read-number n m bs (suc zero) h = omega arith
+read-number n m bs (suc (suc zero)) h = omega arith
+read-number n m bs (suc (suc (suc zero))) h = omega arith
+read-number n m bs (suc (suc (suc (suc zero)))) h = omega arith
+read-number n m bs (suc (suc (suc (suc (suc zero))))) h = omega arith
+read-number n m bs (suc (suc (suc (suc (suc (suc i)))))) h = absurd (omega arith)
+
+pub refused-number : (bs : List ℕ) (r : Refusal) → readOf bs .answer ≡ Refused r → r .number ≤ 5
+unfolding readOf
+refused-number bs r e =
+    let n = streamsIn (wordsOf bs) in
+    let m = gapsIn (wordsOf bs) in
+    number-of (λ k. k ≤ 5) (linesIn n m bs) r (read-number n m bs) (answer-refused (judge (linesIn n m bs)) (planIn n m (wordsOf bs)) r e)
+
 -- the lines of a plan's values after the first
 abbrev laterLines : ℕ → ℕ → Plan → List Line
 laterLines n m p = drop 1 (lines n m p)
@@ -40,10 +62,6 @@ later-number n m p zero h = omega arith
 later-number n m p (suc zero) h = omega arith
 later-number n m p (suc (suc zero)) h = omega arith
 later-number n m p (suc (suc (suc i))) h = absurd (omega arith)
-
-answer-refused : (c : Checked) (p : Plan) (r : Refusal) → readAs c p .answer ≡ Refused r → c ≡ Refused r
-answer-refused Fine p r e = e
-answer-refused (Refused q) p r e = e
 
 module _ (bs : List ℕ) (r : Refusal) where
   small : countsOf bs ≡ Counts·Refused r → r .number ≤ 2

@@ -133,7 +133,7 @@ reads-one-sheet bs e =
     q ∙ ap sheetOf (sym (one-sheet p)) ∙ ap (λ s. sheetOf (planOf s)) (sym q)
 
 -- the bytes of the plan that was read are the bytes that were read
-file-back : (bs : List ℕ) → Below 256 bs → (f : ReadFine bs) → fileOf (planIn (f .n) (f .m) (wordsOf bs)) ≡ bs
+pub file-back : (bs : List ℕ) → Below 256 bs → (f : ReadFine bs) → fileOf (planIn (f .n) (f .m) (wordsOf bs)) ≡ bs
 file-back bs small f =
     let k = layout.gapAt (f .n) (f .m) in
     let long : length (wordsOf bs) ≡ k = W.length-words bs ∙ omega (arith, f .size) in

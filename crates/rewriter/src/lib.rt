@@ -1,0 +1,26 @@
+// A plan file read and its plan written again, into lent bytes.
+//
+// The one public function answers for any bytes, and its contract fixes each byte of the lent ones. Nothing is assumed. This crate
+// joins the reader and the writer, which know nothing of each other; it makes no check of its own, and must not know of text.
+use fields::WORDS;
+use file::Counts;
+use file::Written;
+use reader::counts;
+use words::words_into;
+use writer::write_words;
+ghost use mathlib.Core.Path.{_≡_};
+ghost use Rattle.rewriter.specs.Rewriter.{rewriteOf};
+
+// The plan in a file, written into lent bytes. The words of the file are written as they stand, so no sheet is made of them.
+pub fn rewrite(file: &[u8], out: &mut [u8]) -> Written
+    ensures { λ r. ⌜ (r ≡ rewriteOf (now (file .entry)) (now (out .entry)) .0) × (now (out .exit) ≡ rewriteOf (now (file .entry)) (now (out .entry)) .1) ⌝ }
+{
+    match counts(file) {
+        Counts::Refused(r) => Written::Refused(r),
+        Counts::Of(n, m) => {
+            let mut words = [0; WORDS];
+            words_into(file, &mut words);
+            write_words(&words, n, m, out)
+        }
+    }
+}
