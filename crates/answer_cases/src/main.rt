@@ -3,9 +3,13 @@
 // Every lent word is 7 before the call, so that what stays as it was is seen. The answers are proved in the crate answers; here
 // they are run and compared.
 use checks::Checked;
+use console::Input;
+use console::first;
 use console::print;
 use console::print_number;
 use console::print_refusal;
+use console::print_unreadable;
+use console::read;
 use libc::STDIN_FILENO;
 
 // The words of 64 rows, and two more.
@@ -41,6 +45,8 @@ fn of_file(file: &[u8]) {
 
 fn main() {
     let mut file = io::buffer();
-    let n = io::read_full(STDIN_FILENO, &mut file);
-    of_file(&file[..n]);
+    match read(STDIN_FILENO, &mut file) {
+        Input::Bytes(n) => of_file(first(&file, n)),
+        Input::Failed => print_unreadable(b"answer_cases", b"standard input"),
+    }
 }

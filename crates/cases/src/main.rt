@@ -1,136 +1,133 @@
 // Runs plan files and compares what the desk is shown of each with what it must be.
 //
-// Standard input names the cases, one a line: the case NAME is the file NAME.plan, and NAME.out is what must be shown of it. A
-// case that differs is printed by its name, and the last line counts. This program must not know of plans.
+// Standard input has two names a line: a plan file, and a file with its listing or with the line of its refusal. Of a plan that is not
+// refused the desk must be shown that listing, `fine`, and the file's own bytes again; of a refused one the same line three
+// times. What differs is printed, and the last line counts. This program must not know of plans.
+mod list;
+
+use console::Input;
+use console::first;
 use console::print;
-use console::print_first;
 use console::print_number;
+use console::print_unreadable;
+use console::read;
 use libc::STDIN_FILENO;
-use paths::Path;
-use paths::empty;
-use paths::with_byte;
 use text::Put;
 
-struct Tally {
-    path: Path,
-    same: u64,
-    different: u64,
-}
-
-fn plan_of(name: Path) -> Path {
-    let dot = with_byte(name, b'.');
-    let p = with_byte(dot, b'p');
-    let l = with_byte(p, b'l');
-    let a = with_byte(l, b'a');
-    with_byte(a, b'n')
-}
-
-fn out_of(name: Path) -> Path {
-    let dot = with_byte(name, b'.');
-    let o = with_byte(dot, b'o');
-    let u = with_byte(o, b'u');
-    with_byte(u, b't')
-}
-
-fn open_first(bytes: &[u8], k: usize) -> i32 {
-    if k <= bytes.len() {
-        os::open_read(&bytes[..k])
-    } else {
-        -1
-    }
-}
-
-fn opened(path: Path) -> i32 {
-    let bytes = path.bytes;
-    open_first(&bytes, path.length)
-}
+// The longest list of cases, in bytes.
+const LIST: usize = 65536;
 
 // Whether the first k bytes are the expected ones.
 fn first_are(shown: &[u8], k: usize, expected: &[u8]) -> bool {
-    if k <= shown.len() {
-        check::same(&shown[..k], expected)
-    } else {
-        false
-    }
+    check::same(first(shown, k), expected)
 }
 
-// Whether the case's listing or refusal is the expected one, and both of its files are there.
-fn holds(name: Path) -> bool {
-    let plan = opened(plan_of(name));
-    let expected = opened(out_of(name));
-    if plan < 0 {
-        return false;
-    }
-    if expected < 0 {
-        return false;
-    }
-    let mut file = io::buffer();
-    let n = io::read_full(plan, &mut file);
-    let mut must = io::buffer();
-    let m = io::read_full(expected, &mut must);
-    libc::close(plan);
-    libc::close(expected);
+fn listing_is(file: &[u8], must: &[u8]) -> bool {
     let mut out = io::buffer();
-    match desk::show(&file[..n], &mut out) {
-        Put::At(k) => first_are(&out, k, &must[..m]),
+    match desk::show(file, &mut out) {
+        Put::At(k) => first_are(&out, k, must),
         Put::Full => false,
     }
 }
 
-fn print_name(path: Path) {
-    let bytes = path.bytes;
-    print(b"differs: ");
-    print_first(&bytes, path.length);
-    print(b"\n");
+fn refusal_is(file: &[u8], must: &[u8]) -> bool {
+    let mut out = io::buffer();
+    match desk::show_refusal(file, &mut out) {
+        Put::At(k) => first_are(&out, k, must),
+        Put::Full => false,
+    }
 }
 
-// The name is complete: its case is run and counted.
-fn counted(t: Tally) -> Tally {
-    let mut next = t;
-    let name = next.path;
-    next.path = empty();
-    if holds(name) {
-        if next.same < u64::MAX {
-            next.same += 1;
-        }
-        return next;
+fn file_is(file: &[u8], must: &[u8]) -> bool {
+    let mut out = io::buffer();
+    match desk::show_file(file, &mut out) {
+        Put::At(k) => first_are(&out, k, must),
+        Put::Full => false,
     }
-    print_name(name);
-    if next.different < u64::MAX {
-        next.different += 1;
-    }
-    next
 }
 
-fn byte(t: Tally, c: u8) -> Tally {
-    if c == b'\n' {
-        return counted(t);
+// Prints what differs, and answers whether nothing does.
+fn same(holds: bool, what: &[u8], name: &[u8]) -> bool {
+    if !holds {
+        print(what);
+        print(b" differs: ");
+        print(name);
+        print(b"\n");
     }
-    let mut next = t;
-    let path = next.path;
-    next.path = with_byte(path, c);
-    next
+    holds
 }
 
-fn all(names: &[u8]) -> Tally {
-    let mut t = Tally {
-        path: empty(),
-        same: 0,
-        different: 0,
-    };
-    for i in 0..names.len() {
-        let c = names[i];
-        t = byte(t, c);
+// What is shown of a plan beside its listing: of a refused one its line, and else that it is fine, and the file.
+fn beside(name: &[u8], file: &[u8], must: &[u8]) -> bool {
+    if first_are(must, 8, b"refused ") {
+        let refusal = same(refusal_is(file, must), b"refusal", name);
+        return same(file_is(file, must), b"file", name) & refusal;
     }
-    t
+    let refusal = same(refusal_is(file, b"fine\n"), b"refusal", name);
+    same(file_is(file, file), b"file", name) & refusal
 }
 
-fn main() {
-    let mut names = io::large_buffer();
-    let n = io::read_full(STDIN_FILENO, &mut names);
-    let t = all(&names[..n]);
+fn compared(name: &[u8], file: &[u8], must: &[u8]) -> bool {
+    let listing = same(listing_is(file, must), b"listing", name);
+    beside(name, file, must) & listing
+}
+
+fn unreadable(name: &[u8]) -> bool {
+    print_unreadable(b"cases", name);
+    false
+}
+
+fn read_expected(name: &[u8], file: &[u8], out: &[u8], expected: i32) -> bool {
+    let mut must = io::buffer();
+    match read(expected, &mut must) {
+        Input::Bytes(m) => compared(name, file, first(&must, m)),
+        Input::Failed => unreadable(out),
+    }
+}
+
+fn read_plan(name: &[u8], plan: i32, out: &[u8], expected: i32) -> bool {
+    let mut file = io::buffer();
+    match read(plan, &mut file) {
+        Input::Bytes(n) => read_expected(name, first(&file, n), out, expected),
+        Input::Failed => unreadable(name),
+    }
+}
+
+// Whether the case of these two files holds.
+pub(crate) fn files(name: &[u8], out: &[u8]) -> bool {
+    let plan = os::open_read(name);
+    if plan < 0 {
+        return unreadable(name);
+    }
+    let expected = os::open_read(out);
+    if expected < 0 {
+        libc::close(plan);
+        return unreadable(out);
+    }
+    let holds = read_plan(name, plan, out, expected);
+    libc::close(plan);
+    libc::close(expected);
+    holds
+}
+
+fn listed(text: &[u8]) {
+    if LIST < text.len() {
+        return print(
+            b"cases: the list of names is longer than 65536 bytes, and none was looked at\n",
+        );
+    }
+    let t = list::all(text);
     print_number(t.same);
     print(b" the same, ");
     print_number(t.different);
     print(b" different\n");
+}
+
+// One byte more than the longest list is read, so that a longer one is known before any of its cases is looked at.
+fn main() {
+    let mut text = [0u8; LIST + 1];
+    match read(STDIN_FILENO, &mut text) {
+        Input::Bytes(n) => listed(first(&text, n)),
+        Input::Failed => print_unreadable(b"cases", b"standard input"),
+    }
 }

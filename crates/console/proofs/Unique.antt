@@ -1,6 +1,10 @@
 -- The functions that print return nothing and lend nothing to be changed, so any two outcomes are equal. What `read` gives is the system's to say.
 -- Assumes nothing.
-use mathlib.Core.Path.{refl}
+use mathlib.Core.Path.{_≡_, refl, sym, _∙_}
+use borrow.Fn.Kinds.{Dens, resT, endedOf}
+use contract.Lifetimes.{Lfts}
+use denote.Ref.{now}
+use denote.Triple.Clauses.{Lasts, atExit}
 use Rattle.laws.specs.Determined.{OneOutcome}
 use Rattle.console.proofs.print.Kinds as print-kinds
 use Rattle.console.proofs.print.Reads as print
@@ -12,6 +16,13 @@ use Rattle.console.proofs.print_refusal.Kinds as print-refusal-kinds
 use Rattle.console.proofs.print_refusal.Reads as print-refusal
 use Rattle.console.proofs.print_unreadable.Kinds as print-unreadable-kinds
 use Rattle.console.proofs.print_unreadable.Reads as print-unreadable
+use Rattle.console.proofs.first.Kinds as first-kinds
+use Rattle.console.proofs.first.Reads as first
+
+-- `first` hands back a part of what it was lent: its bytes are determined, and where they stand in memory is not said
+pub first-one : (κs : Lfts 1) (a : Dens κs first-kinds.ps) (x y : resT first-kinds.r κs .Denot) (ws us : Lasts (endedOf 1 first-kinds.ps first-kinds.r) κs a)
+    → first.Post κs a x (atExit (endedOf 1 first-kinds.ps first-kinds.r) κs a ws) → first.Post κs a y (atExit (endedOf 1 first-kinds.ps first-kinds.r) κs a us) → now x ≡ now y
+first-one κs a x y ws us p q = p ∙ sym q
 
 pub print-one : OneOutcome 1 print-kinds.ps print-kinds.r print.Post
 print-one κs a x y ws us p q = (refl, refl)

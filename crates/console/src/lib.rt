@@ -4,6 +4,8 @@
 // libc's and io's to say. This crate knows of the names alone.
 use libc::STDOUT_FILENO;
 use names::Refusal;
+ghost use mathlib.Core.Path.{_≡_};
+ghost use lib.ListN.{take};
 ghost use Rattle.console.specs.Input.{Holds};
 
 // What was read: so many bytes, at the buffer's start; or that reading failed, as of a directory.
@@ -31,15 +33,19 @@ pub fn read(fd: i32, buf: &mut [u8]) -> Input
     Input::Bytes(done)
 }
 
+// The first k bytes, or all if there are fewer.
+pub fn first(bytes: &[u8], k: usize) -> &[u8]
+    ensures { λ r. ⌜ now r ≡ take k (now (bytes .entry)) ⌝ }
+{
+    if k <= bytes.len() { &bytes[..k] } else { bytes }
+}
+
 pub fn print(bytes: &[u8]) {
     io::write_all(STDOUT_FILENO, bytes);
 }
 
-// The first k bytes, or nothing if there are fewer.
 pub fn print_first(bytes: &[u8], k: usize) {
-    if k <= bytes.len() {
-        print(&bytes[..k]);
-    }
+    print(first(bytes, k));
 }
 
 pub fn print_number(n: u64) {

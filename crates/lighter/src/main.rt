@@ -1,69 +1,113 @@
 // Says whether the plan in a second file is lighter than the plan in a first, or why it is to be run again.
 //
-// Called as `lighter OLD NEW`. With no arguments it reads such pairs of names from standard input, one pair a line. What is said
-// comes from the crate compare_files, whose answers are proved; that the words say it well is seen by running. This program must
-// not know the rule of the lighter plan.
-mod pairs;
-mod say;
+// Called as `lighter OLD NEW`. With no arguments it reads such pairs of names from standard input, one pair a line. The crate chief
+// fixes each byte that is said of two files, and the crate pairs which names a line has: this program opens, reads and prints, and
+// says in one line what it cannot open or read. It must not know the rule of the lighter plan.
+mod list;
 
-// Whether nothing was read because reading fails, as of a directory.
-fn fails(fd: i32, n: usize) -> bool {
-    let mut byte = [0u8; 1];
-    if n == 0 {
-        libc::read(fd, &mut byte) < 0
-    } else {
-        false
+use console::Input;
+use console::first;
+use console::print;
+use console::print_first;
+use console::print_unreadable;
+use console::read;
+use libc::STDIN_FILENO;
+use text::Put;
+
+// The longest list of pairs, in bytes.
+const LIST: usize = 65536;
+
+fn tell(was: &[u8], is: &[u8]) {
+    let mut out = io::buffer();
+    match chief::told(was, is, &mut out) {
+        Put::At(k) => print_first(&out, k),
+        // 64 bytes hold every line (LargestLine, in chief's claims).
+        Put::Full => {}
     }
 }
 
-// The two files, open to read. A file longer than the buffer is longer than any plan file, and so is the part of it that is looked at.
-fn opened(old: &[u8], first: i32, new: &[u8], second: i32) {
-    let mut was = io::buffer();
-    let n = io::read_full(first, &mut was);
-    if fails(first, n) {
-        return say::unreadable(old);
-    }
+fn unreadable(name: &[u8]) {
+    print_unreadable(b"lighter", name);
+}
+
+// A file longer than the buffer is longer than any plan file, and so is the part of it that is looked at.
+fn read_new(was: &[u8], new: &[u8], new_fd: i32) {
     let mut is = io::buffer();
-    let m = io::read_full(second, &mut is);
-    if fails(second, m) {
-        return say::unreadable(new);
+    match read(new_fd, &mut is) {
+        Input::Bytes(m) => tell(was, first(&is, m)),
+        Input::Failed => unreadable(new),
     }
-    say::answer(compare_files::lighter_files(&was[..n], &is[..m]));
+}
+
+fn read_both(old: &[u8], old_fd: i32, new: &[u8], new_fd: i32) {
+    let mut was = io::buffer();
+    match read(old_fd, &mut was) {
+        Input::Bytes(n) => read_new(first(&was, n), new, new_fd),
+        Input::Failed => unreadable(old),
+    }
 }
 
 // The two files of these names.
 pub(crate) fn files(old: &[u8], new: &[u8]) {
-    let first = os::open_read(old);
-    if first < 0 {
-        return say::unreadable(old);
+    let old_fd = os::open_read(old);
+    if old_fd < 0 {
+        return unreadable(old);
     }
-    let second = os::open_read(new);
-    if second < 0 {
-        libc::close(first);
-        return say::unreadable(new);
+    let new_fd = os::open_read(new);
+    if new_fd < 0 {
+        libc::close(old_fd);
+        return unreadable(new);
     }
-    opened(old, first, new, second);
-    libc::close(first);
-    libc::close(second);
+    read_both(old, old_fd, new, new_fd);
+    libc::close(old_fd);
+    libc::close(new_fd);
+}
+
+// An argument that is empty, or that the buffer cannot hold, has no byte of a name to open.
+fn nameless(which: &[u8]) {
+    print(b"lighter: cannot read the ");
+    print(which);
+    print(b" file: its name is empty or has more than 4096 bytes\n");
 }
 
 fn arguments() {
     let mut old = io::buffer();
     let n = os::arg(1, &mut old);
+    if n == 0 {
+        return nameless(b"first");
+    }
     let mut new = io::buffer();
     let m = os::arg(2, &mut new);
-    files(&old[..n], &new[..m]);
+    if m == 0 {
+        return nameless(b"second");
+    }
+    files(first(&old, n), first(&new, m));
+}
+
+fn listed(text: &[u8]) {
+    if LIST < text.len() {
+        print(b"lighter: the list of names is longer than 65536 bytes, and none was looked at\n");
+    } else {
+        list::all(text);
+    }
+}
+
+// One byte more than the longest list is read, so that a longer one is known before any of its pairs is looked at.
+fn read_list() {
+    let mut text = [0u8; LIST + 1];
+    match read(STDIN_FILENO, &mut text) {
+        Input::Bytes(n) => listed(first(&text, n)),
+        Input::Failed => unreadable(b"standard input"),
+    }
 }
 
 fn main() {
     let count = os::arg_count();
     if count == 1 {
-        let mut text = io::large_buffer();
-        let n = io::read_full(libc::STDIN_FILENO, &mut text);
-        pairs::all(&text[..n]);
+        read_list();
     } else if count == 3 {
         arguments();
     } else {
-        say::usage();
+        print(b"lighter: give the names of two plan files, the old one and the new one\n");
     }
 }

@@ -1,19 +1,28 @@
 // Reads a plan file from standard input and prints its listing, or the one line of its refusal.
 //
-// A thin program: the crate desk fixes each byte that is printed. What is read and written is io's to say. A file longer
+// A thin program: the crate desk fixes each byte that is printed. What is read and written is console's to say. A file longer
 // than the buffer is longer than any plan file, and so is the part of it that is shown to the desk.
+use console::Input;
+use console::first;
 use console::print_first;
+use console::print_unreadable;
+use console::read;
 use libc::STDIN_FILENO;
 use text::Put;
 
-fn main() {
-    let mut file = io::buffer();
-    let n = io::read_full(STDIN_FILENO, &mut file);
+fn show(file: &[u8]) {
     let mut out = io::buffer();
-    let shown = desk::show(&file[..n], &mut out);
-    match shown {
+    match desk::show(file, &mut out) {
         Put::At(k) => print_first(&out, k),
         // 4,096 bytes hold every listing (ListingFits, in desk's claims) and every refusal (LargestRefusal, in text's).
         Put::Full => {}
+    }
+}
+
+fn main() {
+    let mut file = io::buffer();
+    match read(STDIN_FILENO, &mut file) {
+        Input::Bytes(n) => show(first(&file, n)),
+        Input::Failed => print_unreadable(b"listing", b"standard input"),
     }
 }

@@ -9,9 +9,8 @@ use Rattle.checks.specs.declared.Checked.{Checked}
 use Rattle.checks.specs.declared.Checked.the-variants.{Fine, Refused}
 use Rattle.file.specs.declared.Written.{Written}
 use Rattle.file.specs.declared.Written.the-variants.{Bytes, Refused as Written·Refused}
-use Rattle.file.specs.File.{timingIn, readOf, writeOf}
+use Rattle.file.specs.File.{timingIn}
 use Rattle.plan.specs.declared.Stream.{Stream}
-use Rattle.plan.specs.declared.Sheet.{Sheet}
 use Rattle.answers.specs.Words.{answerOf}
 use Rattle.screen.specs.Screen.{sheetFor}
 use Rattle.compare.specs.declared.Reason.{Reason}
@@ -54,14 +53,6 @@ written (Written·Refused r) = refused r
 abbrev pub parting : Parting → Said
 parting (At k) = done k
 parting (Parting·Refused r) = refused r
-
--- the plan in a file, written again: a refused file is refused, and the lent bytes are as they were
-abbrev pub rewritten : Checked → Sheet → List ℕ → Written × List ℕ
-rewritten Fine s buf = writeOf s buf
-rewritten (Refused r) s buf = (Written·Refused r, buf)
-
-unfoldable pub rewriteOf : List ℕ → List ℕ → Written × List ℕ
-rewriteOf bytes buf = rewritten (readOf bytes .answer) (readOf bytes .sheet) buf
 
 -- the answer words of lent streams, with the timing that the first nine words are and these noise gaps
 abbrev pub screenOf : List Stream → List ℕ → List ℕ → List ℕ → Checked × List ℕ

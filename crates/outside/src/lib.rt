@@ -8,6 +8,7 @@ ghost use Rattle.answers.specs.Words.{answerFileOf};
 ghost use Rattle.compare_files.specs.Files.{comparedFiles};
 ghost use Rattle.tournament.specs.Answers.{partingOf};
 ghost use Rattle.file.specs.File.{writeOf};
+ghost use Rattle.rewriter.specs.Rewriter.{rewriteOf};
 ghost use Rattle.values.specs.Values.{sheetFrom};
 ghost use Rattle.outside.specs.Outside as number;
 use answers::answer_file;
@@ -15,14 +16,12 @@ use checks::Checked;
 use compare::Compared;
 use compare::Reason;
 use compare_files::lighter_files;
-use fields::WORDS;
-use file::Counts;
 use file::Written;
 use names::Label;
 use names::Priority;
 use names::Refusal;
 use plan::Stream;
-use reader::counts;
+use rewriter::rewrite;
 use screen::screen;
 use states::mark_out;
 use states::marks_into;
@@ -37,7 +36,6 @@ use tournament_state::Answer;
 use tournament_state::Phase;
 use values::timing_from;
 use values::words_from;
-use words::words_into;
 use writer::write_words;
 
 // 0 and what was asked for, or the number of a refusal and its place.
@@ -100,18 +98,11 @@ pub extern "C" fn livnakesh_answers(file: &[u8], out: &mut [u64]) -> Said
 // The plan in a file, written again into lent bytes.
 #[no_mangle]
 pub extern "C" fn livnakesh_rewrite(file: &[u8], out: &mut [u8]) -> Said
-    ensures { λ s. ⌜ (s ≡ number.written (number.rewriteOf (now (file .entry)) (now (out .entry)) .0)) × (now (out .exit) ≡ number.rewriteOf (now (file .entry)) (now (out .entry)) .1) ⌝ }
+    ensures { λ s. ⌜ (s ≡ number.written (rewriteOf (now (file .entry)) (now (out .entry)) .0)) × (now (out .exit) ≡ rewriteOf (now (file .entry)) (now (out .entry)) .1) ⌝ }
 {
-    match counts(file) {
-        Counts::Refused(r) => refused(r),
-        Counts::Of(n, m) => {
-            let mut words = [0; WORDS];
-            words_into(file, &mut words);
-            match write_words(&words, n, m, out) {
-                Written::Bytes(bytes) => done(bytes as u64),
-                Written::Refused(r) => refused(r),
-            }
-        }
+    match rewrite(file, out) {
+        Written::Bytes(bytes) => done(bytes as u64),
+        Written::Refused(r) => refused(r),
     }
 }
 

@@ -1,25 +1,28 @@
-// Reads a plan file from standard input and prints whether it is fine, or its refusal.
+// Reads a plan file from standard input and prints `fine`, or the one line of its refusal.
 //
-// A thin program over the reader: it promises nothing of its own, and what is read and printed is io's to say. A file that is
-// longer than the buffer is longer than any plan file, and so is the part of it that the reader sees.
-use checks::Checked;
-use console::print;
-use console::print_refusal;
+// A thin program: the crate desk fixes each byte that is printed. What is read and written is console's to say. A file longer
+// than the buffer is longer than any plan file, and so is the part of it that is shown to the desk.
+use console::Input;
+use console::first;
+use console::print_first;
+use console::print_unreadable;
+use console::read;
 use libc::STDIN_FILENO;
-use reader::read;
+use text::Put;
+
+fn show(file: &[u8]) {
+    let mut out = io::buffer();
+    match desk::show_refusal(file, &mut out) {
+        Put::At(k) => print_first(&out, k),
+        // 4,096 bytes hold every refusal (LargestRefusal, in text's claims).
+        Put::Full => {}
+    }
+}
 
 fn main() {
-    let mut buffer = io::buffer();
-    let n = io::read_full(STDIN_FILENO, &mut buffer);
-    let plan = read(&buffer[..n]);
-    let answer = plan.answer;
-    match answer {
-        Checked::Fine => {
-            print(b"fine\n");
-        }
-        Checked::Refused(r) => {
-            print_refusal(r);
-            print(b"\n");
-        }
+    let mut file = io::buffer();
+    match read(STDIN_FILENO, &mut file) {
+        Input::Bytes(n) => show(first(&file, n)),
+        Input::Failed => print_unreadable(b"refusals", b"standard input"),
     }
 }

@@ -1,23 +1,29 @@
-// Reads a plan file from standard input and writes the plan in it to standard output, or nothing if it is refused.
+// Reads a plan file from standard input and writes the plan in it to standard output, or the one line of its refusal.
 //
-// A thin program over the reader and the writer: it promises nothing of its own. What comes out is byte for byte what went in.
+// A thin program: the crate desk fixes each byte that is printed. What comes out is byte for byte what went in (SameFile, in desk's
+// claims), or a line of 43 bytes at most, which is never taken for a plan file, since that has 44 at least (LineIsNoPlan).
+// A file longer than the buffer is longer than any plan file, and so is the part of it that is shown to the desk.
+use console::Input;
+use console::first;
 use console::print_first;
-use file::Written;
+use console::print_unreadable;
+use console::read;
 use libc::STDIN_FILENO;
-use reader::read;
-use writer::write;
+use text::Put;
+
+fn show(file: &[u8]) {
+    let mut out = io::buffer();
+    match desk::show_file(file, &mut out) {
+        Put::At(k) => print_first(&out, k),
+        // 4,096 bytes hold every plan file (FileFits, in desk's claims) and every refusal (LargestRefusal, in text's).
+        Put::Full => {}
+    }
+}
 
 fn main() {
-    let mut buffer = io::buffer();
-    let n = io::read_full(STDIN_FILENO, &mut buffer);
-    let plan = read(&buffer[..n]);
-    let sheet = plan.sheet;
-    let mut out = io::buffer();
-    let written = write(sheet, &mut out);
-    match written {
-        Written::Bytes(k) => {
-            print_first(&out, k);
-        }
-        Written::Refused(_) => {}
+    let mut file = io::buffer();
+    match read(STDIN_FILENO, &mut file) {
+        Input::Bytes(n) => show(first(&file, n)),
+        Input::Failed => print_unreadable(b"rewrite", b"standard input"),
     }
 }
