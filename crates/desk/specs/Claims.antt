@@ -23,7 +23,9 @@ SameFile = (bs : List ℕ) → Below 256 bs → readOf bs .answer ≡ Fine → s
 
 -- .. in full where 1,648 bytes are lent, ..
 abbrev pub FileFits : Type 0
-FileFits = (bs buffer : List ℕ) → Below 256 bs → readOf bs .answer ≡ Fine → 1648 ≤ length buffer → put buffer 0 (shownFile bs) .0 ≡ At (length bs)
+FileFits =
+    (bs buffer : List ℕ) → Below 256 bs → readOf bs .answer ≡ Fine → 1648 ≤ length buffer
+    → put buffer 0 (shownFile bs) .0 ≡ At (length bs)
 
 -- .. and the line that is shown of a refused one is no plan file: it is too short for one
 abbrev pub LineIsNoPlan : Type 0

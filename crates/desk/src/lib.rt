@@ -2,10 +2,9 @@
 //
 // Every public function answers for any bytes, and its contract fixes each byte of the lent buffer. Nothing is assumed.
 // This crate joins the reader, the rows, the rewriter and the text; it must not know of input and output.
-ghost use mathlib.Core.Path.{_≡_};
 ghost use Rattle.desk.specs.Desk.{shown, shownRefusal, shownFile};
 ghost use Rattle.ascii.specs.Ascii.{ascii};
-ghost use Rattle.text.specs.Put.{put, Puts};
+ghost use Rattle.text.specs.Put.{Puts};
 use checks::Checked;
 use file::Written;
 use reader::read;
@@ -21,7 +20,7 @@ const NO_ROOM: u32 = 6;
 
 // The listing of a file's plan, at the start of the buffer; the rest of it stays.
 pub fn show(bytes: &[u8], out: &mut [u8]) -> Put
-    ensures { λ r. ⌜ (r ≡ put (now (out .entry)) 0 (shown (now (bytes .entry))) .0) × (now (out .exit) ≡ put (now (out .entry)) 0 (shown (now (bytes .entry))) .1) ⌝ }
+    ensures { λ r. ⌜ Puts (now (out .entry)) 0 (shown (now (bytes .entry))) r (now (out .exit)) ⌝ }
 {
     let found = read(bytes);
     let answer = found.answer;

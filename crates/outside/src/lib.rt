@@ -98,7 +98,8 @@ pub extern "C" fn livnakesh_answers(file: &[u8], out: &mut [u64]) -> Said
 // The plan in a file, written again into lent bytes.
 #[no_mangle]
 pub extern "C" fn livnakesh_rewrite(file: &[u8], out: &mut [u8]) -> Said
-    ensures { λ s. ⌜ (s ≡ number.written (rewriteOf (now (file .entry)) (now (out .entry)) .0)) × (now (out .exit) ≡ rewriteOf (now (file .entry)) (now (out .entry)) .1) ⌝ }
+    ensures { λ s. ⌜ s ≡ number.written (rewriteOf (now (file .entry)) (now (out .entry)) .0) ⌝ }
+    ensures { λ _. ⌜ now (out .exit) ≡ rewriteOf (now (file .entry)) (now (out .entry)) .1 ⌝ }
 {
     match rewrite(file, out) {
         Written::Bytes(bytes) => done(bytes as u64),

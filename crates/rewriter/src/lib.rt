@@ -13,7 +13,8 @@ ghost use Rattle.rewriter.specs.Rewriter.{rewriteOf};
 
 // The plan in a file, written into lent bytes. The words of the file are written as they stand, so no sheet is made of them.
 pub fn rewrite(file: &[u8], out: &mut [u8]) -> Written
-    ensures { λ r. ⌜ (r ≡ rewriteOf (now (file .entry)) (now (out .entry)) .0) × (now (out .exit) ≡ rewriteOf (now (file .entry)) (now (out .entry)) .1) ⌝ }
+    ensures { λ r. ⌜ r ≡ rewriteOf (now (file .entry)) (now (out .entry)) .0 ⌝ }
+    ensures { λ _. ⌜ now (out .exit) ≡ rewriteOf (now (file .entry)) (now (out .entry)) .1 ⌝ }
 {
     match counts(file) {
         Counts::Refused(r) => Written::Refused(r),
