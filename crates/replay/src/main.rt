@@ -3,8 +3,13 @@
 // Called as `replay BITS PRIORITY..`. With no arguments it reads the same numbers from standard input, where a
 // blank line parts two tournaments. Which bytes are shown of a text, and where a tournament's text ends, is said and proved in
 // replay_words; this program reads, calls and prints.
+use console::Input;
+use console::first;
 use console::print;
 use console::print_first;
+use console::print_unreadable;
+use console::read;
+use libc::STDIN_FILENO;
 use replay_screen::SHOWN;
 use replay_words::first_end;
 use replay_words::has_word;
@@ -69,22 +74,37 @@ fn too_long() {
     print(b"the input is longer than 65535 bytes\n");
 }
 
-fn main() {
+fn read_arguments(count: usize) {
     let mut text = io::large_buffer();
+    let n = lay_arguments(&mut text, count);
+    if n < INPUT {
+        show(first(&text, n));
+    } else {
+        too_long();
+    }
+}
+
+fn show_input(text: &[u8]) {
+    if text.len() < INPUT {
+        show_all(text);
+    } else {
+        too_long();
+    }
+}
+
+fn read_input() {
+    let mut text = io::large_buffer();
+    match read(STDIN_FILENO, &mut text) {
+        Input::Bytes(n) => show_input(first(&text, n)),
+        Input::Failed => print_unreadable(b"replay", b"standard input"),
+    }
+}
+
+fn main() {
     let count = os::arg_count();
     if 1 < count {
-        let n = lay_arguments(&mut text, count);
-        if n < INPUT {
-            show(&text[..n]);
-        } else {
-            too_long();
-        }
+        read_arguments(count);
     } else {
-        let n = io::read_full(libc::STDIN_FILENO, &mut text);
-        if n < INPUT {
-            show_all(&text[..n]);
-        } else {
-            too_long();
-        }
+        read_input();
     }
 }
