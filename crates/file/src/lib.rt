@@ -1,7 +1,7 @@
 // The plan file: its definition, what reading and writing give, and that one plan is one file.
 //
 // specs/ goes from bytes to raw words, from raw words to a plan, and back; proofs/ has the two round trips. The reader and
-// the writer are crates above, which promise what is defined here. Nothing is assumed. This crate knows of no lent memory.
+// the writer are crates above, which promise what is defined here. Nothing is assumed. The two functions are lent nothing.
 use checks::Checked;
 use fields::CONTENTS;
 use fields::STREAM;

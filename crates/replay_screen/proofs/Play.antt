@@ -24,16 +24,13 @@ use Rattle.tournament.specs.Rule.{begunOf, heardAt, next, steps}
 use Rattle.tournament.specs.Answers.{judgedOf, outcome, nobody, heardNow, heardUnless, carrierOf, startOf, stepOf, runOf}
 use Rattle.tournament_laws.proofs.Steps.{next-bit}
 use Rattle.tournament_laws.proofs.Start.{kept, start-phase}
-use Rattle.tournament_laws.proofs.Calls.{not-refused-later, start-then-run}
+use Rattle.tournament_laws.proofs.Calls.{outcome-of, judged-steps as steps-judged, start-then-run}
 use Rattle.replay_screen.specs.Shown.{bitLine, bitLines, playedOf, shownBy, shownOf}
 use Rattle.replay_screen.specs.Private.{Begun, isHeard}
 
 pub answer-is : (a : Answer) (before after : Tournament) → outcome a before after .answer ≡ a
 answer-is Done before after = refl
 answer-is (Refused r) before after = refl
-
-pub outcome-of : (a : Answer) (before after : Tournament) → a ≡ Done → outcome a before after .tournament ≡ after
-outcome-of a before after e = rw e refl
 
 -- ---- what a start hands out
 begun-long : (NB n : ℕ) (places : List Priority) → length places ≡ contenders → verdictOf NB n places (AtBit 1) ≡ Done → length (begunOf NB n places .priorities) ≡ contenders
@@ -85,9 +82,7 @@ module _ (NB n : ℕ) (places : List Priority) (o : Outcome) (e : o ≡ startOf 
 -- ---- its steps, and what is heard at each
 module _ (t : Tournament) (b : Begun t) where
   pub judged-steps : (k : ℕ) → judgedOf (steps k t) ≡ Done
-  unfolding steps
-  judged-steps zero = b .judged
-  judged-steps (suc k) = not-refused-later (steps k t) (ap length (kept t k .priorities) ∙ b .long) (judged-steps k)
+  judged-steps k = steps-judged t (b .long) (b .judged) k
 
   at-bit : (k : ℕ) → k < t .bits → steps k t .phase ≡ AtBit (k + 1)
   unfolding steps

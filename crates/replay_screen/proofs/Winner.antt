@@ -11,10 +11,10 @@ use Rattle.tournament_state.proofs.Meaning.{done-limits}
 use Rattle.tournament.specs.Rule.{begunOf, steps}
 use Rattle.tournament.specs.Answers.{judgedOf, nobody, startOf, runOf}
 use Rattle.tournament_laws.proofs.Start.{kept, start-bits}
-use Rattle.tournament_laws.proofs.Calls.{start-then-run}
+use Rattle.tournament_laws.proofs.Calls.{outcome-of, start-then-run}
 use Rattle.replay_screen.specs.Shown.{bitLines, winsLine, winnerLine, playedOf, shownBy, shownOf}
 use Rattle.replay_screen.specs.Claims.{SmallestShown}
-use Rattle.replay_screen.proofs.Play.{priority-in, answer-is, outcome-of, begun-start}
+use Rattle.replay_screen.proofs.Play.{priority-in, answer-is, begun-start}
 
 pub smallest-shown : SmallestShown
 unfolding shownOf startOf runOf playedOf winnerLine

@@ -67,14 +67,14 @@ not-refused-later t long e =
     (record { fair = s .fair; from = s .from; to = s .to; within = phase-within t (s .within) })
 
 -- ---- a run, by calls
-outcome-of : (a : Answer) (before after : Tournament) → a ≡ Done → outcome a before after .tournament ≡ after
+pub outcome-of : (a : Answer) (before after : Tournament) → a ≡ Done → outcome a before after .tournament ≡ after
 outcome-of a before after e = rw e refl
 
 run-is-steps : (t : Tournament) → judgedOf t ≡ Done → runOf t .tournament ≡ steps (t .bits) t
 unfolding runOf
 run-is-steps t e = outcome-of (judgedOf t) t (steps (t .bits) t) e
 
-judged-steps : (t : Tournament) → length (t .priorities) ≡ contenders → judgedOf t ≡ Done → (k : ℕ) → judgedOf (steps k t) ≡ Done
+pub judged-steps : (t : Tournament) → length (t .priorities) ≡ contenders → judgedOf t ≡ Done → (k : ℕ) → judgedOf (steps k t) ≡ Done
 unfolding steps
 judged-steps t long e zero = e
 judged-steps t long e (suc k) =
