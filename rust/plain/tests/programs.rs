@@ -1,0 +1,420 @@
+//! The built programs, run by `./run` as a person runs them: every byte that they print and the status that they end with, on all cases
+//! of the gate, on drawn plans and tournaments, and on input that comes byte by byte. The expected text is made here, from the
+//! plain planner's answers; for the cases it is what stands in their files.
+//!
+//! They are built first (`rt check`), or the first call here proves them.
+
+mod common;
+
+use common::{file_of, work, Rng, MOST_WORK};
+use livnakesh::{Compared, Label, Phase, Priority, Reason, Refused};
+use plain::{self, Tournament};
+use std::io::Write;
+use std::path::{Path, PathBuf};
+use std::process::{Command, Stdio};
+use std::sync::Once;
+
+const ANSWERED: i32 = 0;
+const RUN_AGAIN: i32 = 1;
+const REFUSED: i32 = 2;
+
+fn top() -> PathBuf {
+    Path::new(env!("CARGO_MANIFEST_DIR")).join("../..")
+}
+
+/// What a program printed, and the status that it ended with.
+type Ran = (Vec<u8>, i32);
+
+/// One call of each program, one after the other, before any other: what has changed is proved and built by then.
+fn build() {
+    static BUILT: Once = Once::new();
+    BUILT.call_once(|| {
+        for program in ["listing", "refusals", "rewrite", "lighter", "replay"] {
+            let ran = Command::new(top().join("run")).arg(program).stdin(Stdio::null()).output().expect("./run starts");
+            assert_ne!(ran.status.code(), Some(3), "{program}: {}", lines(&ran.stderr));
+        }
+    });
+}
+
+fn run_in(folder: &Path, program: &str, words: &[&str], input: &[u8], at_once: usize) -> Ran {
+    build();
+    let mut child = Command::new(top().canonicalize().expect("the repository").join("run"))
+        .arg(program)
+        .args(words)
+        .current_dir(folder)
+        .stdin(Stdio::piped())
+        .stdout(Stdio::piped())
+        .stderr(Stdio::null())
+        .spawn()
+        .expect("./run starts");
+    let mut stdin = child.stdin.take().expect("a pipe");
+    let input = input.to_vec();
+    // A program that has read enough closes its end, and what is written after that is nobody's.
+    let feeder = std::thread::spawn(move || {
+        for part in input.chunks(at_once) {
+            if stdin.write_all(part).and_then(|()| stdin.flush()).is_err() {
+                break;
+            }
+        }
+    });
+    let output = child.wait_with_output().expect("./run ends");
+    feeder.join().expect("the input is written");
+    (output.stdout, output.status.code().expect("an exit status"))
+}
+
+fn run(program: &str, words: &[&str], input: &[u8]) -> Ran {
+    run_in(&top(), program, words, input, usize::MAX)
+}
+
+// ---- what must be printed ----
+
+fn refusal(refused: Refused) -> String {
+    format!("refused {} at {}\n", refused.number, refused.place)
+}
+
+fn label(label: Label) -> String {
+    format!("{}.{}", label.0 >> 16, label.0 & 0xffff)
+}
+
+/// The listing of a file, with the answer words that `answer` gives for it.
+fn listing_by(file: &[u8], answer: impl Fn(&[u8], &mut [u64]) -> Result<(), Refused>) -> String {
+    let mut words = [0; 128];
+    if let Err(refused) = answer(file, &mut words) {
+        return refusal(refused);
+    }
+    let plan = plain::read(file).expect("a plan that is answered");
+    let row = |(stream, words): (&livnakesh::Stream, &[u64])| {
+        let (bound, verdict) = match words[0] {
+            0 => (words[1].to_string(), "met"),
+            1 => (words[1].to_string(), "missed"),
+            _ => ("-".into(), "none"),
+        };
+        format!("{} {} {bound} {} {verdict}\n", label(stream.label), stream.priority.0, stream.deadline)
+    };
+    let rows: String = plan.streams.iter().zip(words.chunks(2)).map(row).collect();
+    format!("label priority bound deadline verdict\n{rows}")
+}
+
+fn listing(file: &[u8]) -> String {
+    listing_by(file, plain::answers)
+}
+
+fn fine(file: &[u8]) -> String {
+    plain::read(file).map_or_else(refusal, |_| "fine\n".into())
+}
+
+/// A plan has one file, so what is written back is what was read.
+fn rewritten(file: &[u8]) -> Vec<u8> {
+    plain::read(file).map_or_else(|refused| refusal(refused).into_bytes(), |_| file.to_vec())
+}
+
+fn status(file: &[u8]) -> i32 {
+    plain::read(file).map_or(REFUSED, |_| ANSWERED)
+}
+
+const CONSTANTS: [&str; 9] = ["F", "E", "TFCS", "SWX", "H", "G", "ETG", "LAG", "NB"];
+
+fn reason(reason: Reason) -> String {
+    match reason {
+        Reason::GreaterConstant(k) => format!("{} is greater", CONSTANTS[k]),
+        Reason::NewLabel(l) => format!("{} is not in the first plan", label(l)),
+        Reason::ShorterPeriod(l) => format!("{} has a shorter period", label(l)),
+        Reason::LongerJitter(l) => format!("{} has a longer jitter", label(l)),
+        Reason::LongerPayload(l) => format!("{} has a longer payload", label(l)),
+        Reason::ShorterDeadline(l) => format!("{} has a shorter deadline", label(l)),
+        Reason::LessUrgent(l) => format!("{} comes after a stream that it came before", label(l)),
+        Reason::MoreNoise(gap) => format!("more noise sources with a gap of {gap} or less"),
+    }
+}
+
+fn told(old: &[u8], new: &[u8]) -> (String, i32) {
+    match plain::lighter(old, new) {
+        Compared::Lighter => ("lighter\n".into(), ANSWERED),
+        Compared::FirstRefused(refused) => (format!("first {}", refusal(refused)), REFUSED),
+        Compared::SecondRefused(refused) => (format!("second {}", refusal(refused)), REFUSED),
+        Compared::RunAgain(why) => (format!("run again: {}\n", reason(why)), RUN_AGAIN),
+    }
+}
+
+fn rows(which: impl Iterator<Item = usize>) -> String {
+    let rows: String = which.map(|row| format!(" {row}")).collect();
+    if rows.is_empty() {
+        " none".into()
+    } else {
+        rows
+    }
+}
+
+/// The replay of a tournament whose step is `step`.
+fn replay_by(bits: u32, priorities: &[Priority], step: impl Fn(&Tournament) -> Tournament) -> String {
+    let mut state = match Tournament::start(bits, priorities) {
+        Ok(state) => state,
+        Err(refused) => return refusal(refused),
+    };
+    let mut text = String::new();
+    for bit in 1..=bits {
+        let sends_0 = |row: usize| state.marks[row] && state.priorities[row].0 >> (bits - bit) & 1 == 0;
+        let carrier = if (0..state.contenders).any(sends_0) { "carrier heard" } else { "no carrier" };
+        let next = step(&state);
+        let silent = rows((0..128).filter(|&row| state.marks[row] && !next.marks[row]));
+        let left = rows((0..128).filter(|&row| next.marks[row]));
+        text += &format!("bit {bit}: {carrier}; goes silent:{silent}; still in:{left}\n");
+        state = next;
+    }
+    match state.phase {
+        Phase::Finished(row) => text + &format!("row {} wins with priority {}\n", row.0, state.priorities[row.0 as usize].0),
+        other => panic!("a start ends with a winner, not {other:?}"),
+    }
+}
+
+fn replay(bits: u32, priorities: &[Priority]) -> String {
+    replay_by(bits, priorities, |state| state.step().expect("a state from a start"))
+}
+
+// ---- the cases of the gate ----
+
+struct Case {
+    name: String,
+    plan: Vec<u8>,
+    shown: Vec<u8>,
+}
+
+fn cases() -> Vec<Case> {
+    let folder = top().join("crates/cases/data");
+    let mut plans: Vec<PathBuf> =
+        std::fs::read_dir(folder).expect("the cases").map(|entry| entry.expect("a case").path()).collect();
+    plans.retain(|path| path.extension().is_some_and(|kind| kind == "plan"));
+    plans.sort();
+    assert!(plans.len() >= 350, "only {} cases", plans.len());
+    let case = |path: PathBuf| Case {
+        name: path.file_stem().expect("a name").to_string_lossy().into_owned(),
+        plan: std::fs::read(&path).expect("a plan file"),
+        shown: std::fs::read(path.with_extension("out")).expect("what must be shown of it"),
+    };
+    plans.into_iter().map(case).collect()
+}
+
+fn lines(bytes: &[u8]) -> String {
+    String::from_utf8_lossy(bytes).into_owned()
+}
+
+fn on_all_cases(program: &str, wanted: impl Fn(&Case) -> Vec<u8>) {
+    for case in cases() {
+        let (printed, ended) = run(program, &[], &case.plan);
+        let wanted = wanted(&case);
+        assert_eq!(lines(&printed), lines(&wanted), "{program} on {}", case.name);
+        assert_eq!(printed, wanted, "{program} on {}", case.name);
+        let refused = case.shown.starts_with(b"refused ");
+        assert_eq!(ended, if refused { REFUSED } else { ANSWERED }, "{program} on {}", case.name);
+    }
+}
+
+#[test]
+fn listing_on_all_cases() {
+    on_all_cases("listing", |case| case.shown.clone());
+}
+
+#[test]
+fn refusals_on_all_cases() {
+    on_all_cases("refusals", |case| if case.shown.starts_with(b"refused ") { case.shown.clone() } else { b"fine\n".to_vec() });
+}
+
+#[test]
+fn rewrite_on_all_cases() {
+    on_all_cases("rewrite", |case| if case.shown.starts_with(b"refused ") { case.shown.clone() } else { case.plan.clone() });
+}
+
+// ---- drawn plans, damaged plans, random bytes, pipes ----
+
+fn on_file(file: &[u8], at_once: usize) {
+    let wanted = [listing(file).into_bytes(), fine(file).into_bytes(), rewritten(file)];
+    for (program, wanted) in ["listing", "refusals", "rewrite"].into_iter().zip(wanted) {
+        let ran = run_in(&top(), program, &[], file, at_once);
+        assert_eq!(ran, (wanted, status(file)), "{program}: {}", common::hex(file));
+    }
+}
+
+#[test]
+fn drawn_and_damaged_plans() {
+    let mut rng = Rng(0x9406);
+    for _ in 0..40 {
+        let plan = common::plan(&mut rng);
+        if work(&plan, MOST_WORK).is_none() {
+            continue;
+        }
+        let mut file = file_of(&plan);
+        on_file(&file, usize::MAX);
+        let at = rng.below(file.len() as u64) as usize;
+        file[at] ^= 1 << rng.below(8);
+        if plain::read(&file).map_or(true, |plan| work(&plan, MOST_WORK).is_some()) {
+            on_file(&file, usize::MAX);
+        }
+    }
+}
+
+#[test]
+fn random_bytes_and_files_of_any_length() {
+    let mut rng = Rng(0xb17e5);
+    for length in [0, 1, 43, 44, 79, 80, 103, 104, 1_647, 1_648, 1_649, 1_652, 4_095, 4_096, 4_097, 70_000] {
+        let bytes: Vec<u8> = (0..length).map(|_| rng.next() as u8).collect();
+        on_file(&bytes, usize::MAX);
+    }
+}
+
+#[test]
+fn input_that_comes_byte_by_byte() {
+    let cases = cases();
+    let largest = cases.iter().filter(|case| status(&case.plan) == ANSWERED).max_by_key(|case| case.plan.len()).expect("a plan");
+    assert_eq!(largest.plan.len(), 1_648);
+    on_file(&largest.plan, 1);
+    on_file(&largest.plan[..1_647], 1);
+}
+
+#[test]
+fn what_cannot_be_read_is_told_so() {
+    build();
+    for program in ["listing", "refusals", "rewrite", "lighter", "replay"] {
+        let folder = std::fs::File::open(top()).expect("a folder");
+        let output =
+            Command::new(top().join("run")).arg(program).stdin(folder).stderr(Stdio::null()).output().expect("./run starts");
+        assert_eq!(lines(&output.stdout), format!("{program}: cannot read standard input\n"));
+        assert_eq!(output.status.code(), Some(REFUSED), "{program}");
+    }
+}
+
+// ---- lighter ----
+
+/// The pairs of the gate: two names a line.
+fn pairs() -> Vec<(String, String)> {
+    let list = std::fs::read_to_string(top().join("crates/lighter/stdin")).expect("the pairs of the gate");
+    let pair = |line: &str| match line.split(' ').collect::<Vec<_>>()[..] {
+        [old, new] if !old.is_empty() && !new.is_empty() => Some((old.to_string(), new.to_string())),
+        _ => None,
+    };
+    let pairs: Vec<_> = list.lines().filter_map(pair).collect();
+    assert!(pairs.len() >= 57, "only {} pairs", pairs.len());
+    pairs
+}
+
+#[test]
+fn lighter_on_the_pairs_of_the_gate() {
+    let folder = top().join("crates/lighter/data");
+    let (mut wanted, mut worst, mut list) = (String::new(), 0, String::new());
+    for (old, new) in pairs() {
+        let (Ok(first), Ok(second)) = (std::fs::read(folder.join(&old)), std::fs::read(folder.join(&new))) else {
+            continue;
+        };
+        let (line, ended) = told(&first, &second);
+        assert_eq!(run_in(&folder, "lighter", &[&old, &new], b"", 1), (line.clone().into_bytes(), ended), "{old} {new}");
+        list += &format!("{old} {new}\n");
+        wanted += &line;
+        worst = worst.max(ended);
+    }
+    assert_eq!(run_in(&folder, "lighter", &[], list.as_bytes(), 7), (wanted.clone().into_bytes(), worst));
+    // The last line's newline may be missing, and the answer is there all the same.
+    assert_eq!(run_in(&folder, "lighter", &[], list.trim_end().as_bytes(), usize::MAX), (wanted.into_bytes(), worst));
+}
+
+/// A name is never cut: a file under the first bytes of another's name is not taken for it.
+#[test]
+fn names_of_any_length() {
+    let folder = std::env::temp_dir().join(format!("livnakesh-names-{}", std::process::id()));
+    std::fs::create_dir_all(&folder).expect("a folder of our own");
+    let examples = top().join("examples/lighter");
+    let name = |length: usize| "n".repeat(length);
+    std::fs::copy(examples.join("desk.plan"), folder.join("desk.plan")).expect("the desk's plan");
+    for length in [80, 200] {
+        let (short, long) = (name(length), name(length + 1));
+        std::fs::copy(examples.join("pulled.plan"), folder.join(&short)).expect("a lighter plan");
+        std::fs::copy(examples.join("jitter.plan"), folder.join(&long)).expect("a plan that is not");
+        let by_list = run_in(&folder, "lighter", &[], format!("desk.plan {long}\n").as_bytes(), usize::MAX);
+        assert_eq!(by_list, (b"run again: 11.2 has a longer jitter\n".to_vec(), RUN_AGAIN));
+        assert_eq!(run_in(&folder, "lighter", &["desk.plan", &long], b"", 1), by_list);
+        std::fs::remove_file(folder.join(long)).expect("it was there");
+        let gone = run_in(&folder, "lighter", &[], format!("desk.plan {}\n", name(length + 1)).as_bytes(), usize::MAX);
+        assert_eq!(gone, (format!("lighter: cannot read {}\n", name(length + 1)).into_bytes(), REFUSED));
+    }
+    std::fs::remove_dir_all(folder).expect("it was ours");
+}
+
+#[test]
+fn a_list_that_is_too_long_or_wrong() {
+    let folder = top().join("examples/lighter");
+    let pair = "desk.plan pulled.plan\n";
+    let (printed, ended) = run_in(&folder, "lighter", &[], pair.repeat(65_536 / pair.len() + 1).as_bytes(), usize::MAX);
+    assert_eq!((lines(&printed).lines().count(), ended), (1, REFUSED), "{}", lines(&printed));
+    assert!(printed.starts_with(b"lighter: "), "{}", lines(&printed));
+    for wrong in
+        ["desk.plan\n", "desk.plan pulled.plan pulled.plan\n", "desk.plan  pulled.plan\n", " desk.plan pulled.plan\n", "\n"]
+    {
+        let (printed, ended) = run_in(&folder, "lighter", &[], format!("{pair}{wrong}{pair}").as_bytes(), usize::MAX);
+        let printed = lines(&printed);
+        let told: Vec<&str> = printed.lines().collect();
+        assert_eq!((told.len(), told[0], told[2], ended), (3, "lighter", "lighter", REFUSED), "{wrong:?}: {printed}");
+        assert!(told[1].starts_with("lighter: line 2: "), "{wrong:?}: {printed}");
+    }
+}
+
+// ---- replay ----
+
+#[test]
+fn replays() {
+    let mut rng = Rng(0x3e91a);
+    let (mut list, mut wanted) = (Vec::new(), Vec::new());
+    for _ in 0..60 {
+        let bits = rng.within(0, 33) as u32;
+        let most = if rng.one_in(8) { u32::MAX } else { u32::MAX.checked_shr(32 - bits.min(32)).unwrap_or(0) };
+        let count = rng.pick(&[0, 1, 2, 3, 5, 20, 128, 129]).min(u64::from(most) + 1) as usize;
+        let mut priorities = rng.distinct(count, most);
+        if rng.one_in(6) && count > 1 {
+            priorities[count - 1] = priorities[0];
+        }
+        let words: Vec<String> = std::iter::once(bits).chain(priorities.iter().copied()).map(|word| word.to_string()).collect();
+        let text = replay(bits, &priorities.into_iter().map(Priority).collect::<Vec<_>>());
+        let ended = if text.starts_with("refused ") { REFUSED } else { ANSWERED };
+        let words: Vec<&str> = words.iter().map(String::as_str).collect();
+        assert_eq!(run("replay", &words, b""), (text.clone().into_bytes(), ended), "{words:?}");
+        list.push(words.join(" "));
+        wanted.push(text);
+    }
+    let (printed, _) = run_in(&top(), "replay", &[], list.join("\n\n").as_bytes(), 3);
+    assert_eq!(lines(&printed), wanted.join("\n"));
+}
+
+// ---- the sham programs of document 01 ----
+
+/// Each differs somewhere from what must be printed, so no such program passes the tests above.
+#[test]
+fn sham_programs_are_seen() {
+    let cases = cases();
+    let seen = |sham: &dyn Fn(&Case) -> Vec<u8>| cases.iter().any(|case| sham(case) != case.shown);
+    // refuses all plans
+    assert!(seen(&|_| b"refused 2 at 0\n".to_vec()));
+    // prints the same bound for all streams of a plan
+    let first_bound = |file: &[u8], words: &mut [u64]| {
+        plain::answers(file, words)?;
+        let bound = words[1];
+        words.chunks_mut(2).for_each(|row| row[1] = bound);
+        Ok(())
+    };
+    assert!(seen(&|case| listing_by(&case.plan, first_bound).into_bytes()));
+    // writes no answers
+    assert!(seen(&|case| listing_by(&case.plan, |file, _| plain::read(file).map(|_| ())).into_bytes()));
+    // prints the same listing, whatever it reads, and copies its input, whatever that is
+    assert!(seen(&|_| cases[0].shown.clone()));
+    assert!(cases.iter().any(|case| case.plan != rewritten(&case.plan)));
+    // a tournament that works at the top bit and then idles: each later bit leaves the marks as they are
+    let idles = |state: &Tournament| {
+        let next = state.step().expect("a state from a start");
+        let marks = if state.phase == Phase::AtBit(1) { next.marks } else { state.marks };
+        Tournament { marks, ..next }
+    };
+    let contenders = [5, 3, 6].map(Priority);
+    assert_ne!(replay_by(4, &contenders, idles), replay(4, &contenders));
+    // what is made here is what the cases have, so the shams above differ by what they are
+    assert!(!seen(&|case| if case.plan.len() < 2_000 && !case.name.contains("slow") {
+        listing(&case.plan).into_bytes()
+    } else {
+        case.shown.clone()
+    }));
+}
