@@ -60,7 +60,8 @@ struct livnakesh_stepped {
 };
 
 /* The answers of a plan file: two words a row in file order, verdict (0 met, 1 missed, 2 none) and then the bound
- * (0 for none). Words after 2n stay as found. Refusals 1 to 6; 6 if fewer than 2n words are lent. value is 0. */
+ * (0 for none). Words after 2n stay as found; n is the word at byte 28 of the file, divided by 24. Refusals 1 to 6; 6 if fewer
+ * than 2n words are lent. value is 0. */
 struct livnakesh_said livnakesh_answers(const uint8_t *file, size_t file_length, uint64_t *words, size_t word_count);
 
 /* Reads a plan file and writes its plan's file at the start of the lent buffer; the rest of the buffer is kept.
