@@ -1,5 +1,5 @@
 -- Each line begins with a letter of its own, and has at most two numbers of ten digits, or a refusal. Assumes nothing.
-use mathlib.Core.Path.{_≡_, refl, sym, ap, _∙_}
+use mathlib.Core.Path.{_≡_, refl, ap}
 use mathlib.Core.List.{List, _++_}
 use Prim.Native.Nat.{ℕ, zero, suc, _+_, _/_, _%_, _≤_}
 use native.Mathlib.Omega.{arith}
@@ -7,9 +7,8 @@ use lib.ListN.{length, getD, length-append}
 use Rattle.names.specs.Limits.{ticks}
 use Rattle.names.specs.declared.Label.{Label}
 use Rattle.ascii.specs.Ascii.{ascii}
-use Rattle.decimal.specs.Decimal.{digits}
 use Rattle.decimal.proofs.Decimal.{few-digits}
-use Rattle.text.specs.Listing.{labelText, refusedOf}
+use Rattle.text.specs.Listing.{labelText}
 use Rattle.text.proofs.Size.{largest-refusal}
 use Rattle.compare.specs.declared.Reason.{Reason}
 use Rattle.compare.specs.declared.Reason.the-variants.{
@@ -27,7 +26,7 @@ use Rattle.compare.specs.declared.Compared.the-variants.{FirstRefused, SecondRe
 use Rattle.compare_files.specs.Files.{comparedFiles}
 use Rattle.compare_files.proofs.Kept.{said-of-files}
 use Rattle.chief.specs.Told.{constant, greater, noise, reason, again, toldAs, toldOf}
-use Rattle.chief.specs.Claims.{ToldLighter, named, Worded, LargestLine}
+use Rattle.chief.specs.Claims.{ToldLighter, named, LargestLine}
 
 -- ---- the first letter
 abbrev letter : List ℕ → ℕ

@@ -2,7 +2,6 @@
 use mathlib.Core.List.{List, [], _∷_, _++_}
 use Prim.Native.Nat.{ℕ}
 use lib.ListN.{getD}
-use Rattle.names.specs.declared.Label.{Label}
 use Rattle.ascii.specs.Ascii.{ascii}
 use Rattle.decimal.specs.Decimal.{digits}
 use Rattle.text.specs.Listing.{labelText, refusedOf}

@@ -16,7 +16,6 @@ use Rattle.fields.specs.Layout as layout
 use Rattle.checks.specs.declared.Checked.{Checked}
 use Rattle.checks.specs.declared.Checked.the-variants.{Fine, Refused}
 use Rattle.checks.proofs.Fine.{fine-if-right}
-use Rattle.file.specs.declared.Written.{Written}
 use Rattle.file.specs.declared.Written.the-variants.{Bytes, Refused as Written·Refused}
 use Rattle.file.specs.File.{fileOf, planIn, sizeRight, readOf}
 use Rattle.file.proofs.Exactly.{refused-number}

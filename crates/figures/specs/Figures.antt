@@ -22,6 +22,7 @@ use Rattle.checks.specs.declared.Checked.{Checked}
 use Rattle.checks.specs.declared.Checked.the-variants.{Fine, Refused}
 use Rattle.checks.specs.Checks.{judge, lines}
 use Rattle.file.specs.File.{fileOf, readOf}
+use Rattle.ascii.specs.Ascii.{ascii}
 use Rattle.text.specs.Listing.{listingOf}
 use Rattle.tournament_state.specs.declared.Phase.{Phase}
 use Rattle.tournament_state.specs.declared.Phase.the-variants.{AtBit, Finished}
@@ -114,21 +115,14 @@ three = true ∷ true ∷ true ∷ []
 abbrev row1 : List Bool
 row1 = false ∷ true ∷ false ∷ []
 
--- the listing that the document prints for P1, in bytes
+-- the listing that the document prints for P1
 abbrev printed : List ℕ
 printed =
-    -- label priority bound deadline verdict
-    108 ∷ 97 ∷ 98 ∷ 101 ∷ 108 ∷ 32 ∷ 112 ∷ 114 ∷ 105 ∷ 111 ∷ 114 ∷ 105 ∷ 116 ∷ 121 ∷ 32
-    ∷ 98 ∷ 111 ∷ 117 ∷ 110 ∷ 100 ∷ 32 ∷ 100 ∷ 101 ∷ 97 ∷ 100 ∷ 108 ∷ 105 ∷ 110 ∷ 101 ∷ 32 ∷ 118 ∷ 101 ∷ 114 ∷ 100 ∷ 105 ∷ 99 ∷ 116 ∷ 10
-    -- 10.1 1 39 60 met
-    ∷ 49 ∷ 48 ∷ 46 ∷ 49 ∷ 32 ∷ 49 ∷ 32 ∷ 51 ∷ 57 ∷ 32 ∷ 54 ∷ 48 ∷ 32 ∷ 109 ∷ 101 ∷ 116 ∷ 10
-    -- 10.10 2 69 120 met
-    ∷ 49 ∷ 48 ∷ 46 ∷ 49 ∷ 48 ∷ 32 ∷ 50 ∷ 32 ∷ 54 ∷ 57 ∷ 32 ∷ 49 ∷ 50 ∷ 48 ∷ 32 ∷ 109 ∷ 101 ∷ 116 ∷ 10
-    -- 11.2 3 68 200 met
-    ∷ 49 ∷ 49 ∷ 46 ∷ 50 ∷ 32 ∷ 51 ∷ 32 ∷ 54 ∷ 56 ∷ 32 ∷ 50 ∷ 48 ∷ 48 ∷ 32 ∷ 109 ∷ 101 ∷ 116 ∷ 10
-    ∷ []
+    ascii "label priority bound deadline verdict\n"
+    ++ ascii "10.1 1 39 60 met\n"
+    ++ ascii "10.10 2 69 120 met\n"
+    ++ ascii "11.2 3 68 200 met\n"
 
--- the columns of a row: its number, C'', L, Q, w(q) with what q alone gives, the answer
 abbrev pub table : List Entry
 table =
     -- base constants: V = 8 and U = 10

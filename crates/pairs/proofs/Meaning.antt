@@ -3,7 +3,7 @@
 use mathlib.Core.Path.{_≡_, refl, sym, ap, ap₂, _∙_}
 use mathlib.Core.Bool.{Bool, true, false, cond, not, _&&_, true≢false}
 use mathlib.Core.List.{List, [], _∷_, _++_, append-assoc, append-nil}
-use Prim.Native.Nat.{ℕ, zero, suc, _+_, _-_, _≤_, _<_, min}
+use Prim.Native.Nat.{ℕ, suc, _+_, _-_, _≤_, _<_, min}
 use native.Mathlib.Numerals.{add-one}
 use native.Mathlib.Decide.{decLe}
 use native.Mathlib.Nat.{lt-of-not-le}
@@ -14,7 +14,6 @@ use lib.ListN.{length, take, drop, length-append, length-drop, take-append-drop}
 use lib.Seq.{drop-append-seam, drop-append-add, take-append-seam, take-all, drop-drop}
 use Rattle.laws.proofs.Tests.{both}
 use Rattle.pairs.specs.declared.Part.{Part}
-use Rattle.pairs.specs.declared.Line.{Line}
 use Rattle.pairs.specs.declared.Line.the-variants.{Names, Wrong, Over}
 use Rattle.pairs.specs.Pairs.{space, newline, before, free, lineFrom, nextLine, firstName, secondName, twoNames, part, lineAs, lineOf}
 use Rattle.pairs.specs.Claims.{bytesOf, Name, ReadsItsNames, ReadsItsLast, Two, OnlyTwoNames, Ordered, InOrder, WrongGoesOn, GoesOn, ends, stops, NothingPassedOver, OverAtTheEnd}

@@ -1,12 +1,12 @@
 -- How many bytes a replay has at most: each line by its parts, each part by its digits. Assumes nothing.
-use mathlib.Core.Path.{_≡_, refl, sym, ap, _∙_}
+use mathlib.Core.Path.{_≡_, refl}
 use mathlib.Core.Bool.{Bool, true, false, not, _&&_, cond}
 use native.Mathlib.Decide.{decLe}
 use mathlib.Core.List.{List, [], _∷_, _++_, map}
 use Prim.Native.Nat.{ℕ, zero, suc, _+_, _*_, _^_, _≤_, _<_}
-use native.Mathlib.Nat.{lt-of-not-le, zero-add, suc-mul, mul-le-mul-right}
+use native.Mathlib.Nat.{lt-of-not-le, suc-mul, mul-le-mul-right}
 use native.Mathlib.Omega.{arith}
-use borrow.Author.Tests.{le-leb, leb-true}
+use borrow.Author.Tests.{leb-true}
 use lib.Dec.{leb}
 use lib.ListN.{length, getD, take, length-append, length-take, length-map}
 use Rattle.names.specs.declared.Priority.{Priority}
@@ -24,7 +24,6 @@ use Rattle.repeats.proofs.Rows.{finds-lowest}
 use Rattle.repeats.proofs.Repeats.{at-the-lowest}
 use Rattle.decimal.specs.Decimal.{digitsOf, digits}
 use Rattle.decimal.proofs.Decimal.{few-digits}
-use Rattle.text.specs.declared.Put.the-variants.{At}
 use Rattle.text.specs.Listing.{refusedOf}
 use Rattle.text.proofs.Size.{largest-refusal}
 use Rattle.tournament_state.specs.declared.Phase.{Phase}
@@ -41,7 +40,7 @@ use Rattle.tournament_laws.proofs.Start.{kept, unused-at-start}
 use Rattle.replay_screen.specs.Words as word
 use Rattle.replay_screen.specs.Shown.{marked, gone, spaced, rowsText, carrierText, bitLine, bitLines, winsLine, winnerLine, playedOf, shownBy, shownOf}
 use Rattle.replay_screen.specs.Private.{Begun}
-use Rattle.replay_screen.specs.Claims.{mostRows, mostOfBit, mostOfWinner, mostShown, LargestShown, NeverFull, MostIs}
+use Rattle.replay_screen.specs.Claims.{mostRows, mostOfBit, mostOfWinner, mostShown, LargestShown, MostIs}
 use Rattle.replay_screen.proofs.Play.{priority-in, judged-steps, begun-of-done}
 
 -- ---- the rows
@@ -180,10 +179,6 @@ largest-shown NB n places l = by-answer (verdictOf NB n places (AtBit 1)) refl
     by-answer : (a : Answer) → verdictOf NB n places (AtBit 1) ≡ a → length (shownBy (outcome a nobody (begunOf NB n places) .answer) (outcome a nobody (begunOf NB n places) .tournament)) ≤ mostShown
     by-answer Done e = played-size (begunOf NB n places) (begun-of-done NB n places (l .long) e) (begun-small NB n places (omega (arith, done-limits NB n places (AtBit 1) e .few, l .long)) (l .small))
     by-answer (Refused r) e = refused-size r (rw e at (small-verdict NB n places (l .long)))
-
-pub never-full : NeverFull
-never-full NB n places buffer l h =
-    rw (le-leb (0 + length (shownOf NB n places)) (length buffer) (omega (arith, largest-shown NB n places l))) (ap At (zero-add _))
 
 pub most-is : MostIs
 unfolding spaced rows digits digitsOf

@@ -7,8 +7,6 @@ use lib.ListN.{length, getD}
 use Rattle.names.specs.declared.Priority.{Priority}
 use Rattle.names.specs.Limits.{contenders, bits, ticks}
 use Rattle.laws.specs.Lists.{rows}
-use Rattle.text.specs.declared.Put.the-variants.{At}
-use Rattle.text.specs.Put.{put}
 use Rattle.tournament_state.specs.declared.Answer.the-variants.{Done}
 use Rattle.tournament_state.specs.Refusals.{none}
 use Rattle.tournament_state.specs.Meaning.{at}
@@ -51,12 +49,6 @@ pub record Lent (places : List Priority) : Type 0 where
 abbrev pub LargestShown : Type 0
 LargestShown = (NB n : ℕ) (places : List Priority) → Lent places → length (shownOf NB n places) ≤ mostShown
 
--- .. so a buffer of that length is never too small, ..
-abbrev pub NeverFull : Type 0
-NeverFull =
-    (NB n : ℕ) (places : List Priority) (buffer : List ℕ) → Lent places → mostShown ≤ length buffer
-    → put buffer 0 (shownOf NB n places) .0 ≡ At (length (shownOf NB n places))
-
--- .. and it has 27,270 bytes
+-- .. and that is 27,270 bytes
 abbrev pub MostIs : Type 0
 MostIs = mostShown ≡ 27270

@@ -2,7 +2,6 @@
 use mathlib.Core.Path.{_≡_}
 use mathlib.Core.Bool.{Bool, true, false}
 use lib.ListN.{length}
-use Rattle.names.specs.declared.Refusal.{Refusal}
 use Rattle.names.specs.Limits.{contenders}
 use Rattle.tournament_state.specs.declared.Phase.the-variants.{AtBit}
 use Rattle.tournament_state.specs.declared.Tournament.{Tournament}

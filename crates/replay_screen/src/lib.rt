@@ -1,12 +1,12 @@
 // What the replay screen shows of a tournament: a line for each bit, and the winner in the last line, or the line of a refusal.
 //
-// Each public function answers for every input, and its contract fixes each byte of the lent buffer. Nothing is assumed.
+// The one public function answers for every input, and its contract fixes each byte of the lent buffer. Nothing is assumed.
 // This crate must not know the rule of the tournament, nor of input and output.
 ghost use mathlib.Core.Path.{_≡_};
 ghost use mathlib.Core.Bool.{_||_, _&&_, not, cond};
 ghost use mathlib.Core.List.{[], _++_};
 ghost use lib.ListN.{getD};
-ghost use Rattle.text.specs.Put.{Lays, Puts};
+ghost use Rattle.text.specs.Put.{Lays};
 ghost use Rattle.decimal.specs.Decimal.{digits};
 ghost use Rattle.tournament_state.specs.Refusals.{none as Refusals·none};
 ghost use Rattle.tournament.specs.Answers.{carrierOf};
@@ -17,7 +17,6 @@ ghost use Rattle.replay_screen.specs.Private.{Begun, isHeard};
 use names::CONTENDERS;
 use names::Priority;
 use names::Row;
-use text::Put;
 use text::lay_number;
 use text::lay_refusal;
 use text::lay_text;
@@ -199,16 +198,4 @@ pub fn lay_shown(
         Answer::Done => lay_played(out, at, begun.tournament),
         Answer::Refused(no) => lay_refusal(out, at, no),
     }
-}
-
-// The same, at the start of the buffer, whole or not at all.
-pub fn show(bits: u32, count: usize, priorities: [Priority; CONTENDERS], out: &mut [u8]) -> Put
-    ensures { λ r. ⌜ Puts (now (out .entry)) 0 (shownOf bits count priorities) r (now (out .exit)) ⌝ }
-{
-    let size = out.len();
-    let bytes = lay_shown(out, size, bits, count, priorities) - size;
-    if size < bytes {
-        return Put::Full;
-    }
-    Put::At(lay_shown(out, 0, bits, count, priorities))
 }

@@ -8,10 +8,9 @@ use native.Mathlib.Omega.{arith}
 use borrow.Author.Tests.{le-leb, leb-true}
 use lib.Dec.{leb, eqb}
 use lib.ListN.{length, getD, take, drop, replicate, length-append, length-take, length-replicate}
-use Rattle.names.specs.declared.Priority.{Priority}
 use Rattle.names.specs.Limits.{contenders, ticks}
 use Rattle.laws.specs.Lists.{placed}
-use Rattle.decimal.specs.Decimal.{valueOf, digits}
+use Rattle.decimal.specs.Decimal.{valueOf}
 use Rattle.decimal.proofs.Decimal.{few-digits}
 use Rattle.text.specs.declared.Put.the-variants.{At}
 use Rattle.text.specs.Put.{lastPlace}
@@ -20,7 +19,7 @@ use Rattle.tournament_state.specs.Meaning.{at}
 use Rattle.replay_screen.specs.Claims.{mostShown, Lent}
 use Rattle.replay_screen.specs.Shown.{shownOf}
 use Rattle.replay_screen.proofs.Size.{largest-shown}
-use Rattle.replay_words.specs.Words.{parts, ended, wordsAfter, wordsOf, allDigits, isNumber, numberOf, wrongFrom, placesOf, usage, word, isNone, wrongLine, replayOf}
+use Rattle.replay_words.specs.Words.{parts, ended, wordsAfter, wordsOf, allDigits, isNumber, numberOf, wrongFrom, placesOf, usage, word, wrongLine, replayOf}
 use Rattle.replay_words.specs.Claims.{NeverFull}
 use Rattle.replay_words.proofs.Words.{asPriority}
 

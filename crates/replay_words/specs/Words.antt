@@ -7,6 +7,7 @@ use lib.ListN.{length, getD, drop}
 use Rattle.names.specs.declared.Priority.{Priority}
 use Rattle.names.specs.Limits.{contenders, ticks}
 use Rattle.laws.specs.Lists.{placed}
+use Rattle.ascii.specs.Ascii.{ascii}
 use Rattle.decimal.specs.Decimal.{digit, digits, valueOf}
 use Rattle.tournament_state.specs.Refusals.{none}
 use Rattle.replay_screen.specs.Shown.{shownOf}
@@ -52,21 +53,14 @@ wrongFrom k (word ∷ words) = cond (isNumber word) (wrongFrom (suc k) words) k
 unfoldable pub placesOf : List (List ℕ) → List Priority
 placesOf words = placed contenders none (map (λ word. record { 0 = numberOf word }) (drop 1 words))
 
--- "usage: replay BITS PRIORITY..", a line
 abbrev pub usage : List ℕ
-usage =
-    117 ∷ 115 ∷ 97 ∷ 103 ∷ 101 ∷ 58 ∷ 32 ∷ 114 ∷ 101 ∷ 112 ∷ 108 ∷ 97 ∷ 121 ∷ 32 ∷ 66 ∷ 73 ∷ 84 ∷ 83 ∷ 32 ∷ 80 ∷ 82 ∷
-    73 ∷ 79 ∷ 82 ∷ 73 ∷ 84 ∷ 89 ∷ 46 ∷ 46 ∷ 10 ∷ []
+usage = ascii "usage: replay BITS PRIORITY..\n"
 
--- "word "
 abbrev pub word : List ℕ
-word = 119 ∷ 111 ∷ 114 ∷ 100 ∷ 32 ∷ []
+word = ascii "word "
 
--- " is no whole number from 0 to 4294967295", the end of a line
 abbrev pub isNone : List ℕ
-isNone =
-    32 ∷ 105 ∷ 115 ∷ 32 ∷ 110 ∷ 111 ∷ 32 ∷ 119 ∷ 104 ∷ 111 ∷ 108 ∷ 101 ∷ 32 ∷ 110 ∷ 117 ∷ 109 ∷ 98 ∷ 101 ∷ 114 ∷ 32 ∷
-    102 ∷ 114 ∷ 111 ∷ 109 ∷ 32 ∷ 48 ∷ 32 ∷ 116 ∷ 111 ∷ 32 ∷ 52 ∷ 50 ∷ 57 ∷ 52 ∷ 57 ∷ 54 ∷ 55 ∷ 50 ∷ 57 ∷ 53 ∷ 10 ∷ []
+isNone = ascii " is no whole number from 0 to 4294967295\n"
 
 -- "word 2 is no whole number from 0 to 4294967295"
 unfoldable pub wrongLine : ℕ → List ℕ

@@ -16,7 +16,7 @@ use Rattle.names.specs.Limits.{contenders}
 use Rattle.laws.specs.Lists.{rows, placed}
 use Rattle.laws.proofs.Lists.{take-min, rows-more, rows-same, rows-take, rows-front, length-rows}
 use Rattle.laws.proofs.Placed.{placedTo, placed-more, placed-all}
-use Rattle.states.specs.States.{byte, marksInto, mark, marksFrom, goesOut, kept, markedOut}
+use Rattle.states.specs.States.{byte, marksInto, mark, marksFrom, goesOut, markedOut}
 
 -- places filled with f of what is lent, one more, and at the end
 module _ {A : Type 0} (f : ℕ → A) (xs : List ℕ) where
@@ -81,6 +81,9 @@ module _ (f : ℕ → ℕ) (l : List ℕ) where
       s ∙ laid-all d (k + 1) (omega arith) (λ i g j. h i (omega arith) j)
 
 -- a byte that stays, and one that does not
+abbrev kept : Bool → ℕ → ℕ
+kept m b = cond m b 0
+
 kept-is : (m : Bool) (b : ℕ) → kept m b ≡ cond (mark b && not m) 0 b
 kept-is true b = go (mark b)
   where

@@ -53,7 +53,3 @@ goesOut marks found i = mark (getD found i 0) && not (getD marks i false)
 -- the lent bytes after a step: 0 for each contender that goes out, and every other byte as found
 unfoldable pub markedOut : ℕ → List Bool → List ℕ → List ℕ
 markedOut n marks found = rows (length found) (λ i. cond (ltb i (min n contenders) && goesOut marks found i) 0 (getD found i 0))
-
--- the byte of a contender by its mark: in keeps it, out makes it 0
-abbrev pub kept : Bool → ℕ → ℕ
-kept isIn b = cond isIn b 0

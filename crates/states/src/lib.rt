@@ -4,8 +4,9 @@
 // lent bytes end with. Nothing is checked here: a wrong state is refused by the tournament. Nothing is assumed. This crate must
 // not know how a bit is played.
 ghost use mathlib.Core.Path.{_≡_};
+ghost use mathlib.Core.Bool.{cond};
 ghost use Rattle.states.specs.States.{prioritiesFrom, marksFrom, phaseFrom, stateFrom, marksInto, markedOut};
-ghost use Rattle.states.specs.States.{byte as States·byte, kept as States·kept};
+ghost use Rattle.states.specs.States.{byte as States·byte};
 use laws::smaller;
 use names::CONTENDERS;
 use names::Priority;
@@ -77,8 +78,9 @@ pub fn marks_into(marks: [bool; CONTENDERS], out: &mut [u8])
     }
 }
 
+// The byte of a contender that is still in stays, whatever it is.
 fn kept(mark: bool, byte: u8) -> u8
-    ensures { λ r. ⌜ r ≡ States·kept mark byte ⌝ }
+    ensures { λ r. ⌜ r ≡ cond mark byte 0 ⌝ }
 {
     if mark { byte } else { 0 }
 }

@@ -4,11 +4,10 @@ use mathlib.Core.List.{List, [], _∷_, _++_}
 use Prim.Native.Nat.{ℕ, suc, _/_, _%_, _<_}
 use native.Mathlib.Omega.{arith}
 use lib.ListN.{length, getD, drop}
-use Rattle.names.specs.declared.Label.{Label}
 use Rattle.decimal.specs.Decimal.{digits, valueOf}
 use Rattle.decimal.proofs.Decimal.{value-of-digits, digits-are-numeral}
 use Rattle.text.specs.Words as word
-use Rattle.text.specs.Listing.{group, labelText}
+use Rattle.text.specs.Listing.{group}
 use Rattle.text.specs.Claims.{LabelsApart}
 
 -- every byte is above the point

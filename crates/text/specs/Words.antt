@@ -1,6 +1,7 @@
 -- The words of the listing, in bytes.
-use mathlib.Core.List.{List, [], _∷_}
+use mathlib.Core.List.{List}
 use Prim.Native.Nat.{ℕ}
+use Rattle.ascii.specs.Ascii.{ascii}
 
 -- " "
 abbrev pub space : ℕ
@@ -14,46 +15,35 @@ point = 46
 abbrev pub newline : ℕ
 newline = 10
 
--- "label"
 abbrev pub label : List ℕ
-label = 108 ∷ 97 ∷ 98 ∷ 101 ∷ 108 ∷ []
+label = ascii "label"
 
--- "priority"
 abbrev pub priority : List ℕ
-priority = 112 ∷ 114 ∷ 105 ∷ 111 ∷ 114 ∷ 105 ∷ 116 ∷ 121 ∷ []
+priority = ascii "priority"
 
--- "bound"
 abbrev pub bound : List ℕ
-bound = 98 ∷ 111 ∷ 117 ∷ 110 ∷ 100 ∷ []
+bound = ascii "bound"
 
--- "deadline"
 abbrev pub deadline : List ℕ
-deadline = 100 ∷ 101 ∷ 97 ∷ 100 ∷ 108 ∷ 105 ∷ 110 ∷ 101 ∷ []
+deadline = ascii "deadline"
 
--- "verdict"
 abbrev pub verdict : List ℕ
-verdict = 118 ∷ 101 ∷ 114 ∷ 100 ∷ 105 ∷ 99 ∷ 116 ∷ []
+verdict = ascii "verdict"
 
--- "met"
 abbrev pub met : List ℕ
-met = 109 ∷ 101 ∷ 116 ∷ []
+met = ascii "met"
 
--- "missed"
 abbrev pub missed : List ℕ
-missed = 109 ∷ 105 ∷ 115 ∷ 115 ∷ 101 ∷ 100 ∷ []
+missed = ascii "missed"
 
--- "none"
 abbrev pub none : List ℕ
-none = 110 ∷ 111 ∷ 110 ∷ 101 ∷ []
+none = ascii "none"
 
--- "-"
 abbrev pub dash : List ℕ
-dash = 45 ∷ []
+dash = ascii "-"
 
--- "refused"
 abbrev pub refused : List ℕ
-refused = 114 ∷ 101 ∷ 102 ∷ 117 ∷ 115 ∷ 101 ∷ 100 ∷ []
+refused = ascii "refused"
 
--- "at"
 abbrev pub at : List ℕ
-at = 97 ∷ 116 ∷ []
+at = ascii "at"

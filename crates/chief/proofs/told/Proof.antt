@@ -1,5 +1,5 @@
 -- Laid past the end the line is measured; then it is laid at the start, or not at all. What it says is what the files' answer is. Assumes nothing.
-use mathlib.Core.Path.{_≡_, sym, ap}
+use mathlib.Core.Path.{_≡_, ap}
 use native.Mathlib.Omega.{arith}
 use denote.Ref.{now}
 use Rattle.text.proofs.Laying.{is, put-full, put-at}

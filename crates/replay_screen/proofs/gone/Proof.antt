@@ -4,7 +4,7 @@ use mathlib.Core.Bool.{Bool, false, not, _&&_}
 use mathlib.Core.List.{_++_, append-nil}
 use Prim.Native.Nat.{ℕ, _-_, _≤_}
 use native.Mathlib.Omega.{arith}
-use lib.ListN.{getD, replicate, set}
+use lib.ListN.{getD, replicate}
 use Rattle.names.specs.Limits.{contenders}
 use Rattle.laws.specs.Lists.{rows}
 use Rattle.laws.proofs.Lists.{lay-more}

@@ -1,5 +1,4 @@
 -- A word that has begun is over. Assumes nothing.
-use mathlib.Core.Path.{refl}
 use Rattle.replay_words.specs.Private.{closed}
 use borrow.Author.Needs.{needs}
 use Rattle.replay_words.proofs.closed_if.Statement.{statement}

@@ -1,13 +1,12 @@
 -- The loop leaves at the first place before which a tournament's text is over. Assumes nothing.
 use mathlib.Core.Path.{_≡_, refl, sym, ap, _∙_}
-use mathlib.Core.Bool.{Bool, _&&_, _||_, not}
+use mathlib.Core.Bool.{Bool, _&&_}
 use mathlib.Core.List.{List}
 use Prim.Native.Nat.{ℕ, _-_, _≤_}
 use native.Mathlib.Omega.{arith}
 use lib.Dec.{leb}
 use lib.ListN.{length, getD, take}
 use Rattle.repeats.proofs.Rows.{NoneBelow, none-yet, none-more, found-at, found-none}
-use Rattle.replay_words.specs.Words.{parts}
 use Rattle.replay_words.specs.Parts.{hasWord, endsWith, endsAfter, over, orAll, firstEnd}
 use Rattle.replay_words.proofs.Parts.{has-more, ends-more, ends-few}
 use borrow.Author.Needs.{needs}

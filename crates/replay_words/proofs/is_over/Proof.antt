@@ -2,7 +2,6 @@
 use mathlib.Core.Path.{sym}
 use mathlib.Core.Bool.{and-true, and-false}
 use borrow.Author.Tests.{le-leb, lt-leb}
-use borrow.Author.Needs.{needs}
 use Rattle.replay_words.proofs.is_over.Statement.{statement}
 use Rattle.replay_words.proofs.is_over.Tie as tie
 

@@ -4,7 +4,6 @@ use Rattle.laws.specs.Lists.{placed}
 use Rattle.decimal.specs.Decimal.{valueFrom}
 use Rattle.replay_words.specs.Words.{allDigits, isNumber, numberOf, wrongFrom, placesOf}
 use Rattle.replay_words.specs.Private.{soFar, readOf}
-use borrow.Author.Needs.{needs}
 use Rattle.replay_words.proofs.nothing.Statement.{statement}
 use Rattle.replay_words.proofs.nothing.Tie as tie
 
