@@ -3,7 +3,7 @@
  * A refusal hands back document 01's number and place, and leaves lent memory as it was. Rows count from 0.
  *
  * Every call returns, but livnakesh_answers and livnakesh_screen can take minutes: most plans take well under a millisecond, and
- * the slowest that are known 190 seconds. All other calls look at what they are lent once or a few times over. */
+ * the slowest that are known more than three minutes. All other calls look at what they are lent once or a few times over. */
 #ifndef LIVNAKESH_H
 #define LIVNAKESH_H
 
