@@ -1,41 +1,41 @@
 -- Lent terms within the limits: the theory's conditions hold, and every number fits its word. The bounds hold with room for 256 streams. Assumes nothing.
 use mathlib.Core.Path.{_≡_}
 use mathlib.Core.Bool.{true}
+use mathlib.Core.List.{List}
 use Prim.Native.Nat.{ℕ, _+_, _-_, _*_, _^_, _≤_, _<_}
 use native.Mathlib.Nat.{le-trans, zero-mul, mul-le-mul, mul-le-mul-right}
 use native.Mathlib.Omega.{arith}
 use lib.Dec.{T, leb}
 use lib.ListN.{getD}
-use borrow.Author.Tests.{leb-true, le-leb, eqb-true, eq-eqb}
+use borrow.Author.Tests.{leb-true, ltb-true, eqb-true}
 use Rattle.names.specs.Limits.{sources, ticks}
 use Rattle.laws.specs.Lists.{ceil, sumOf}
 use Rattle.laws.proofs.Round.{ceil-le}
-use Rattle.laws.proofs.Lists.{sum-rows, sumTo-at-most, every-each, every-all}
+use Rattle.laws.proofs.Lists.{sum-rows, sumTo-at-most, every-each}
 use Rattle.laws.proofs.Tests.{both}
 use Rattle.bound.specs.Terms as Terms
 use Rattle.bound.specs.Bound.{E, demand, sideL}
 use Rattle.bound.specs.Claims.{Sound}
 use Rattle.bound.proofs.Sides.{demand-own}
 use Rattle.analysis.specs.declared.Gathered.{Gathered}
-use Rattle.analysis.specs.Gathered.{Lent, termsOf, shareAt, gapAt, cost, shareFits, sourceFits, rowFits, fits}
-use Rattle.analysis.specs.Stairs.{Share, Row, Fit, ownL, restL, aloneTerms}
+use Rattle.analysis.specs.Gathered.{Lent, termsWith, termsOf, shareAt, gapAt, cost, shareFits, sourceFits, rowFits, fits}
+use Rattle.analysis.specs.private.Chains.{ownL, restL, aloneTerms}
+use Rattle.analysis.specs.private.Fit.{FitShare, FitRow, Fit}
 
-pub fit-sound : (t : Lent) → Row (t .row) → Sound (termsOf t)
-fit-sound t f = record { period = f .own .some; late = f .late; ends = f .ends; last = f .last }
-
-pub alone-sound : (g : Gathered) → Row g → Sound (aloneTerms g)
-alone-sound g f = record { period = f .own .some; late = f .late; ends = f .ends; last = f .last }
+-- the theory's conditions are of a row's own terms alone
+pub fit-sound : (g : Gathered) (shares : List Terms.Share) (gaps : List ℕ) → FitRow g → Sound (termsWith g shares gaps)
+fit-sound g shares gaps f = record { period = f .own .some; late = f .late; ends = f .ends; last = f .last }
 
 -- one stream's part, up to 4,294,967,295
 most : ℕ
 most = (ticks + ticks) * cost
 
-part : (C T J x : ℕ) → Share C T J → x ≤ ticks → ceil (x + J) T * C ≤ most
+part : (C T J x : ℕ) → FitShare C T J → x ≤ ticks → ceil (x + J) T * C ≤ most
 unfolding most
 part C T J x s h = mul-le-mul {n₂ = ticks + ticks} {m₂ = cost} (le-trans (ceil-le (x + J) T (s .some)) (omega (arith, s .jitter))) (s .cost)
 
 -- B and i's own part
-pub alone-fits : (g : Gathered) → Row g → (x : ℕ) → x ≤ ticks → g .blocking + ownL g x < 2 ^ 64
+pub alone-fits : (g : Gathered) → FitRow g → (x : ℕ) → x ≤ ticks → g .blocking + ownL g x < 2 ^ 64
 unfolding most
 alone-fits g f x h = omega (arith, part (g .cost) (g .period) (g .jitter) x (f .own) h, f .blocking)
 
@@ -45,8 +45,8 @@ sideL-fits t f x h =
     let g = t .row in
     let d : demand (termsOf t .urgent) x ≤ g .urgent * most = le-trans (le-of-eq (sum-rows _ (g .urgent) (shareAt t))) (sumTo-at-most _ most (g .urgent) (λ k p. part (getD (t .costs) k 0) (getD (t .periods) k 0) (getD (t .jitters) k 0) x (f .urgent k p) h)) in
     let hits : sumOf (λ N. ceil x N) (termsOf t .gaps) ≤ g .sources * ticks = le-trans (le-of-eq (sum-rows _ (g .sources) (gapAt t))) (sumTo-at-most _ ticks (g .sources) (λ k p. le-trans (ceil-le x (gapAt t k) (f .some-gap k p)) h)) in
-    let e : E (termsOf t) x ≤ 8 * ticks * cost = mul-le-mul (le-trans hits (mul-le-mul-right ticks (f .quiet))) (f .row .hit) in
-    omega (arith, demand-own (termsOf t .own) (termsOf t .urgent) x, part (g .cost) (g .period) (g .jitter) x (f .row .own) h, d, mul-le-mul-right most (f .few), e, f .row .blocking)
+    let e : E (termsOf t) x ≤ sources * ticks * cost = mul-le-mul (le-trans hits (mul-le-mul-right ticks (f .row .quiet))) (f .row .hit) in
+    omega (arith, demand-own (termsOf t .own) (termsOf t .urgent) x, part (g .cost) (g .period) (g .jitter) x (f .row .own) h, d, mul-le-mul-right most (f .row .few), e, f .row .blocking)
   where
     le-of-eq : {a b : ℕ} → a ≡ b → a ≤ b
     le-of-eq e = omega arith
@@ -62,7 +62,7 @@ unfolding sideL demand E sumOf
 sideL-alone g x = omega (arith, zero-mul (g .hit))
 
 -- ---- the test of the limits, taken apart
-share-known : (j : Terms.Share) → shareFits j ≡ true → Share (j .C″) (j .T) (j .J)
+share-known : (j : Terms.Share) → shareFits j ≡ true → FitShare (j .C″) (j .T) (j .J)
 share-known j e =
     let (e3, d) = both _ _ e in
     let (e2, c) = both _ _ e3 in
@@ -75,10 +75,12 @@ source-known hit each N e =
     let (a, b) = both (leb 1 N) (leb N ticks) e2 in
     (leb-true _ _ a, leb-true _ _ b, eqb-true _ _ c)
 
-row-known : (g : Gathered) → rowFits g ≡ true → Row g
+pub row-known : (g : Gathered) → rowFits g ≡ true → FitRow g
 unfolding rowFits
 row-known g e =
-    let (e5, own) = both _ _ e in
+    let (e7, own) = both _ _ e in
+    let (e6, quiet) = both _ _ e7 in
+    let (e5, few) = both _ _ e6 in
     let (e4, last) = both _ _ e5 in
     let (e3, ends) = both _ _ e4 in
     let (e2, late) = both _ _ e3 in
@@ -86,54 +88,25 @@ row-known g e =
     record {
       blocking = leb-true _ _ blocking;
       hit = leb-true _ _ hit;
-      late = leb-true _ _ late;
+      late = omega (arith, ltb-true (g .late) (g .cost) late);
       ends = leb-true _ _ ends;
       last = leb-true _ _ last;
       own = share-known _ own;
+      few = leb-true _ _ few;
+      quiet = leb-true _ _ quiet;
     }
 
 pub fit-known : (t : Lent) → fits t ≡ true → Fit t
 unfolding fits
 fit-known t e =
-    let (e4, each) = both _ _ e in
-    let (e3, quiet) = both _ _ e4 in
-    let (e2, urgent) = both _ _ e3 in
-    let (row, few) = both _ _ e2 in
+    let (e2, each) = both _ _ e in
+    let (row, urgent) = both _ _ e2 in
     let source : (k : ℕ) → k < t .row .sources → (1 ≤ gapAt t k) × (gapAt t k ≤ ticks) × (getD (t .costs) (t .row .urgent + k) 0 ≡ t .row .hit) =
     λ k h. source-known _ _ _ (every-each _ (t .row .sources) each k h) in
     record {
       row = row-known (t .row) row;
-      few = leb-true _ _ few;
       urgent = λ k h. share-known _ (every-each _ (t .row .urgent) urgent k h);
-      quiet = leb-true _ _ quiet;
       some-gap = λ k h. source k h .0;
       gap = λ k h. source k h .1;
       each = λ k h. source k h .2;
     }
-
--- ---- and shown
-share-shown : (C T J : ℕ) → Share C T J → shareFits (record { C″ = C; T = T; J = J }) ≡ true
-share-shown C T J s = simp (le-leb _ _ (s .cost), le-leb _ _ (s .some), le-leb _ _ (s .period), le-leb _ _ (s .jitter))
-
-row-shown : (g : Gathered) → Row g → rowFits g ≡ true
-unfolding rowFits
-row-shown g f =
-    simp (
-      le-leb _ _ (f .blocking),
-      le-leb _ _ (f .hit),
-      le-leb _ _ (f .late),
-      le-leb _ _ (f .ends),
-      le-leb _ _ (f .last),
-      share-shown _ _ _ (f .own),
-    )
-
-pub fit-shown : (t : Lent) → Fit t → fits t ≡ true
-unfolding fits
-fit-shown t f =
-    simp (
-      row-shown _ (f .row),
-      le-leb _ _ (f .few),
-      every-all _ (t .row .urgent) (λ k h. share-shown _ _ _ (f .urgent k h)),
-      le-leb _ _ (f .quiet),
-      every-all (λ k. sourceFits (t .row .hit) (getD (t .costs) (t .row .urgent + k) 0) (gapAt t k)) (t .row .sources) (λ k h. simp (le-leb _ _ (f .some-gap k h), le-leb _ _ (f .gap k h), eq-eqb _ _ (f .each k h))),
-    )

@@ -1,6 +1,6 @@
-pub mod Stairs
-pub mod Kept
+pub mod Climbing
+pub mod Starts
 pub mod Fit
+pub mod Chains
 pub mod Waits
-pub mod Laying
 pub mod Unique

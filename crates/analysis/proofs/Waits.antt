@@ -1,6 +1,6 @@
 -- The searches for w(q) climb once: each may start where the one before ended, and C'' further on. Assumes nothing.
 use mathlib.Core.Path.{_≡_, refl, sym, ap, _∙_, subst}
-use mathlib.Core.List.{List}
+use mathlib.Core.List.{List, []}
 use Prim.Native.Nat.{ℕ, suc, _+_, _-_, _*_, _^_, _≤_, _<_}
 use native.Mathlib.Nat.{le-trans, suc-mul, mul-suc, zero-mul, mul-le-mul-left, lt-of-not-le}
 use native.Mathlib.Decide.{decLe}
@@ -23,26 +23,25 @@ use Rattle.bound.proofs.Largest.{some-instance, first-term, bound-is-largest}
 use Rattle.bound.proofs.Instances.{room, settles, w-exists, w-rises, sideW-suc}
 use Rattle.analysis.specs.declared.Gathered.{Gathered}
 use Rattle.analysis.specs.Gathered.{Lent, termsOf}
-use Rattle.analysis.specs.Stairs.{side, restW, aloneTerms, Row, Kept, Bounded, Settled}
-use Rattle.analysis.proofs.Fit.{alone-sound, sideL-alone}
+use Rattle.analysis.specs.private.Chains.{side, restW, aloneTerms, MakesUp, RestKept, Bounded, Settled}
+use Rattle.analysis.specs.private.Fit.{FitRow}
+use Rattle.analysis.proofs.Fit.{fit-sound, sideL-alone}
+use Rattle.analysis.proofs.Chains.{kept-start, kept-up}
 
 -- w(q)'s right side is B + q × C'' and the rest
 sideW-parts : (r : Terms) (q x : ℕ) → sideW r q x ≡ r .B + q * r .own .C″ + restW r x
 unfolding sideW
 sideW-parts r q x = omega arith
 
-module _ (r : Terms) (s : Sound r) (L : ℕ) (b : busy r ≡ At L) where
-  -- the search for w(0) starts at 0
-  pub first-from : (0 ≤ w r 0) × (0 ≤ sideW r 0 0)
-  first-from = (omega arith, omega arith)
+-- what a search for w(q) starts from: the right side from there on, and that neither w(q) nor the right side is below
+pub record WaitSearch (r : Terms) (L : ℕ) (costs periods edges : List ℕ) (n q base sum from : ℕ) : Type 0 where
+  pub counts : q < Q r L
+  pub based : base ≡ r .B + q * r .own .C″
+  pub kept : RestKept costs periods edges n (restW r) from sum
+  pub low : from ≤ w r q
+  pub rises : from ≤ sideW r q from
 
-  -- the search for w(q + 1) starts at w(q) + C''
-  pub next-from : (q : ℕ) → q + 1 < Q r L → (w r q + r .own .C″ ≤ w r (q + 1)) × (w r q + r .own .C″ ≤ sideW r (q + 1) (w r q + r .own .C″))
-  next-from q h =
-      let c = r .own .C″ in
-      let k = w-exists r s L q b (omega arith) .0 in
-      (w-rises r s L q b h, omega (arith, k .fixed, sideW-suc r q (w r q + c), sideW-mono r q (w r q) (w r q + c) (omega arith)))
-
+module _ {r : Terms} {L : ℕ} (s : Sound r) (b : busy r ≡ At L) where
   -- w(q) is B + q × C'' at least, and within the limit
   pub above-base : (q : ℕ) → q < Q r L → r .B + q * r .own .C″ ≤ w r q
   above-base q h = omega (arith, w-exists r s L q b h .0 .fixed, sideW-parts r q (w r q))
@@ -52,33 +51,54 @@ module _ (r : Terms) (s : Sound r) (L : ℕ) (b : busy r ≡ At L) where
       let l = busy-is-least r L .0 b in
       omega (arith, w-exists r s L q b h .1, l .0, room r s L (l .1 .fixed) (l .1 .above) q h)
 
-  module _ (costs periods edges : List ℕ) (n q base sum x from : ℕ) (h : q < Q r L) (e : base ≡ r .B + q * r .own .C″)
-      (k : Kept costs periods edges n (restW r) x sum) (a : x ≤ from) (f : (from ≤ w r q) × (from ≤ sideW r q from)) where
+  module _ {costs periods edges : List ℕ} {n : ℕ} where
+    -- the search for w(0) starts at 0
+    pub search-first : MakesUp costs periods edges n (restW r) → WaitSearch r L costs periods edges n 0 (r .B) 0 0
+    search-first m =
+        record {
+          counts = some-instance r s L (busy-is-least r L .0 b .1 .above);
+          based = omega (arith, zero-mul (r .own .C″));
+          kept = kept-start costs periods edges n (restW r) 0 m;
+          low = omega arith;
+          rises = omega arith;
+        }
+
+    -- the search for w(q + 1) starts at w(q) + C''
+    pub search-next : (q : ℕ) {base wait : ℕ} → q + 1 < Q r L → base ≡ r .B + q * r .own .C″ → wait ≡ w r q → RestKept costs periods edges n (restW r) wait (wait - base)
+        → WaitSearch r L costs periods edges n (q + 1) (base + r .own .C″) (wait - base) (wait + r .own .C″)
+    search-next q {base} {wait} h e i k =
+        let c = r .own .C″ in
+        record {
+          counts = h;
+          based = omega (arith, ap (λ k. k * c) (add-one q), suc-mul q c);
+          kept = kept-up costs periods edges n (restW r) wait (wait + c) (wait - base) (omega arith) k;
+          low = omega (arith, w-rises r s L q b h);
+          rises = omega (arith, w-exists r s L q b (omega arith) .0 .fixed, sideW-suc r q (wait + c), sideW-mono r q (w r q) (wait + c) (omega arith));
+        }
+
+  module _ {costs periods edges : List ℕ} {n q base sum from : ℕ} (h : WaitSearch r L costs periods edges n q base sum from) where
     agrees : (z : ℕ) → from ≤ z → side costs periods edges n base sum z ≡ sideW r q z
-    agrees z g = omega (arith, k .later z (le-trans a g), sideW-parts r q z)
+    agrees z g = omega (arith, h .based, h .kept .later z g, sideW-parts r q z)
 
     pub bounded : Bounded (side costs periods edges n base sum) from
     bounded =
         let l = busy-is-least r L .0 b in
-        let up : from ≤ L - r .own .C″ = le-trans (f .0) (w-exists r s L q b h .1) in
+        let up : from ≤ L - r .own .C″ = le-trans (h .low) (w-exists r s L q b (h .counts) .1) in
         record {
-          rises = rw (agrees from (omega arith)) (f .1);
+          rises = rw (agrees from (omega arith)) (h .rises);
           top = L - r .own .C″;
           above = up;
           small = omega (arith, l .0);
-          stops = rw (agrees (L - r .own .C″) up) (settles r s L (l .1 .fixed) (l .1 .above) q h);
+          stops = rw (agrees (L - r .own .C″) up) (settles r s L (l .1 .fixed) (l .1 .above) q (h .counts));
         }
 
-    pub is-w : (next : List ℕ) (y : ℕ) → Settled costs periods edges next n base sum from y → y ≡ w r q
-    is-w next y t =
-        least-agrees _ (sideW r q) from y (w r q) agrees (t .least) (least-later (sideW r q) 0 from (w r q) (w-exists r s L q b h .0) (omega arith) (f .0))
+    module _ {next : List ℕ} {y : ℕ} (t : Settled costs periods edges next n base sum from y) where
+      pub is-w : y ≡ w r q
+      is-w =
+          least-agrees _ (sideW r q) from y (w r q) agrees (t .least) (least-later (sideW r q) 0 from (w r q) (w-exists r s L q b (h .counts) .0) (omega arith) (h .low))
 
-    pub goes-on : (next : List ℕ) (y : ℕ) → Settled costs periods edges next n base sum from y → Kept costs periods next n (restW r) y (y - base)
-    goes-on next y t =
-        record {
-          known = t .kept .known;
-          later = λ z g. t .kept .later z g ∙ k .later z (omega (arith, t .least .above));
-        }
+      pub goes-on : RestKept costs periods next n (restW r) y (y - base)
+      goes-on = record { known = t .kept .known; later = λ z g. t .kept .later z g ∙ h .kept .later z (omega (arith, t .least .above)) }
 
 -- as many periods as there are instances before are within L + J
 pub gone-small : (l jitter period q : ℕ) → l ≤ ticks → jitter ≤ ticks → 1 ≤ period → q < ceil (l + jitter) period → q * period < 2 ^ 63
@@ -88,23 +108,19 @@ gone-small l jitter period q a b p h = omega (arith, ceil-room q (l + jitter) pe
 pub term-is : (r : Terms) (q wait : ℕ) → wait ≡ w r q → pos (r .own .J + r .last + wait) -ℤ pos (q * r .own .T) ≡ term r q
 term-is r q wait e = let a : r .own .J + r .last + wait ≡ r .own .J + w r q + r .last = omega arith in ap (λ z. pos z -ℤ pos (q * r .own .T)) a
 
--- the base of one instance more
-pub base-more : (b q c base : ℕ) → base ≡ b + q * c → base + c ≡ b + (q + 1) * c
-base-more b q c base e = omega (arith, ap (λ k. k * c) (add-one q), suc-mul q c)
-
 -- ---- nobody else on the channel
 pub alone-terms : (t : Lent) → t .row .urgent ≡ 0 → t .row .sources ≡ 0 → termsOf t ≡ aloneTerms (t .row)
 unfolding rows
 alone-terms t e d = rw (e, d) refl
 
-module _ (g : Gathered) (f : Row g) (L : ℕ) (b : busy (aloneTerms g) ≡ At L) where
+module _ (g : Gathered) (f : FitRow g) (L : ℕ) (b : busy (aloneTerms g) ≡ At L) where
   abbrev r : Terms
   r = aloneTerms g
 
   -- w(q) = B + q × C''
   alone-w : (q : ℕ) → q < Q r L → w r q ≡ g .blocking + q * g .cost
   unfolding sideW demand E sumOf
-  alone-w q h = omega (arith, w-exists r (alone-sound g f) L q b h .0 .fixed, zero-mul (g .hit))
+  alone-w q h = omega (arith, w-exists r (fit-sound g [] [] f) L q b h .0 .fixed, zero-mul (g .hit))
 
   -- L = B + Q × C'', and Q periods cover L: so C'' is no more than T
   alone-L : g .blocking + Q r L * g .cost ≡ L
@@ -120,7 +136,7 @@ module _ (g : Gathered) (f : Row g) (L : ℕ) (b : busy (aloneTerms g) ≡ At L)
             (omega (
               arith,
               alone-L,
-              some-instance r (alone-sound g f) L (l .above),
+              some-instance r (fit-sound g [] [] f) L (l .above),
               ceil-covers (L + g .jitter) (g .period) (f .own .some),
               mul-le-mul-left {m = suc (g .period)} {n = g .cost} (Q r L) (lt-of-not-le h),
               mul-suc (Q r L) (g .period),
@@ -130,7 +146,7 @@ module _ (g : Gathered) (f : Row g) (L : ℕ) (b : busy (aloneTerms g) ≡ At L)
   -- so no term is above the first
   pub alone-bound : g .jitter + g .blocking + g .last ≡ bound r L
   alone-bound =
-      let s = alone-sound g f in
+      let s = fit-sound g [] [] f in
       let (above, (q, h, e), p) = bound-is-largest r s L b in
       let some = some-instance r s L (busy-is-least r L .0 b .1 .above) in
       let first : g .jitter + w r 0 + g .last ≤ bound r L = leb→le _ _ (subst (λ z. T (leZ z (pos (bound r L)))) (first-term r) (above 0 some)) in

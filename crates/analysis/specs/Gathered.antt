@@ -3,14 +3,18 @@ use mathlib.Core.Bool.{Bool, cond, _&&_}
 use Prim.Native.Nat.{ℕ, _+_}
 use mathlib.Core.List.{List}
 use lib.ListN.{getD}
-use lib.Dec.{leb, eqb}
+use lib.Dec.{leb, ltb, eqb}
 use Rattle.names.specs.Limits.{streams, sources, ticks}
 use Rattle.laws.specs.Lists.{rows, every}
 use Rattle.bound.specs.Terms.{Share, Terms}
 use Rattle.bound.specs.Bound.{answer}
 use Rattle.analysis.specs.declared.Gathered.{Gathered}
 use Rattle.analysis.specs.declared.Answered.{Answered}
-use Rattle.analysis.specs.declared.Answered.the-variants.{Outside, Row}
+use Rattle.analysis.specs.declared.Answered.the-variants.{Outside, Exact}
+
+-- how many costs and periods are lent: a stair for each more urgent stream, and after them one for each noise source
+abbrev pub stairs : ℕ
+stairs = streams + sources
 
 -- a row's own terms, and what is lent beside them
 pub record Lent : Type 0 where
@@ -29,17 +33,21 @@ shareAt t k = record { C″ = getD (t .costs) k 0; T = getD (t .periods) k 0; J 
 abbrev pub gapAt : Lent → ℕ → ℕ
 gapAt t k = getD (t .periods) (t .row .urgent + k) 0
 
-abbrev pub termsOf : Lent → Terms
-termsOf t =
+-- a row's own terms, with the shares of hp(i) and the gaps
+abbrev pub termsWith : Gathered → List Share → List ℕ → Terms
+termsWith g shares gaps =
     record {
-      B = t .row .blocking;
-      own = record { C″ = t .row .cost; T = t .row .period; J = t .row .jitter };
-      urgent = rows (t .row .urgent) (shareAt t);
-      gaps = rows (t .row .sources) (gapAt t);
-      hit = t .row .hit;
-      late = t .row .late;
-      last = t .row .last;
+      B = g .blocking;
+      own = record { C″ = g .cost; T = g .period; J = g .jitter };
+      urgent = shares;
+      gaps = gaps;
+      hit = g .hit;
+      late = g .late;
+      last = g .last;
     }
+
+abbrev pub termsOf : Lent → Terms
+termsOf t = termsWith (t .row) (rows (t .row .urgent) (shareAt t)) (rows (t .row .sources) (gapAt t))
 
 -- a cost is at most 5,000,000, T and N are 1 to 4,294,967,295, J is 0 to that
 abbrev pub cost : ℕ
@@ -48,29 +56,34 @@ cost = 5000000
 abbrev pub shareFits : Share → Bool
 shareFits j = leb (j .C″) cost && leb 1 (j .T) && leb (j .T) ticks && leb (j .J) ticks
 
--- .. and each noise source costs a hit
+-- each noise source costs a hit, and its gap is within the limits
 abbrev pub sourceFits : ℕ → ℕ → ℕ → Bool
 sourceFits hit each N = leb 1 N && leb N ticks && eqb each hit
 
--- a row's own terms are within the limits: V < C'', and the last term is 1 to C''
+-- a row's own terms are within the limits: V < C'', the last term is 1 to C'', and there are not too many streams or sources
 unfoldable pub rowFits : Gathered → Bool
 rowFits g =
     leb (g .blocking) cost
     && leb (g .hit) cost
-    && leb (g .late + 1) (g .cost)
+    && ltb (g .late) (g .cost)
     && leb 1 (g .last)
     && leb (g .last) (g .cost)
+    && leb (g .urgent) streams
+    && leb (g .sources) sources
     && shareFits (record { C″ = g .cost; T = g .period; J = g .jitter })
 
--- the terms are within the limits: so are all costs, periods, jitters and gaps
+-- the shares of hp(i) are within the limits
+abbrev pub sharesFit : Lent → Bool
+sharesFit t = every (t .row .urgent) (λ k. shareFits (shareAt t k))
+
+-- the noise sources, which stand after the streams of hp(i), are within the limits
+abbrev pub sourcesFit : Gathered → List ℕ → List ℕ → Bool
+sourcesFit g costs periods = every (g .sources) (λ k. sourceFits (g .hit) (getD costs (g .urgent + k) 0) (getD periods (g .urgent + k) 0))
+
+-- the terms are within the limits
 unfoldable pub fits : Lent → Bool
-fits t =
-    rowFits (t .row)
-    && leb (t .row .urgent) streams
-    && every (t .row .urgent) (λ k. shareFits (shareAt t k))
-    && leb (t .row .sources) sources
-    && every (t .row .sources) (λ k. sourceFits (t .row .hit) (getD (t .costs) (t .row .urgent + k) 0) (gapAt t k))
+fits t = rowFits (t .row) && sharesFit t && sourcesFit (t .row) (t .costs) (t .periods)
 
 -- the answer of the row's terms for the deadline D, where they are within the limits
 abbrev pub answered : Lent → ℕ → Answered
-answered t D = cond (fits t) (Row (answer (termsOf t) D)) Outside
+answered t D = cond (fits t) (Exact (answer (termsOf t) D)) Outside

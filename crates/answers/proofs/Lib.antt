@@ -1,3 +1,6 @@
-pub mod Laid
+pub mod Gather
+pub mod Terms
+pub mod Places
+pub mod Outcome
+pub mod Values
 pub mod Unique
-pub mod Alike

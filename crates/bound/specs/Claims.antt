@@ -43,7 +43,9 @@ WRises = (r : Terms) → Sound r → (L q : ℕ) → busy r ≡ At L → q + 1 <
 abbrev pub BoundIsLargest : Type 0
 BoundIsLargest =
     (r : Terms) → Sound r → (L : ℕ) → busy r ≡ At L
-    → ((q : ℕ) → q < Q r L → T (leZ (term r q) (pos (bound r L)))) × ((q : ℕ) × (q < Q r L) × (pos (bound r L) ≡ term r q)) × (1 ≤ bound r L)
+    → ((q : ℕ) → q < Q r L → T (leZ (term r q) (pos (bound r L))))
+    × ((q : ℕ) × (q < Q r L) × (pos (bound r L) ≡ term r q))
+    × (1 ≤ bound r L)
 
 -- the term of q = 0 is never below zero, whatever the terms are
 abbrev pub FirstTermNotBelowZero : Type 0

@@ -4,19 +4,13 @@ use console::print;
 use console::print_number;
 use pairs::Line;
 use pairs::line_at;
-ghost use Prim.Native.Nat.{_≤_, _<_};
-ghost use lib.ListN.{length};
+use pairs::name_in;
+use pairs::next_line;
 
 // How many cases are the same, and how many are not.
 pub(crate) struct Tally {
     pub(crate) same: u64,
     pub(crate) different: u64,
-}
-
-// Where the next line starts, and whether the case of this one holds.
-struct Ran {
-    next: usize,
-    holds: bool,
 }
 
 fn wrong(number: u64) -> bool {
@@ -26,28 +20,12 @@ fn wrong(number: u64) -> bool {
     false
 }
 
-// The line at a place of the list, by its number.
-fn line(text: &[u8], at: usize, number: u64) -> Ran
-    requires { ⌜ at < length (now text) ⌝ }
-    ensures { λ r. ⌜ (at < r .next) × (r .next ≤ length (now (text .entry))) ⌝ }
-{
+// Whether the case of the line at a place of the list holds; the line is known by its number.
+fn line(text: &[u8], at: usize, number: u64) -> bool {
     match line_at(text, at) {
-        Line::Names(plan, out, next) => {
-            let plan_from = plan.from;
-            let plan_to = plan.to;
-            let out_from = out.from;
-            let out_to = out.to;
-            let holds = files(&text[plan_from..plan_to], &text[out_from..out_to]);
-            Ran { next, holds }
-        }
-        Line::Wrong(next) => {
-            let holds = wrong(number);
-            Ran { next, holds }
-        }
-        Line::Over => Ran {
-            next: text.len(),
-            holds: false,
-        },
+        Line::Names(plan, out, _) => files(name_in(text, plan), name_in(text, out)),
+        Line::Wrong(_) => wrong(number),
+        Line::Over => false,
     }
 }
 
@@ -56,9 +34,9 @@ pub(crate) fn all(text: &[u8]) -> Tally {
     let mut same: u64 = 0;
     let mut different: u64 = 0;
     while at < text.len() {
-        let ran = line(text, at, same + different + 1);
-        at = ran.next;
-        if ran.holds {
+        let holds = line(text, at, same + different + 1);
+        at = next_line(text, at);
+        if holds {
             same += 1;
         } else {
             different += 1;

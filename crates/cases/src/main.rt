@@ -23,7 +23,7 @@ fn first_are(shown: &[u8], k: usize, expected: &[u8]) -> bool {
 }
 
 fn listing_is(file: &[u8], must: &[u8]) -> bool {
-    let mut out = io::buffer();
+    let mut out = desk::listing_buffer();
     match desk::show(file, &mut out) {
         Put::At(k) => first_are(&out, k, must),
         Put::Full => false,
@@ -31,7 +31,7 @@ fn listing_is(file: &[u8], must: &[u8]) -> bool {
 }
 
 fn refusal_is(file: &[u8], must: &[u8]) -> bool {
-    let mut out = io::buffer();
+    let mut out = desk::file_buffer();
     match desk::show_refusal(file, &mut out) {
         Put::At(k) => first_are(&out, k, must),
         Put::Full => false,
@@ -39,7 +39,7 @@ fn refusal_is(file: &[u8], must: &[u8]) -> bool {
 }
 
 fn file_is(file: &[u8], must: &[u8]) -> bool {
-    let mut out = io::buffer();
+    let mut out = desk::file_buffer();
     match desk::show_file(file, &mut out) {
         Put::At(k) => first_are(&out, k, must),
         Put::Full => false,
@@ -78,7 +78,7 @@ fn unreadable(name: &[u8]) -> bool {
 }
 
 fn read_expected(name: &[u8], file: &[u8], out: &[u8], expected: i32) -> bool {
-    let mut must = io::buffer();
+    let mut must = desk::listing_buffer();
     match read(expected, &mut must) {
         Input::Bytes(m) => compared(name, file, first(&must, m)),
         Input::Failed => unreadable(out),
@@ -86,7 +86,7 @@ fn read_expected(name: &[u8], file: &[u8], out: &[u8], expected: i32) -> bool {
 }
 
 fn read_plan(name: &[u8], plan: i32, out: &[u8], expected: i32) -> bool {
-    let mut file = io::buffer();
+    let mut file = desk::file_buffer();
     match read(plan, &mut file) {
         Input::Bytes(n) => read_expected(name, first(&file, n), out, expected),
         Input::Failed => unreadable(name),

@@ -1,4 +1,4 @@
-pub mod Judge
+pub mod Counts
 pub mod Fine
 pub mod Words
 pub mod Unique

@@ -6,36 +6,42 @@ use Prim.Native.Nat.{_≤_}
 use native.Mathlib.Nat.{lt-of-not-le}
 use native.Mathlib.Decide.{decLe}
 use native.Mathlib.Omega.{arith}
+use lib.ListN.{length}
 use lib.Seq.{length-take-le}
 use Rattle.names.specs.Limits.{streams, sources}
 use Rattle.plan.specs.declared.Sheet.{Sheet}
 use Rattle.plan.specs.Plan.{Plan, planOf}
-use Rattle.fields.specs.Words.{planIn, inPlaces}
-use Rattle.fields.proofs.Places.{Owned, stream-places, gap-places}
-use Rattle.fields.proofs.Words.{plan-in-places}
-use Rattle.checks.specs.declared.Checked.the-variants.{Fine}
-use Rattle.checks.specs.Checks.{Line, judge, counted, lines, checkedOf}
-use Rattle.checks.proofs.Judge.{too-many, too-noisy, line-2, refused-then, fine-parts}
+use Rattle.carried.specs.Layout as layout
+use Rattle.carried.specs.Carried.{planIn, valuesOf, inPlaces}
+use Rattle.plan.proofs.Places.{Owned, stream-places, gap-places}
+use Rattle.carried.proofs.Plans.{length-values, plan-in-values}
+use Rattle.laws.proofs.Placed.{placed-short}
+use Rattle.judge.specs.declared.Checked.the-variants.{Fine}
+use Rattle.judge.specs.Table.{Line, judge}
+use Rattle.checks.specs.Checks.{inRange, lines, checkedOf}
+use Rattle.judge.proofs.Table.{fine-parts}
+use Rattle.checks.proofs.Counts.{too-many, too-noisy, out-of-range}
 use Rattle.checks.proofs.Fine.{fine-if-right}
 
 module _ (s : Sheet) (o : Owned s) where
   -- the plan in the sheet's words
   abbrev pub planInWords : Plan
-  planInWords = planIn (s .count) (s .sources) (inPlaces (planOf s))
+  planInWords = planIn (s .count) (s .sources) (inPlaces (valuesOf (planOf s)))
 
   pub same-plan : s .count ≤ streams → s .sources ≤ sources → planInWords ≡ planOf s
   same-plan few quiet =
       let n = length-take-le (s .count) (s .streams) (omega (arith, stream-places s o)) in
       let m = length-take-le (s .sources) (s .gaps) (omega (arith, gap-places s o)) in
-      ap₂ (λ i j. planIn i j (inPlaces (planOf s))) (sym n) (sym m) ∙ plan-in-places (planOf s)
+      let room : length (valuesOf (planOf s)) ≤ layout.largest = omega (arith, length-values (planOf s)) in
+      ap₂ (λ i j. planIn i j (inPlaces (valuesOf (planOf s)))) (sym n) (sym m)
+      ∙ ap (planIn _ _) (placed-short layout.largest 0 (valuesOf (planOf s)) room)
+      ∙ plan-in-values (planOf s) _
 
   -- the table of the values, with whatever lines after it
   module _ (more : List Line) where
-    both-refused : ((p : Plan) → counted (s .count) (s .sources) p ≡ false)
+    both-refused : inRange (s .count) (s .sources) ≡ false
         → judge (lines (s .count) (s .sources) planInWords ++ more) ≡ judge (lines (s .count) (s .sources) (planOf s) ++ more)
-    both-refused e =
-        let refused : (p : Plan) → judge (lines (s .count) (s .sources) p ++ more) ≡ _ = λ p. refused-then (lines (s .count) (s .sources) p) more _ (line-2 (s .count) (s .sources) p (e p)) in
-        refused planInWords ∙ sym (refused (planOf s))
+    both-refused e = out-of-range (s .count) (s .sources) e planInWords more ∙ sym (out-of-range (s .count) (s .sources) e (planOf s) more)
 
     pub same-lines : judge (lines (s .count) (s .sources) planInWords ++ more) ≡ judge (lines (s .count) (s .sources) (planOf s) ++ more)
     same-lines =
@@ -43,9 +49,9 @@ module _ (s : Sheet) (o : Owned s) where
           | yes few ↦
               elim (decLe (s .sources) sources) [
                 | yes quiet ↦ ap (λ p. judge (lines (s .count) (s .sources) p ++ more)) (same-plan few quiet)
-                | no noisy ↦ both-refused (λ p. too-noisy (s .count) (s .sources) p (lt-of-not-le noisy))
+                | no noisy ↦ both-refused (too-noisy (s .count) (s .sources) (lt-of-not-le noisy))
               ]
-          | no many ↦ both-refused (λ p. too-many (s .count) (s .sources) p (lt-of-not-le many))
+          | no many ↦ both-refused (too-many (s .count) (s .sources) (lt-of-not-le many))
         ]
 
     pub same-plan-if-fine : judge (lines (s .count) (s .sources) (planOf s) ++ more) ≡ Fine → planInWords ≡ planOf s

@@ -1,35 +1,15 @@
--- What is proved of the table of refusals; the proofs are in proofs/Judge.antt and proofs/Fine.antt.
+-- What is proved of the table of a plan's refusals; the proofs are in proofs/Fine.antt.
 use mathlib.Core.Path.{_≡_}
-use mathlib.Core.List.{List, map}
+use mathlib.Core.List.{List}
 use mathlib.Core.Logic.{_↔_}
 use Prim.Native.Nat.{ℕ, _≤_, _<_}
 use lib.ListN.{length, getD}
 use Rattle.names.specs.Limits.{ticks}
-use Rattle.names.specs.declared.Refusal.{Refusal}
-use Rattle.laws.specs.declared.Found.the-variants.{At, Nothing}
 use Rattle.plan.specs.declared.Sheet.{Sheet}
 use Rattle.plan.specs.Plan.{Plan, planOf, blank, Within}
-use Rattle.checks.specs.declared.Checked.the-variants.{Fine, Refused}
-use Rattle.checks.specs.Checks.{Line, judge, lines, checkedOf}
-
-abbrev pub lineAt : List Line → ℕ → Line
-lineAt ls i = getD ls i (record { number = 0; place = Nothing })
-
--- r is a line of the table that is given, and no line before it is
-pub record FirstGiven (ls : List Line) (r : Refusal) : Type 0 where
-  pub i : ℕ
-  pub among : i < length ls
-  pub number : lineAt ls i .number ≡ r .number
-  pub place : lineAt ls i .place ≡ At (r .place)
-  pub before : (j : ℕ) → j < i → lineAt ls j .place ≡ Nothing
-
--- a refusal is given exactly if it is the first line that is
-abbrev pub RefusedByTheFirst : Type 0
-RefusedByTheFirst = (ls : List Line) (r : Refusal) → (judge ls ≡ Refused r) ↔ FirstGiven ls r
-
--- .. and the answer is fine exactly if no line is
-abbrev pub FineIfNone : Type 0
-FineIfNone = (ls : List Line) → (judge ls ≡ Fine) ↔ ((i : ℕ) → i < length ls → lineAt ls i .place ≡ Nothing)
+use Rattle.judge.specs.declared.Checked.the-variants.{Fine}
+use Rattle.judge.specs.Table.{judge}
+use Rattle.checks.specs.Checks.{priorities, labels, lines, checkedOf}
 
 -- no two of the numbers are equal
 abbrev pub Distinct : List ℕ → Type 0
@@ -41,8 +21,8 @@ pub record Right (n m : ℕ) (p : Plan) : Type 0 where
   pub count : length (p .streams) ≡ n
   pub sources : length (p .gaps) ≡ m
   pub label : (k : ℕ) → k < length (p .streams) → getD (p .streams) k blank .label .0 ≤ ticks
-  pub priorities : Distinct (map (λ s. s .priority .0) (p .streams))
-  pub labels : Distinct (map (λ s. s .label .0) (p .streams))
+  pub priorities : Distinct (priorities (p .streams))
+  pub labels : Distinct (labels (p .streams))
 
 -- the values are fine exactly if they are a right plan
 abbrev pub FineIfRight : Type 0

@@ -5,7 +5,7 @@ use mathlib.Core.Logic.{_↔_}
 use Prim.Native.Nat.{ℕ, _^_, _≤_, _<_}
 use lib.ListN.{length}
 use Rattle.names.specs.Limits.{ticks}
-use Rattle.checks.specs.declared.Checked.the-variants.{Fine}
+use Rattle.judge.specs.declared.Checked.the-variants.{Fine}
 use Rattle.file.specs.File.{readOf}
 use Rattle.promise.specs.Lighter.{Lighter}
 use Rattle.compare.specs.declared.Reason.{Reason}

@@ -1,7 +1,7 @@
 -- The test is exact: of two plans that are not refused no condition is broken exactly if the second is lighter. Labels are distinct in the first,
 -- so the row that the test finds under a label is the row that a stream stands in. Assumes nothing.
 use mathlib.Core.Path.{_≡_, refl, sym, ap, _∙_}
-use mathlib.Core.Bool.{true, false, not, true≢false}
+use mathlib.Core.Bool.{true, not, true≢false}
 use mathlib.Core.List.{map}
 use Prim.Native.Nat.{ℕ, _≤_, _<_}
 use native.Mathlib.Omega.{arith}
@@ -12,50 +12,42 @@ use Rattle.names.specs.declared.Label.{Label}
 use Rattle.laws.specs.declared.Found.{Found}
 use Rattle.laws.specs.declared.Found.the-variants.{At as Found·At, Nothing as Found·Nothing}
 use Rattle.laws.proofs.Tests.{both}
-use Rattle.repeats.specs.Rows.{some}
-use Rattle.repeats.proofs.Rows.{is-false, some-passes, some-at, finds-lowest}
+use Rattle.laws.specs.Rows.{some}
+use Rattle.laws.proofs.Rows.{is-false, some-passes, some-at, finds-lowest}
 use Rattle.plan.specs.declared.Timing.{Timing}
 use Rattle.plan.specs.declared.Stream.{Stream}
 use Rattle.plan.specs.Plan.{Plan, blank}
+use Rattle.carried.specs.Layout.{timing}
+use Rattle.carried.specs.Carried.{timingWords}
 use Rattle.promise.specs.Lighter.{at, NoGreater, Eased, Lighter, NotRefused}
-use Rattle.compare.specs.declared.Change.{Change}
 use Rattle.compare.specs.declared.Change.the-variants.{Nothing}
-use Rattle.compare.specs.declared.Reason.{Reason}
-use Rattle.compare.specs.Changes.{unless, _or_, firstGiven, constantsOfV, constantsOfU, constants, rowOf, eased, inRow, stream, numberIn, number, overtakes, urgency, noise, changes}
+use Rattle.compare.specs.Changes.{_or_, firstChange, grown, constants, rowOf, eased, inRow, stream, numberIn, number, overtakes, urgency, noise, ofStreams, ofOrder, ofNoise, changes}
 use Rattle.compare.specs.Claims.{LighterExactly}
-use Rattle.compare.proofs.First.{given-not-nothing, or-nothing, both-nothing, unless-nothing, unless-true, nothing-if-none}
-use Rattle.compare.proofs.OneByOne.{none-of-v, none-of-u, all-eased}
+use Rattle.compare.proofs.First.{of-not-nothing, or-nothing, must-nothing, must-true, passes, passes-then, no-reason, pass, nothing-if-none}
 use Rattle.compare.proofs.Gaps.{by-order, counts-of-partners, partners-of-counts}
-
--- ---- one test, and one before others
-passes : (a b : ℕ) (r : Reason) → unless (leb a b) r ≡ Nothing → a ≤ b
-passes a b r e = leb-true a b (unless-nothing (leb a b) r e)
-
-passes-then : (a b : ℕ) (r : Reason) (c : Change) → unless (leb a b) r or c ≡ Nothing → (a ≤ b) × (c ≡ Nothing)
-passes-then a b r c e = let (h, d) = or-nothing (unless (leb a b) r) c e in (passes a b r h, d)
-
-no-reason : (a b : ℕ) (r : Reason) → a ≤ b → unless (leb a b) r ≡ Nothing
-no-reason a b r h = unless-true (leb a b) r (le-leb a b h)
 
 -- ---- the constants
 pub no-greater : (old new : Timing) → constants old new ≡ Nothing → NoGreater old new
-unfolding constantsOfV constantsOfU
 no-greater old new d =
-    let (v, u) = or-nothing (constantsOfV old new) (constantsOfU old new) d in
-    let (f, v₁) = passes-then _ _ _ _ v in
-    let (e, v₂) = passes-then _ _ _ _ v₁ in
-    let (tfcs, v₃) = passes-then _ _ _ _ v₂ in
-    let (h, u₁) = passes-then _ _ _ _ u in
-    let (g, u₂) = passes-then _ _ _ _ u₁ in
-    let (etg, u₃) = passes-then _ _ _ _ u₂ in
-    let (lag, u₄) = passes-then _ _ _ _ u₃ in
-    record { f = f; e = e; tfcs = tfcs; swx = passes _ _ _ v₃; h = h; g = g; etg = etg; lag = lag; nb = passes _ _ _ u₄ }
+    record {
+      f = least 0 (omega arith);
+      e = least 1 (omega arith);
+      tfcs = least 2 (omega arith);
+      swx = least 3 (omega arith);
+      h = least 4 (omega arith);
+      g = least 5 (omega arith);
+      etg = least 6 (omega arith);
+      lag = least 7 (omega arith);
+      nb = least 8 (omega arith);
+    }
+  where
+    least : (k : ℕ) → k < timing → getD (timingWords new) k 0 ≤ getD (timingWords old) k 0
+    least k h = passes _ _ _ (nothing-if-none (grown (timingWords old) (timingWords new)) timing .0 d k h)
 
 pub constants-nothing : (old new : Timing) → NoGreater old new → constants old new ≡ Nothing
+unfolding firstChange
 constants-nothing old new n =
-    both-nothing (constantsOfV old new) (constantsOfU old new)
-    (sym (none-of-v old new (n .f) (n .e) (n .tfcs) (n .swx)))
-    (sym (none-of-u old new (n .h) (n .g) (n .etg) (n .lag) (n .nb)))
+    rw (le-leb _ _ (n .f), le-leb _ _ (n .e), le-leb _ _ (n .tfcs), le-leb _ _ (n .swx), le-leb _ _ (n .h), le-leb _ _ (n .g), le-leb _ _ (n .etg), le-leb _ _ (n .lag), le-leb _ _ (n .nb)) refl
 
 -- ---- a stream beside the one that it stands in
 pub eases : (old new : Stream) → eased old new ≡ Nothing → Eased old new
@@ -67,7 +59,13 @@ eases old new e =
     record { period = period; deadline = passes _ _ _ e₂; jitter = jitter; payload = payload }
 
 pub eased-nothing : (old new : Stream) → Eased old new → eased old new ≡ Nothing
-eased-nothing old new h = sym (all-eased old new (h .period) (h .jitter) (h .payload) (h .deadline))
+unfolding eased
+eased-nothing old new h =
+    sym
+    (pass _ _ _ _ (h .period)
+    (pass _ _ _ _ (h .jitter)
+    (pass _ _ _ _ (h .payload)
+    (sym (no-reason _ _ _ (h .deadline))))))
 
 -- ---- the row that is under a label
 pub found-row : (p : Plan) (l : Label) (r : ℕ) → rowOf p l ≡ Found·At r → (r < length (p .streams)) × (at p r .label .0 ≡ l .0)
@@ -104,44 +102,26 @@ pub record Unbroken (old new : Plan) : Type 0 where
   pub order : (k : ℕ) → k < length (new .streams) → urgency old new k ≡ Nothing
   pub gaps : (k : ℕ) → k < length (new .gaps) → noise old new (getD (new .gaps) k 0) ≡ Nothing
 
-module _ (old new : Plan) where
-  abbrev by-constants : Change
-  by-constants = constants (old .timing) (new .timing)
+pub unbroken : (old new : Plan) → changes old new ≡ Nothing → Unbroken old new
+unfolding changes
+unbroken old new e =
+    let (c, e₁) = or-nothing (constants (old .timing) (new .timing)) (ofStreams old new or ofOrder old new or ofNoise old new) e in
+    let (s, e₂) = or-nothing (ofStreams old new) (ofOrder old new or ofNoise old new) e₁ in
+    let (o, g) = or-nothing (ofOrder old new) (ofNoise old new) e₂ in
+    record {
+      constants = c;
+      streams = nothing-if-none _ (length (new .streams)) .0 s;
+      order = nothing-if-none (urgency old new) (length (new .streams)) .0 o;
+      gaps = nothing-if-none _ (length (new .gaps)) .0 g;
+    }
 
-  abbrev by-stream : ℕ → Change
-  by-stream k = stream old (at new k)
-
-  abbrev by-gap : ℕ → Change
-  by-gap k = noise old new (getD (new .gaps) k 0)
-
-  abbrev in-streams : (ℕ → Change) → Change
-  in-streams f = firstGiven f (length (new .streams))
-
-  abbrev in-gaps : Change
-  in-gaps = firstGiven by-gap (length (new .gaps))
-
-  pub unbroken : changes old new ≡ Nothing → Unbroken old new
-  unfolding changes
-  unbroken e =
-      let (c, e₁) = or-nothing by-constants (in-streams by-stream or in-streams (urgency old new) or in-gaps) e in
-      let (s, e₂) = or-nothing (in-streams by-stream) (in-streams (urgency old new) or in-gaps) e₁ in
-      let (o, g) = or-nothing (in-streams (urgency old new)) in-gaps e₂ in
-      record {
-        constants = c;
-        streams = nothing-if-none by-stream (length (new .streams)) .0 s;
-        order = nothing-if-none (urgency old new) (length (new .streams)) .0 o;
-        gaps = nothing-if-none by-gap (length (new .gaps)) .0 g;
-      }
-
-  pub no-changes : Unbroken old new → changes old new ≡ Nothing
-  unfolding changes
-  no-changes u =
-      both-nothing by-constants (in-streams by-stream or in-streams (urgency old new) or in-gaps) (u .constants)
-      (both-nothing (in-streams by-stream) (in-streams (urgency old new) or in-gaps)
-      (nothing-if-none by-stream (length (new .streams)) .1 (u .streams))
-      (both-nothing (in-streams (urgency old new)) in-gaps
-      (nothing-if-none (urgency old new) (length (new .streams)) .1 (u .order))
-      (nothing-if-none by-gap (length (new .gaps)) .1 (u .gaps))))
+pub no-changes : (old new : Plan) → Unbroken old new → changes old new ≡ Nothing
+unfolding changes
+no-changes old new u =
+    let s : ofStreams old new ≡ Nothing = nothing-if-none _ (length (new .streams)) .1 (u .streams) in
+    let o : ofOrder old new ≡ Nothing = nothing-if-none (urgency old new) (length (new .streams)) .1 (u .order) in
+    let g : ofNoise old new ≡ Nothing = nothing-if-none _ (length (new .gaps)) .1 (u .gaps) in
+    λ i. u .constants i or s i or o i or g i
 
 -- ---- from the test to a lighter plan
 stands-in : (old : Plan) (s : Stream) → stream old s ≡ Nothing → (r : ℕ) × (rowOf old (s .label) ≡ Found·At r) × Eased (at old r) s
@@ -149,7 +129,7 @@ stands-in old s e = go (rowOf old (s .label)) refl e
   where
     go : (f : Found) → rowOf old (s .label) ≡ f → inRow old s f ≡ Nothing → (r : ℕ) × (rowOf old (s .label) ≡ Found·At r) × Eased (at old r) s
     go (Found·At r) d e = (r, d, eases (at old r) s e)
-    go Found·Nothing d e = absurd (given-not-nothing e)
+    go Found·Nothing d e = absurd (of-not-nothing e)
 
 not-overtaken : (old new : Plan) (j k : ℕ) → urgency old new k ≡ Nothing → j < length (new .streams) → at new j .priority .0 < at new k .priority .0
     → number old (at new j .label) < number old (at new k .label)
@@ -158,7 +138,7 @@ not-overtaken old new j k e h l = by-order (number old (at new k .label)) (numbe
     never : number old (at new k .label) ≤ number old (at new j .label) → ⊥
     never m =
         let t : overtakes old new k j ≡ true = rw (lt-ltb _ _ l, le-leb _ _ m) refl in
-        true≢false (sym (some-at (overtakes old new k) (length (new .streams)) j h t) ∙ not-true _ (unless-nothing _ _ e))
+        true≢false (sym (some-at (overtakes old new k) (length (new .streams)) j h t) ∙ not-true _ (must-nothing _ _ e))
 
 lighter-if : (old new : Plan) → Unbroken old new → Lighter old new
 lighter-if old new u =
@@ -191,7 +171,7 @@ if-lighter old new a l =
     record {
       constants = constants-nothing (old .timing) (new .timing) (l .timing);
       streams = λ k h. ap (inRow old (at new k)) (row-is k h) ∙ eased-nothing (at old (l .row k h)) (at new k) (l .stands k h .eased);
-      order = λ k h. unless-true _ _ (ap not (is-false (some (overtakes old new k) (length (new .streams))) (overtaken k h)));
+      order = λ k h. must-true _ _ (ap not (is-false (some (overtakes old new k) (length (new .streams))) (overtaken k h)));
       gaps = λ k h. no-reason _ _ _ (counts-of-partners (new .gaps) (old .gaps) (l .gaps) (getD (new .gaps) k 0));
     }
   where

@@ -1,9 +1,7 @@
 pub mod First
-pub mod OneByOne
 pub mod Gaps
 pub mod Exactly
-pub mod Said
+pub mod Says
 pub mod Places
 pub mod Standing
-pub mod InOrder
 pub mod Unique

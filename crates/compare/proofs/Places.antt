@@ -1,59 +1,49 @@
--- The columns of a plan in the places that they are laid out in, and the row that they find under a label. Assumes nothing.
+-- The columns of a plan in the places of an array, and the row that they find under a label. Assumes nothing.
 use mathlib.Core.Path.{_≡_, refl, sym, ap, _∙_}
-use mathlib.Core.List.{List, map, _++_}
-use Prim.Native.Nat.{ℕ, _+_, _-_, _≤_, _<_}
-use native.Mathlib.Nat.{le-refl}
+use mathlib.Core.List.{List, [], _∷_, map}
+use Prim.Native.Nat.{ℕ, zero, suc, _+_, _≤_, _<_, min}
 use native.Mathlib.Omega.{arith}
 use lib.Dec.{eqb}
-use lib.ListN.{length, getD, set, take, replicate, length-map, length-take, List·getD-map}
-use lib.Seq.{take-length, take-at}
+use lib.ListN.{length, getD, set, take, length-map, length-take, List·getD-map}
+use lib.Seq.{take-all, take-at}
 use Rattle.names.specs.Limits.{streams}
 use Rattle.names.specs.declared.Label.{Label}
 use Rattle.laws.specs.declared.Found.{Found}
 use Rattle.laws.specs.declared.Found.the-variants.{At, Nothing}
-use Rattle.laws.specs.Lists.{rows}
+use Rattle.laws.specs.Lists.{placed}
 use Rattle.laws.specs.Search.{first}
-use Rattle.laws.proofs.Lists.{rows-map, rows-take, lay-none, lay-more}
-use Rattle.repeats.proofs.Rows.{finds-lowest}
+use Rattle.laws.proofs.Placed.{placedTo, placed-more, placed-all}
 use Rattle.plan.specs.declared.Stream.{Stream}
 use Rattle.plan.specs.declared.Sheet.{Sheet}
 use Rattle.plan.specs.Plan.{Plan, planOf, blank}
-use Rattle.fields.proofs.Places.{Owned, streams-taken, row-in-place}
+use Rattle.plan.proofs.Places.{Owned, streams-taken, row-in-place}
 use Rattle.promise.specs.Lighter.{at}
-use Rattle.compare.specs.Changes.{rowOf, numberIn, number}
-use Rattle.compare.specs.Private.{labelOf, priorityOf, column, laid, rowBy, numberAt, numberBy}
+use Rattle.compare.specs.Changes.{rowOf}
+use Rattle.compare.specs.private.Columns.{labelOf, column, columnPlaced, orEnd, rowBy}
 use Rattle.compare.proofs.Exactly.{found-row}
 
--- ---- the row that is found under a label
-pub found-in : (labels : List ℕ) (l : Label) (r : ℕ) → rowBy labels l ≡ At r → r < length labels
-found-in labels l r e = let w = finds-lowest _ 0 _ r .0 e in omega (arith, w .below)
+-- ---- a column
+-- row k of it
+pub in-column : (f : Stream → ℕ) (l : List Stream) (k : ℕ) → k < length l → getD (map f l) k 0 ≡ f (getD l k blank)
+in-column f [] k h = absurd (omega arith)
+in-column f (s ∷ l) zero h = refl
+in-column f (s ∷ l) (suc k) h = in-column f l k (omega arith)
 
-pub found-place : (s : Sheet) → Owned s → (l : Label) (r : ℕ) → rowOf (planOf s) l ≡ At r → (r < streams) × (at (planOf s) r ≡ getD (s .streams) r blank)
-found-place s o l r e =
-    let (h, d) = found-row (planOf s) l r e in
-    (omega (arith, streams-taken s o _ refl .0), row-in-place s r h)
+-- its first k rows are in their places: one more, which place k of the sheet has, ..
+abbrev pub columnTo : ℕ → (Stream → ℕ) → Plan → List ℕ
+columnTo k f p = placedTo streams 0 (column f p) k
 
--- ---- a column in its places
--- its first k rows are laid: none, ..
-abbrev pub laidTo : ℕ → (Stream → ℕ) → Plan → List ℕ
-laidTo k f p = rows k (λ r. f (at p r)) ++ replicate (streams - k) 0
-
-pub laid-none : (f : Stream → ℕ) (p : Plan) → replicate streams 0 ≡ laidTo 0 f p
-laid-none f p = lay-none (λ r. f (at p r)) 0 streams
-
--- .. one more, which place k of the sheet has, ..
-pub laid-more : (f : Stream → ℕ) (s : Sheet) (k : ℕ) {l : List ℕ} {x : ℕ} → k < length (planOf s .streams) → k < streams → l ≡ laidTo k f (planOf s)
-    → x ≡ f (getD (s .streams) k blank) → set l k x ≡ laidTo (k + 1) f (planOf s)
-laid-more f s k h i e d = rw (e, d ∙ ap f (sym (row-in-place s k h))) (lay-more (λ r. f (at (planOf s) r)) 0 streams k i)
+pub column-more : (f : Stream → ℕ) (s : Sheet) (k : ℕ) {l : List ℕ} {x : ℕ} → k < length (planOf s .streams) → k < streams → l ≡ columnTo k f (planOf s)
+    → x ≡ f (getD (s .streams) k blank) → set l k x ≡ columnTo (k + 1) f (planOf s)
+column-more f s k {l} h i e d =
+    let x = d ∙ ap f (sym (row-in-place s k h)) ∙ sym (in-column f (planOf s .streams) k h) in
+    ap (set l k) x ∙ placed-more streams 0 (column f (planOf s)) k l i (omega (arith, length-map (planOf s .streams) f)) e
 
 -- .. all, ..
-pub laid-all : (f : Stream → ℕ) (p : Plan) (n : ℕ) → n ≡ length (p .streams) → laidTo n f p ≡ laid f p
-unfolding laid
-laid-all f p n e =
-    ap (λ k. laidTo k f p) e
-    ∙ ap (λ l. l ++ replicate (streams - length (p .streams)) 0)
-    (sym (rows-map f (length (p .streams)) (at p))
-    ∙ ap (map f) (rows-take (p .streams) blank (length (p .streams)) (le-refl _) ∙ take-length (p .streams)))
+pub column-all : (f : Stream → ℕ) (p : Plan) (n : ℕ) {l : List ℕ} → n ≡ length (p .streams) → n ≤ streams → l ≡ columnTo n f p → l ≡ columnPlaced f p
+column-all f p n d h e =
+    let m : n ≡ min (length (column f p)) streams = omega (arith, length-map (p .streams) f) in
+    e ∙ ap (λ k. columnTo k f p) m ∙ placed-all streams 0 (column f p)
 
 -- .. and the first n places, one for each row, are the column
 pub record Front (f : Stream → ℕ) (p : Plan) (n : ℕ) (l : List ℕ) : Type 0 where
@@ -61,21 +51,37 @@ pub record Front (f : Stream → ℕ) (p : Plan) (n : ℕ) (l : List ℕ) : Type
   pub long : n ≡ length (take n l)
   pub room : n ≤ length l
 
-pub front : (f : Stream → ℕ) (p : Plan) (n : ℕ) {l : List ℕ} → n ≡ length (p .streams) → l ≡ laid f p → Front f p n l
-unfolding laid
-front f p n {l} d e =
-    let is : take n l ≡ column f p = ap (take n) e ∙ take-at (column f p) _ n (length-map (p .streams) f ∙ sym d) in
-    let long : n ≡ length (take n l) = d ∙ sym (ap length is ∙ length-map (p .streams) f) in
+pub front : (f : Stream → ℕ) (p : Plan) (n : ℕ) {l : List ℕ} → n ≡ length (p .streams) → n ≤ streams → l ≡ columnPlaced f p → Front f p n l
+unfolding placed
+front f p n {l} d h e =
+    let same : length (column f p) ≡ n = length-map (p .streams) f ∙ sym d in
+    let all : take streams (column f p) ≡ column f p = take-all streams (column f p) (omega arith) in
+    let is : take n l ≡ column f p = ap (take n) e ∙ take-at _ _ n (ap length all ∙ same) ∙ all in
+    let long : n ≡ length (take n l) = sym (ap length is ∙ same) in
     record { is = is; long = long; room = omega (arith, long, length-take n l) }
 
--- ---- what is found by columns is what is found in the plan
-pub row-by : (p : Plan) (l : Label) → rowBy (column labelOf p) l ≡ rowOf p l
+-- ---- the row that is found under a label
+row-by : (p : Plan) (l : Label) → rowBy (column labelOf p) l ≡ orEnd (length (p .streams)) (rowOf p l)
 unfolding rowOf
-row-by p l = λ i. first (λ r. eqb (List·getD-map labelOf (p .streams) r blank i) (l .0)) 0 (length-map (p .streams) labelOf i)
+row-by p l = λ i. orEnd (length-map (p .streams) labelOf i) (first (λ r. eqb (List·getD-map labelOf (p .streams) r blank i) (l .0)) 0 (length-map (p .streams) labelOf i))
 
-pub number-by : (p : Plan) (l : Label) → numberBy (column labelOf p) (column priorityOf p) l ≡ number p l
-number-by p l = ap (numberAt (column priorityOf p)) (row-by p l) ∙ read (rowOf p l)
+-- one before the end is the row, ..
+pub row-found : (p : Plan) (l : Label) (r : ℕ) → r ≡ rowBy (column labelOf p) l → (r ≡ length (p .streams) → ⊥) → rowOf p l ≡ At r
+row-found p l r e n = go (rowOf p l) (e ∙ row-by p l)
   where
-    read : (f : Found) → numberAt (column priorityOf p) f ≡ numberIn p f
-    read (At r) = List·getD-map priorityOf (p .streams) r blank
-    read Nothing = refl
+    go : (f : Found) → r ≡ orEnd (length (p .streams)) f → f ≡ At r
+    go (At x) d = ap At (sym d)
+    go Nothing d = absurd (n d)
+
+-- .. and at the end there is none
+pub row-not-found : (p : Plan) (l : Label) (r : ℕ) → r ≡ rowBy (column labelOf p) l → r ≡ length (p .streams) → rowOf p l ≡ Nothing
+row-not-found p l r e n = go (rowOf p l) refl (e ∙ row-by p l)
+  where
+    go : (f : Found) → rowOf p l ≡ f → r ≡ orEnd (length (p .streams)) f → f ≡ Nothing
+    go (At x) d g = absurd (omega (arith, found-row p l x d .0))
+    go Nothing d g = refl
+
+pub found-place : (s : Sheet) → Owned s → (l : Label) (r : ℕ) → rowOf (planOf s) l ≡ At r → (r < streams) × (at (planOf s) r ≡ getD (s .streams) r blank)
+found-place s o l r e =
+    let (h, d) = found-row (planOf s) l r e in
+    (omega (arith, streams-taken s o _ refl .0), row-in-place s r h)

@@ -1,4 +1,4 @@
 pub mod Changes
 pub mod Compared
 pub mod Claims
-pub mod Private
+pub mod private

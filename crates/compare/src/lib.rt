@@ -4,21 +4,23 @@
 // Nothing is assumed. This crate knows of plans' values; it must not know of bytes or of text, and it runs no analysis.
 ghost use mathlib.Core.Path.{_≡_};
 ghost use Prim.Native.Nat.{_≤_};
-ghost use lib.ListN.{length, take, getD};
+ghost use lib.ListN.{length, take};
 ghost use Rattle.names.specs.Limits as limit;
-ghost use Rattle.repeats.specs.Rows.{some};
+ghost use Rattle.laws.specs.Rows.{some};
 ghost use Rattle.plan.specs.Plan.{planOf};
-ghost use Rattle.promise.specs.Lighter.{at};
 ghost use Rattle.compare.specs.Changes as rule;
 ghost use Rattle.compare.specs.Compared.{comparedAs};
-ghost use Rattle.compare.specs.Claims.{Said};
-ghost use Rattle.compare.specs.Private.{labelOf, priorityOf, column, laid, rowBy, numberBy, overtakesBy, urgencyBy};
-use checks::Checked;
+ghost use Rattle.compare.specs.Claims.{SaysLighter};
+ghost use Rattle.compare.specs.private.Columns.{labelOf, priorityOf, numberThen, column, columnPlaced, rowBy, overtakesBy, orderBy};
+use carried::TIMING;
+use carried::timing_words;
 use checks::check;
-use laws::Found;
+use judge::Checked;
 use laws::smaller;
 use names::Label;
+use names::Priority;
 use names::Refusal;
+use names::Row;
 use names::SOURCES;
 use names::STREAMS;
 use plan::Sheet;
@@ -50,82 +52,44 @@ pub enum Compared {
     RunAgain(Reason),
 }
 
-fn greater(k: usize) -> Change
-    ensures { λ r. ⌜ r ≡ Change.Of (Reason.GreaterConstant k) ⌝ }
-{
-    Change::Of(Reason::GreaterConstant(k))
-}
-
 // Each constant is held to its own: a greater TFCS is a change even below SWX.
-fn constants_of_v(old: Timing, new: Timing) -> Change
-    ensures { λ r. ⌜ r ≡ rule.constantsOfV old new ⌝ }
+fn constants(old: Timing, new: Timing) -> Change
+    ensures { λ r. ⌜ r ≡ rule.constants old new ⌝ }
 {
-    if old.f < new.f {
-        return greater(0);
-    }
-    if old.e < new.e {
-        return greater(1);
-    }
-    if old.tfcs < new.tfcs {
-        return greater(2);
-    }
-    if old.swx < new.swx {
-        return greater(3);
+    let was = timing_words(old);
+    let is = timing_words(new);
+    for k in 0..TIMING {
+        if was[k] < is[k] {
+            return Change::Of(Reason::GreaterConstant(k));
+        }
     }
     Change::Nothing
 }
 
-fn constants_of_u(old: Timing, new: Timing) -> Change
-    ensures { λ r. ⌜ r ≡ rule.constantsOfU old new ⌝ }
-{
-    if old.h < new.h {
-        return greater(4);
-    }
-    if old.g < new.g {
-        return greater(5);
-    }
-    if old.etg < new.etg {
-        return greater(6);
-    }
-    if old.lag < new.lag {
-        return greater(7);
-    }
-    if old.nb < new.nb {
-        return greater(8);
-    }
-    Change::Nothing
-}
-
-// A plan's labels and its priority numbers, with 0 in the places after them: lent where each row is held to each, so that no sheet is copied there.
-struct Columns {
-    labels: [u32; STREAMS],
-    priorities: [u32; STREAMS],
-}
-
-fn columns_of(plan: Sheet) -> Columns
-    ensures { λ r. ⌜ (r .labels ≡ laid labelOf (planOf plan)) × (r .priorities ≡ laid priorityOf (planOf plan)) ⌝ }
+// A plan's labels, with 0 in the places after them. They are lent as plain numbers where each row is held to each, so that no sheet is
+// copied there.
+fn labels_of(plan: Sheet) -> [u32; STREAMS]
+    ensures { λ r. ⌜ r ≡ columnPlaced labelOf (planOf plan) ⌝ }
 {
     let n = smaller(plan.count, STREAMS);
     let mut labels = [0; STREAMS];
-    let mut priorities = [0; STREAMS];
     for k in 0..n {
         let s = plan.streams[k];
         labels[k] = s.label.0;
-        priorities[k] = s.priority.0;
     }
-    Columns { labels, priorities }
+    labels
 }
 
-// The row that is under a label.
-fn row_of(labels: &[u32], label: Label) -> Found
-    ensures { λ r. ⌜ r ≡ rowBy (now (labels .entry)) label ⌝ }
+// The row that is under a label, or as many as there are rows.
+fn row_of(labels: &[u32], label: Label) -> Row
+    ensures { λ r. ⌜ r .0 ≡ rowBy (now (labels .entry)) label ⌝ }
 {
     for r in 0..labels.len() {
         if labels[r] == label.0 {
-            return Found::At(r as u64);
+            return Row(r);
         }
     }
-    Found::Nothing
+    Row(labels.len())
 }
 
 // A stream of the second plan beside the one that it stands in.
@@ -148,63 +112,57 @@ fn eased(old: Stream, new: Stream) -> Change
     Change::Nothing
 }
 
-fn streams(old: Sheet, new: Sheet, labels: &[u32]) -> Change
+// The streams of the second plan beside those that they stand in: the first change and, where there is none, the numbers of the priorities
+// that the rows had and have.
+struct Matched {
+    change: Change,
+    was: [u32; STREAMS],
+    is: [u32; STREAMS],
+}
+
+fn streams(old: Sheet, new: Sheet, labels: &[u32]) -> Matched
     requires { ⌜ now labels ≡ column labelOf (planOf old) ⌝ }
-    ensures { λ r. ⌜ r ≡ rule.firstGiven (λ k. rule.stream (planOf old) (at (planOf new) k)) (length (planOf new .streams)) ⌝ }
-{
-    let n = smaller(new.count, STREAMS);
-    for k in 0..n {
-        let s = new.streams[k];
-        let label = s.label;
-        match row_of(labels, label) {
-            Found::At(r) => {
-                let namesake = old.streams[r as usize];
-                match eased(namesake, s) {
-                    Change::Of(r) => return Change::Of(r),
-                    Change::Nothing => {}
-                }
-            }
-            Found::Nothing => return Change::Of(Reason::NewLabel(label)),
-        }
-    }
-    Change::Nothing
-}
-
-// The number that stands beside a label, or 0.
-fn number<'a>(labels: &'a [u32], numbers: &'a [u32], label: Label) -> u32
-    requires { ⌜ length (now numbers) ≡ length (now labels) ⌝ }
-    ensures { λ r. ⌜ r ≡ numberBy (now (labels .entry)) (now (numbers .entry)) label ⌝ }
-{
-    match row_of(labels, label) {
-        Found::At(r) => numbers[r as usize],
-        Found::Nothing => 0,
-    }
-}
-
-// The numbers that the second plan's labels have in the first, row by row.
-fn numbers<'a>(labels: &'a [u32], numbers: &'a [u32], new: Sheet) -> [u32; STREAMS]
-    requires { ⌜ length (now numbers) ≡ length (now labels) ⌝ }
-    ensures { λ r. ⌜ r ≡ laid (λ s. numberBy (now (labels .entry)) (now (numbers .entry)) (s .label)) (planOf new) ⌝ }
+    ensures { λ r. ⌜ r .change ≡ rule.ofStreams (planOf old) (planOf new) ⌝ }
+    ensures { λ r. ⌜ (r .change ≡ Change.Nothing → r .was ≡ columnPlaced (numberThen (planOf old)) (planOf new)) ⌝ }
+    ensures { λ r. ⌜ (r .change ≡ Change.Nothing → r .is ≡ columnPlaced priorityOf (planOf new)) ⌝ }
 {
     let n = smaller(new.count, STREAMS);
     let mut was = [0; STREAMS];
+    let mut is = [0; STREAMS];
     for k in 0..n {
-        let row = new.streams[k];
-        let label = row.label;
-        was[k] = number(labels, numbers, label);
+        let s = new.streams[k];
+        let label = s.label;
+        let row = row_of(labels, label);
+        let r = row.0;
+        if r == labels.len() {
+            let change = Change::Of(Reason::NewLabel(label));
+            return Matched { change, was, is };
+        }
+        let namesake = old.streams[r];
+        match eased(namesake, s) {
+            Change::Of(why) => {
+                let change = Change::Of(why);
+                return Matched { change, was, is };
+            }
+            Change::Nothing => {}
+        }
+        was[k] = namesake.priority.0;
+        is[k] = s.priority.0;
     }
-    was
+    let change = Change::Nothing;
+    Matched { change, was, is }
 }
 
-// Whether some row overtakes a stream of number q that had the number than. There is no way out of the loop, so that several rows are compared at once.
-fn overtaken<'a>(was: &'a [u32], is: &'a [u32], q: u32, than: u32) -> bool
+// Whether some row overtakes a stream, by the priority that the stream has and the one that it had. There is no way out of the loop, so
+// that several rows are compared at once.
+fn overtaken<'a>(was: &'a [u32], is: &'a [u32], has: Priority, had: Priority) -> bool
     requires { ⌜ length (now was) ≡ length (now is) ⌝ }
-    ensures { λ r. ⌜ r ≡ some (overtakesBy (now (was .entry)) (now (is .entry)) q than) (length (now (is .entry))) ⌝ }
+    ensures { λ r. ⌜ r ≡ some (overtakesBy (now (was .entry)) (now (is .entry)) has had) (length (now (is .entry))) ⌝ }
 {
     let mut found = false;
     for j in 0..is.len() {
-        if is[j] < q {
-            if than <= was[j] {
+        if is[j] < has.0 {
+            if had.0 <= was[j] {
                 found = true;
             }
         }
@@ -212,13 +170,16 @@ fn overtaken<'a>(was: &'a [u32], is: &'a [u32], q: u32, than: u32) -> bool
     found
 }
 
-// The first row that is overtaken, by the numbers that the rows had and have.
+// The first row that is overtaken, by the numbers of the priorities that the rows had and have.
 fn urgency<'a>(new: Sheet, was: &'a [u32], is: &'a [u32]) -> Change
-    requires { ⌜ (length (now was) ≡ length (planOf new .streams)) × (length (now is) ≡ length (planOf new .streams)) ⌝ }
-    ensures { λ r. ⌜ r ≡ rule.firstGiven (urgencyBy (now (was .entry)) (now (is .entry)) (planOf new)) (length (planOf new .streams)) ⌝ }
+    requires { ⌜ length (now was) ≡ length (planOf new .streams) ⌝ }
+    requires { ⌜ length (now is) ≡ length (planOf new .streams) ⌝ }
+    ensures { λ r. ⌜ r ≡ orderBy (now (was .entry)) (now (is .entry)) (planOf new) ⌝ }
 {
     for k in 0..is.len() {
-        if overtaken(was, is, is[k], was[k]) {
+        let number = is[k];
+        let held = was[k];
+        if overtaken(was, is, Priority(number), Priority(held)) {
             let s = new.streams[k];
             let label = s.label;
             return Change::Of(Reason::LessUrgent(label));
@@ -242,7 +203,7 @@ fn at_most(gaps: [u32; SOURCES], m: usize, x: u32) -> usize
 }
 
 fn noise(old: Sheet, new: Sheet) -> Change
-    ensures { λ r. ⌜ r ≡ rule.firstGiven (λ k. rule.noise (planOf old) (planOf new) (getD (planOf new .gaps) k 0)) (length (planOf new .gaps)) ⌝ }
+    ensures { λ r. ⌜ r ≡ rule.ofNoise (planOf old) (planOf new) ⌝ }
 {
     let m = smaller(new.sources, SOURCES);
     let partners = smaller(old.sources, SOURCES);
@@ -258,45 +219,32 @@ fn noise(old: Sheet, new: Sheet) -> Change
     Change::Nothing
 }
 
-// The conditions that are looked at if no constant is greater.
-fn streams_and_gaps(old: Sheet, new: Sheet) -> Change
-    requires { ⌜ rule.constants (old .timing) (new .timing) ≡ Change.Nothing ⌝ }
-    ensures { λ r. ⌜ r ≡ rule.changes (planOf old) (planOf new) ⌝ }
-{
-    let n = smaller(old.count, STREAMS);
-    let m = smaller(new.count, STREAMS);
-    let first = columns_of(old);
-    let labels = first.labels;
-    match streams(old, new, &labels[..n]) {
-        Change::Of(r) => return Change::Of(r),
-        Change::Nothing => {}
-    }
-    let held = first.priorities;
-    let was = numbers(&labels[..n], &held[..n], new);
-    let second = columns_of(new);
-    let is = second.priorities;
-    match urgency(new, &was[..m], &is[..m]) {
-        Change::Of(r) => return Change::Of(r),
-        Change::Nothing => {}
-    }
-    noise(old, new)
-}
-
 // The first condition of the lighter plan that does not hold between two plans, refused or not.
 pub fn changes(old: Sheet, new: Sheet) -> Change
     ensures { λ r. ⌜ r ≡ rule.changes (planOf old) (planOf new) ⌝ }
 {
-    let was = old.timing;
-    let is = new.timing;
-    match constants_of_v(was, is) {
-        Change::Of(r) => return Change::Of(r),
+    let held = old.timing;
+    let timing = new.timing;
+    match constants(held, timing) {
+        Change::Of(why) => return Change::Of(why),
         Change::Nothing => {}
     }
-    match constants_of_u(was, is) {
-        Change::Of(r) => return Change::Of(r),
+    let n = smaller(old.count, STREAMS);
+    let m = smaller(new.count, STREAMS);
+    let labels = labels_of(old);
+    let matched = streams(old, new, &labels[..n]);
+    let change = matched.change;
+    match change {
+        Change::Of(why) => return Change::Of(why),
         Change::Nothing => {}
     }
-    streams_and_gaps(old, new)
+    let was = matched.was;
+    let is = matched.is;
+    match urgency(new, &was[..m], &is[..m]) {
+        Change::Of(why) => return Change::Of(why),
+        Change::Nothing => {}
+    }
+    noise(old, new)
 }
 
 // The answer to two plans that were looked at already: the first is reported first.
@@ -319,7 +267,7 @@ pub fn outcome(first: Checked, second: Checked, old: Sheet, new: Sheet) -> Compa
 
 // Whether the second plan is lighter than the first, or why not.
 pub fn lighter(old: Sheet, new: Sheet) -> Compared
-    ensures { λ r. ⌜ Said old new r ⌝ }
+    ensures { λ r. ⌜ SaysLighter old new r ⌝ }
 {
     let first = check(old);
     let second = check(new);

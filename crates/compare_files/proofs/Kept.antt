@@ -3,14 +3,12 @@
 use mathlib.Core.Path.{_≡_, refl, sym, ap, _∙_, subst}
 use mathlib.Core.Bool.{Bool, true, false, cond}
 use mathlib.Core.List.{List, _++_}
-use Prim.Native.Nat.{ℕ, _+_, _*_, _<_}
-use native.Mathlib.Nat.{add-zero}
+use Prim.Native.Nat.{ℕ, _*_, _<_}
 use native.Mathlib.Omega.{arith}
 use lib.Dec.{leb}
-use lib.ListN.{length, getD, drop, length-map, List·getD-append, List·getD-map}
+use lib.ListN.{length, drop, length-map, List·getD-map}
 use Rattle.laws.specs.declared.Found.{Found}
 use Rattle.laws.specs.declared.Found.the-variants.{At, Nothing}
-use Rattle.words.specs.Words.{wordsOf}
 use Rattle.bound.specs.declared.Verdict.{Verdict}
 use Rattle.bound.specs.declared.Verdict.the-variants.{Met, Missed, None}
 use Rattle.bound.specs.Terms.{Terms}
@@ -18,30 +16,35 @@ use Rattle.bound.specs.Bound.{busy, bound, answerOf as answerFrom, answer, verd
 use Rattle.plan.specs.declared.Sheet.{Sheet}
 use Rattle.plan.specs.Plan.{Plan, planOf, blank}
 use Rattle.plan.specs.Rules.{terms, rowAnswer, answers}
-use Rattle.checks.specs.declared.Checked.{Checked}
-use Rattle.checks.specs.declared.Checked.the-variants.{Fine, Refused}
-use Rattle.checks.specs.Checks.{judge, lines}
+use Rattle.judge.specs.declared.Checked.{Checked}
+use Rattle.judge.specs.declared.Checked.the-variants.{Fine, Refused}
+use Rattle.judge.specs.Table.{judge}
+use Rattle.checks.specs.Checks.{lines}
 use Rattle.promise.specs.Lighter.{at, NotRefused, Kept}
 use Rattle.file.specs.declared.ReadPlan.{ReadPlan}
 use Rattle.file.specs.File as file
-use Rattle.fields.proofs.Pieces.{length-flat, in-piece}
-use Rattle.file.proofs.Reading.{fine-read, one-sheet}
-use Rattle.answers.specs.Words.{words, rowWords, answerWords, tooFew, answerAs, answerOf, answerRead, answerFileOf}
-use Rattle.rows.specs.Words.{answerWith}
+use Rattle.file.proofs.Reading.{planAt, fine-read}
+use Rattle.carried.proofs.Plans.{one-sheet}
+use Rattle.row_words.specs.RowWords.{wordsPerRow}
+use Rattle.row_words.proofs.RowWords.{RowSays, row-says}
+use Rattle.answers.specs.Answers.{answerWords, tooFew, answerAs, answerOf}
+use Rattle.answer_files.specs.AnswerFiles.{answerRead, answerFileOf}
+use Rattle.answers.specs.Answers.{answerWith}
 use Rattle.compare.proofs.Exactly.{one-row}
-use Rattle.compare.proofs.Said.{said-exactly, said-kept, fine-not-refused}
+use Rattle.compare.proofs.Says.{said-exactly, said-kept, fine-not-refused}
 use Rattle.compare_files.specs.Files.{planFrom, comparedFiles}
-use Rattle.compare_files.specs.Claims.{SaidOfFiles, LabelsStand, verdictAt, boundAt, KeptWords, WordsKept}
+use Rattle.compare_files.specs.Claims.{SaysLighterOfFiles, LabelsStand, KeptWords, WordsKept}
 
 -- ---- two files
 file-not-refused : (bs : List ℕ) → file.readOf bs .answer ≡ Fine → NotRefused (planFrom bs)
 file-not-refused bs e =
     let f = fine-read bs e in
-    let p = file.planIn (f .n) (f .m) (wordsOf bs) in
-    let same : planFrom bs ≡ p = ap (λ (r : ReadPlan). planOf (r .sheet)) (f .read) ∙ one-sheet p in
-    subst NotRefused (sym same) (fine-not-refused (f .n) (f .m) p (f .values))
+    let p = planAt (f .n) (f .m) bs in
+    let right = fine-not-refused (f .n) (f .m) p (f .values) in
+    let same : planFrom bs ≡ p = ap (λ (r : ReadPlan). planOf (r .sheet)) (f .read) ∙ one-sheet p (right .within .count) (right .within .sources) in
+    subst NotRefused (sym same) right
 
-pub said-of-files : (old new : List ℕ) → SaidOfFiles old new (comparedFiles old new)
+pub said-of-files : (old new : List ℕ) → SaysLighterOfFiles old new (comparedFiles old new)
 unfolding comparedFiles
 said-of-files old new =
     let a = file-not-refused old in
@@ -54,44 +57,24 @@ said-of-files old new =
 
 -- ---- the words of a row
 -- the lent words begin with the plan's, where the answer is fine
-as-words : (c : Checked) (n : ℕ) (p : Plan) (out : List ℕ) → answerAs c n p out .0 ≡ Fine → answerAs c n p out .1 ≡ answerWords p ++ drop (words * n) out
+as-words : (c : Checked) (n : ℕ) (p : Plan) (out : List ℕ) → answerAs c n p out .0 ≡ Fine → answerAs c n p out .1 ≡ answerWords p ++ drop (wordsPerRow * n) out
 as-words Fine n p out e = refl
 as-words (Refused r) n p out e = absurd (let z : _≡_ {A = ℕ} 0 1 = cc in omega arith)
 
 read-words : (c : Checked) (s : Sheet) (out : List ℕ) → answerRead c s out .0 ≡ Fine
-    → answerRead c s out .1 ≡ answerWords (planOf s) ++ drop (words * s .count) out
+    → answerRead c s out .1 ≡ answerWords (planOf s) ++ drop (wordsPerRow * s .count) out
 unfolding answerOf answerWith
 read-words Fine s out e = as-words (judge (lines (s .count) (s .sources) (planOf s) ++ tooFew (s .count) out)) (s .count) (planOf s) out e
 read-words (Refused r) s out e = absurd (let z : _≡_ {A = ℕ} 0 1 = cc in omega arith)
 
--- word j of row r
-row-word : (p : Plan) (rest : List ℕ) (r j : ℕ) → r < length (p .streams) → j < words
-    → getD (answerWords p ++ rest) (words * r + j) 0 ≡ getD (rowWords (rowAnswer p (at p r))) j 0
-row-word p rest r j h k =
-    let n : length (answers p) ≡ length (p .streams) = length-map (p .streams) (rowAnswer p) in
-    let i : words * r + j < length (answerWords p) = omega (arith, length-flat words rowWords (λ a. refl) (answers p)) in
-    List·getD-append (answerWords p) rest 0 (words * r + j) i
-    ∙ in-piece words rowWords (λ a. refl) (answers p) r j (rowAnswer p blank) 0 (omega arith) k
-    ∙ ap (λ a. getD (rowWords a) j 0) (List·getD-map (rowAnswer p) (p .streams) r blank)
-
 -- the words of row r are the answer to its stream
-record RowSays (p : Plan) (out : List ℕ) (r : ℕ) : Type 0 where
-  verdict : verdictAt out r ≡ verdictNumber (rowAnswer p (at p r) .verdict)
-  bound : boundAt out r ≡ rowAnswer p (at p r) .bound
-
-row-says : (bs out : List ℕ) (r : ℕ) → answerFileOf bs out .0 ≡ Fine → r < length (planFrom bs .streams) → RowSays (planFrom bs) (answerFileOf bs out .1) r
+answer-said : (bs out : List ℕ) (r : ℕ) → answerFileOf bs out .0 ≡ Fine → r < length (planFrom bs .streams)
+    → let p = planFrom bs in RowSays (answerFileOf bs out .1) r (rowAnswer p (at p r))
 unfolding answerFileOf
-row-says bs out r e h =
+answer-said bs out r e h =
     let p = planFrom bs in
-    let rest = drop (words * file.readOf bs .sheet .count) out in
-    let all = read-words (file.readOf bs .answer) (file.readOf bs .sheet) out e in
-    record {
-      verdict =
-          ap (λ ws. getD ws (words * r) 0) all
-          ∙ ap (λ i. getD (answerWords p ++ rest) i 0) (sym (add-zero (words * r)))
-          ∙ row-word p rest r 0 h (omega arith);
-      bound = ap (λ ws. getD ws (words * r + 1) 0) all ∙ row-word p rest r 1 h (omega arith);
-    }
+    rw (read-words (file.readOf bs .answer) (file.readOf bs .sheet) out e, ← List·getD-map (rowAnswer p) (p .streams) r blank)
+    (row-says (answers p) _ (rowAnswer p blank) r (omega (arith, length-map (p .streams) (rowAnswer p))))
 
 -- ---- what the words of an answer say
 met-number : (v : Verdict) → verdictNumber v ≡ 0 → v ≡ Met
@@ -118,7 +101,8 @@ unfolding answer
 says-bound t D L e = rw e (not-none (leb (bound t L) D), refl)
 
 -- ---- a promise that is kept is kept in the words
-kept-words : (old new : Plan) (before after : List ℕ) (k r : ℕ) → Kept old new k r → RowSays old before r → RowSays new after k → KeptWords before r after k
+kept-words : (old new : Plan) (before after : List ℕ) (k r : ℕ) → Kept old new k r
+    → RowSays before r (rowAnswer old (at old r)) → RowSays after k (rowAnswer new (at new k)) → KeptWords before r after k
 kept-words old new before after k r kept b a =
     record {
       bound = λ some.
@@ -142,4 +126,4 @@ words-kept old new out out′ e x y k r h i d =
     let q = l .stands k h in
     let same : l .row k h ≡ r = one-row (planFrom old) (file-not-refused old f) (l .row k h) r (q .among) i (sym (q .label) ∙ d) in
     kept-words (planFrom old) (planFrom new) (answerFileOf old out .1) (answerFileOf new out′ .1) k r
-    (rw same at (s .kept e l k h)) (row-says old out r x i) (row-says new out′ k y h)
+    (rw same at (s .kept e l k h)) (answer-said old out r x i) (answer-said new out′ k y h)

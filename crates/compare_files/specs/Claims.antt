@@ -2,19 +2,20 @@
 use mathlib.Core.Path.{_≡_}
 use mathlib.Core.List.{List}
 use mathlib.Core.Logic.{_↔_}
-use Prim.Native.Nat.{ℕ, _+_, _*_, _≤_, _<_}
-use lib.ListN.{length, getD}
-use Rattle.checks.specs.declared.Checked.the-variants.{Fine}
+use Prim.Native.Nat.{ℕ, _≤_, _<_}
+use lib.ListN.{length}
+use Rattle.judge.specs.declared.Checked.the-variants.{Fine}
 use Rattle.file.specs.File.{readOf}
-use Rattle.answers.specs.Words.{words, answerFileOf}
+use Rattle.row_words.specs.RowWords.{verdictAt, boundAt}
+use Rattle.answer_files.specs.AnswerFiles.{answerFileOf}
 use Rattle.promise.specs.Lighter.{at, Namesakes, Lighter, Kept}
 use Rattle.compare.specs.declared.Compared.{Compared}
 use Rattle.compare.specs.declared.Compared.the-variants.{Lighter as Compared·Lighter}
 use Rattle.compare_files.specs.Files.{planFrom, comparedFiles}
 
--- what is said of two files, as of two sheets: that the second is lighter is said exactly if neither is refused and it is; and then each of its
--- streams stands in the first and keeps its promise
-pub record SaidOfFiles (old new : List ℕ) (r : Compared) : Type 0 where
+-- what is said of two files, as of two sheets: that the second is lighter is said exactly if neither is refused and it is; and then each of
+-- its streams stands in the first and keeps its promise
+pub record SaysLighterOfFiles (old new : List ℕ) (r : Compared) : Type 0 where
   pub is : r ≡ comparedFiles old new
   pub exactly : (r ≡ Compared·Lighter) ↔ ((readOf old .answer ≡ Fine) × (readOf new .answer ≡ Fine) × Lighter (planFrom old) (planFrom new))
   pub kept : r ≡ Compared·Lighter → (l : Lighter (planFrom old) (planFrom new)) (k : ℕ) (h : k < length (planFrom new .streams))
@@ -28,13 +29,6 @@ LabelsStand =
     (old new : List ℕ) → comparedFiles old new ≡ Compared·Lighter → (k : ℕ) → k < length (planFrom new .streams)
     → (r : ℕ) × (r < length (planFrom old .streams)) × Namesakes (at (planFrom new) k) (at (planFrom old) r)
 
--- the answer words of row r: its verdict (0 met, 1 missed, 2 none), and its bound
-abbrev pub verdictAt : List ℕ → ℕ → ℕ
-verdictAt answers r = getD answers (words * r) 0
-
-abbrev pub boundAt : List ℕ → ℕ → ℕ
-boundAt answers r = getD answers (words * r + 1) 0
-
 -- row k of the second answers keeps what row r of the first promised: a bound stays, no larger, and 0 stays 0
 pub record KeptWords (before : List ℕ) (r : ℕ) (after : List ℕ) (k : ℕ) : Type 0 where
   pub bound : (verdictAt before r ≡ 2 → ⊥) → (verdictAt after k ≡ 2 → ⊥) × (boundAt after k ≤ boundAt before r)
@@ -43,6 +37,10 @@ pub record KeptWords (before : List ℕ) (r : ℕ) (after : List ℕ) (k : ℕ) 
 -- .. and every row keeps what its label's row in the first promised, whatever memory was lent for the answers
 abbrev pub WordsKept : Type 0
 WordsKept =
-    (old new out out′ : List ℕ) → comparedFiles old new ≡ Compared·Lighter → answerFileOf old out .0 ≡ Fine → answerFileOf new out′ .0 ≡ Fine
-    → (k r : ℕ) → k < length (planFrom new .streams) → r < length (planFrom old .streams) → Namesakes (at (planFrom new) k) (at (planFrom old) r)
+    (old new out out′ : List ℕ) → comparedFiles old new ≡ Compared·Lighter
+    → answerFileOf old out .0 ≡ Fine
+    → answerFileOf new out′ .0 ≡ Fine
+    → (k r : ℕ) → k < length (planFrom new .streams)
+    → r < length (planFrom old .streams)
+    → Namesakes (at (planFrom new) k) (at (planFrom old) r)
     → KeptWords (answerFileOf old out .1) r (answerFileOf new out′ .1) k

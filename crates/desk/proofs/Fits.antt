@@ -1,10 +1,8 @@
--- No listing of a plan file is longer than 3,366 bytes: its fields are words of 32 bits, its bounds have ten digits. Assumes nothing.
+-- A listing of a plan file is no longer than the largest: its fields are words of 32 bits, its bounds have ten digits. Assumes nothing.
 use mathlib.Core.Path.{_≡_, refl, ap, _∙_}
 use mathlib.Core.List.{List, [], _∷_, map}
-use Prim.Native.Nat.{ℕ, zero, suc, _+_, _^_, _≤_, _<_}
-use native.Mathlib.Nat.{zero-add}
+use Prim.Native.Nat.{ℕ, zero, suc, _^_, _<_}
 use native.Mathlib.Omega.{arith}
-use borrow.Author.Tests.{le-leb}
 use lib.ListN.{length, getD, length-map}
 use lib.Pow.{pow-mono}
 use Rattle.plan.specs.Plan.{Plan, planOf, blank}
@@ -12,14 +10,12 @@ use Rattle.plan.specs.Rules.{rowAnswer, answers}
 use Rattle.plan.proofs.Rules.{row-within}
 use Rattle.checks.specs.Claims.{Right}
 use Rattle.checks.proofs.Fine.{fine-if-right}
-use Rattle.file.specs.File.{planIn}
-use Rattle.file.proofs.Reading.{fine-read, one-sheet}
-use Rattle.words.specs.Words.{wordsOf}
-use Rattle.text.specs.declared.Put.the-variants.{At}
+use Rattle.file.proofs.Reading.{planAt, fine-read}
+use Rattle.carried.proofs.Plans.{one-sheet}
 use Rattle.text.specs.Claims.{Printed, Listed}
 use Rattle.text.specs.Listing.{listingOf}
-use Rattle.text.specs.Put.{put}
-use Rattle.text.proofs.Size.{largest-of-bounds}
+use Rattle.text.proofs.Laying.{all-put}
+use Rattle.text.proofs.Size.{largest-listing}
 use Rattle.desk.specs.Desk.{shownAs, shown}
 use Rattle.desk.specs.Claims.{ListingFits}
 
@@ -48,17 +44,13 @@ module _ (n m : ℕ) (p : Plan) (r : Right n m p) where
   listed : Listed 10 p (answers p)
   listed = record { count = r .within .count; stream = printed; bound = small }
 
-  size : length (listingOf p (answers p)) ≤ 3366
-  size = largest-of-bounds p (answers p) listed
-
-fits : (text buffer : List ℕ) → length text ≤ length buffer → put buffer 0 text .0 ≡ At (length text)
-fits text buffer h = rw (le-leb (0 + length text) (length buffer) (omega arith)) (ap At (zero-add _))
-
 pub listing-fits : ListingFits
 unfolding shown
 listing-fits bs buffer e h =
     let f = fine-read bs e in
-    let p = planIn (f .n) (f .m) (wordsOf bs) in
-    let shows : shown bs ≡ listingOf p (answers p) = ap (λ r. shownAs (r .answer) (planOf (r .sheet))) (f .read) ∙ ap (λ q. listingOf q (answers q)) (one-sheet p) in
+    let p = planAt (f .n) (f .m) bs in
     let right = fine-if-right (f .n) (f .m) p .0 (f .values) in
-    rw shows (fits (listingOf p (answers p)) buffer (omega (arith, size (f .n) (f .m) p right)))
+    let same = one-sheet p (right .within .count) (right .within .sources) in
+    let shows : shown bs ≡ listingOf p (answers p) = ap (λ r. shownAs (r .answer) (planOf (r .sheet))) (f .read) ∙ ap (λ q. listingOf q (answers q)) same in
+    let size = largest-listing 10 p (answers p) (omega arith) (listed (f .n) (f .m) p right) in
+    rw shows (ap (λ x. x .0) (all-put (listingOf p (answers p)) buffer (omega arith)))

@@ -3,8 +3,8 @@ use mathlib.Core.List.{List}
 use Prim.Native.Nat.{ℕ}
 use Rattle.plan.specs.Plan.{Plan, planOf}
 use Rattle.plan.specs.Rules.{answers}
-use Rattle.checks.specs.declared.Checked.{Checked}
-use Rattle.checks.specs.declared.Checked.the-variants.{Fine, Refused}
+use Rattle.judge.specs.declared.Checked.{Checked}
+use Rattle.judge.specs.declared.Checked.the-variants.{Fine, Refused}
 use Rattle.file.specs.File.{fileOf, readOf}
 use Rattle.ascii.specs.Ascii.{ascii}
 use Rattle.text.specs.Listing.{listingOf, refusedOf}

@@ -1,15 +1,26 @@
 // What the desk is shown of a plan file: its listing, whether it is fine, or the file again; of a refused one the line of its refusal.
 //
 // Every public function answers for any bytes, and its contract fixes each byte of the lent buffer. Nothing is assumed.
-// This crate joins the reader, the rows, the rewriter and the text; it must not know of input and output.
-ghost use Rattle.desk.specs.Desk.{shown, shownRefusal, shownFile};
+// This crate joins the reader, the answers, the rewriter and the text; it must not know of input and output.
+ghost use mathlib.Core.Path.{_≡_};
+ghost use Prim.Native.Nat.{_+_};
+ghost use lib.ListN.{length, replicate};
+ghost use Rattle.names.specs.Limits.{streams, sources};
+ghost use Rattle.carried.specs.Layout as layout;
 ghost use Rattle.ascii.specs.Ascii.{ascii};
+ghost use Rattle.text.specs.Claims.{most};
 ghost use Rattle.text.specs.Put.{Puts};
-use checks::Checked;
+ghost use Rattle.desk.specs.Desk.{shown, shownRefusal, shownFile};
+use answers::answer_values;
+use carried::CARRIED;
+use carried::CONTENTS;
+use carried::WORD;
 use file::Written;
+use judge::Checked;
+use names::STREAMS;
 use reader::read;
 use rewriter::rewrite;
-use rows::answer_all;
+use row_words::WORDS_PER_ROW;
 use text::Put;
 use text::lay_text;
 use text::listing;
@@ -17,6 +28,28 @@ use text::refused;
 
 // The number of the refusal that a file is written by where its bytes have no room.
 const NO_ROOM: u32 = 6;
+
+// One byte more than the largest file has, so that a longer one is seen to be too long.
+const FILE: usize = WORD * (CONTENTS + CARRIED) + 1;
+
+// The header, and for each row what it has at most, with a bound of 10 digits.
+const LISTED: usize = 38 + STREAMS * 52;
+
+// Zeros, for a program to read a file into.
+pub fn file_buffer() -> [u8; FILE]
+    ensures { λ r. ⌜ r ≡ replicate (layout.size streams sources + 1) 0 ⌝ }
+    ensures { λ r. ⌜ layout.size streams sources + 1 ≡ length r ⌝ }
+{
+    [0; FILE]
+}
+
+// Zeros, for a program to have a listing in, however large the plan and its bounds (ListingFits, in specs/Claims.antt).
+pub fn listing_buffer() -> [u8; LISTED]
+    ensures { λ r. ⌜ r ≡ replicate (most 10) 0 ⌝ }
+    ensures { λ r. ⌜ most 10 ≡ length r ⌝ }
+{
+    [0; LISTED]
+}
 
 // The listing of a file's plan, at the start of the buffer; the rest of it stays.
 pub fn show(bytes: &[u8], out: &mut [u8]) -> Put
@@ -28,9 +61,9 @@ pub fn show(bytes: &[u8], out: &mut [u8]) -> Put
     match answer {
         Checked::Refused(r) => refused(r, out),
         Checked::Fine => {
-            let answers = answer_all(sheet);
-            let rows = answers.rows;
-            listing(sheet, rows, out)
+            let mut answers = [0; WORDS_PER_ROW * STREAMS];
+            answer_values(sheet, &mut answers);
+            listing(sheet, &answers, out)
         }
     }
 }

@@ -2,7 +2,7 @@
 use mathlib.Core.Path.{_≡_, refl, sym, ap, _∙_, subst}
 use mathlib.Core.Bool.{Bool, true, false, true≢false}
 use mathlib.Core.List.{List, [], _∷_}
-use Prim.Native.Nat.{ℕ, zero, suc, _+_, _*_, _≤_, _<_}
+use Prim.Native.Nat.{ℕ, zero, suc, _+_, _≤_, _<_}
 use native.Mathlib.Nat.{lt-of-not-le}
 use native.Mathlib.Decide.{decLe}
 use native.Mathlib.Omega.{arith}
@@ -12,7 +12,6 @@ use lib.ListN.{length}
 use Rattle.laws.specs.declared.Found.{Found}
 use Rattle.laws.specs.declared.Found.the-variants.{At, Nothing}
 use Rattle.laws.proofs.Tests.{both}
-use Rattle.fields.specs.Layout as layout
 use Rattle.fields.specs.Fields.{Field, inside, lowest}
 use Rattle.fields.specs.Claims.{fieldAt, LowestOutside, AllInside, AtTheLowest, NothingIfInside, InsideIfWithin}
 use Rattle.fields.proofs.Lowest.{within}
@@ -29,12 +28,12 @@ Said k fs (At p) = LowestOutside k fs p
 Said k fs Nothing = AllInside fs
 
 -- one field more, in front
-more : (k : ℕ) (f : Field) (fs : List Field) (b : Bool) → inside f ≡ b → (r : Found) → Said (k + 1) fs r → Said k (f ∷ fs) (elim b [ true ↦ r | false ↦ At (layout.word * k) ])
+more : (k : ℕ) (f : Field) (fs : List Field) (b : Bool) → inside f ≡ b → (r : Found) → Said (k + 1) fs r → Said k (f ∷ fs) (elim b [ true ↦ r | false ↦ At k ])
 more k f fs true e (At p) s =
     record {
       i = suc (s .i);
       among = omega (arith, s .among);
-      offset = omega (arith, s .offset);
+      counted = omega (arith, s .counted);
       outside = s .outside;
       before = λ j h. before j h;
     }
@@ -47,7 +46,7 @@ more k f fs true e Nothing s = all
     all : (i : ℕ) → i < length (f ∷ fs) → inside (fieldAt (f ∷ fs) i) ≡ true
     all zero h = e
     all (suc i) h = s i (omega arith)
-more k f fs false e r s = record { i = 0; among = omega arith; offset = omega arith; outside = e; before = λ j h. absurd (omega arith) }
+more k f fs false e r s = record { i = 0; among = omega arith; counted = omega arith; outside = e; before = λ j h. absurd (omega arith) }
 
 said : (k : ℕ) (fs : List Field) → Said k fs (lowest k fs)
 unfolding lowest
@@ -62,7 +61,7 @@ one : (k : ℕ) (fs : List Field) (r s : Found) → Said k fs r → Said k fs s 
 one k fs (At p) (At q) a b =
     let x = not-below fs (a .i) (b .i) (b .outside) (a .before (b .i)) in
     let y = not-below fs (b .i) (a .i) (a .outside) (b .before (a .i)) in
-    ap At (omega (arith, a .offset, b .offset))
+    ap At (omega (arith, a .counted, b .counted))
 one k fs (At p) Nothing a b = absurd (true≢false (sym (b (a .i) (a .among)) ∙ a .outside))
 one k fs Nothing (At q) a b = absurd (true≢false (sym (a (b .i) (b .among)) ∙ b .outside))
 one k fs Nothing Nothing a b = refl

@@ -1,8 +1,6 @@
 pub mod All
-pub mod Pieces
 pub mod Lowest
-pub mod Words
 pub mod Inside
 pub mod Limits
-pub mod Places
+pub mod Carried
 pub mod Unique

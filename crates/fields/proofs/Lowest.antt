@@ -15,9 +15,9 @@ use Rattle.laws.specs.declared.Found.the-variants.{At, Nothing}
 use Rattle.laws.proofs.Tests.{apart}
 use Rattle.plan.specs.declared.Stream.{Stream}
 use Rattle.plan.specs.Plan.{Plan}
-use Rattle.fields.specs.Layout as layout
+use Rattle.carried.specs.Layout as layout
 use Rattle.fields.specs.Fields.{Field, _from_to_, timingFields, streamFields, gapField, fields, inside, lowest}
-use Rattle.fields.specs.Private.{fieldsOf}
+use Rattle.fields.specs.private.Bands.{fieldsOf}
 
 -- ---- one field
 module _ (w a b : ℕ) where
@@ -39,7 +39,7 @@ pub pass : (k : ℕ) (f : Field) (fs : List Field) → inside f ≡ true → low
 unfolding lowest
 pass k f fs e = rw (lowest, e) refl
 
-pub stop : (k : ℕ) (f : Field) (fs : List Field) → inside f ≡ false → lowest k (f ∷ fs) ≡ At (layout.word * k)
+pub stop : (k : ℕ) (f : Field) (fs : List Field) → inside f ≡ false → lowest k (f ∷ fs) ≡ At k
 unfolding lowest
 stop k f fs e = rw (lowest, e) refl
 
@@ -90,21 +90,21 @@ length-streams nb [] = refl
 length-streams nb (s ∷ streams) = omega (arith, length-streams nb streams)
 
 module _ (p : Plan) where
-  pub timing-here : (k : ℕ) → lowest layout.contents (timingFields (p .timing)) ≡ At k → lowest layout.contents (fields p) ≡ At k
+  pub timing-here : (k : ℕ) → lowest 0 (timingFields (p .timing)) ≡ At k → lowest 0 (fields p) ≡ At k
   unfolding fields
-  timing-here k e = append-at layout.contents k (timingFields (p .timing)) _ e
+  timing-here k e = append-at 0 k (timingFields (p .timing)) _ e
 
-  module _ (e : lowest layout.contents (timingFields (p .timing)) ≡ Nothing) where
-    pub streams-here : (k : ℕ) → lowest (layout.streamAt 0) (flatMap (streamFields (p .timing .nb)) (p .streams)) ≡ At k → lowest layout.contents (fields p) ≡ At k
+  module _ (e : lowest 0 (timingFields (p .timing)) ≡ Nothing) where
+    pub streams-here : (k : ℕ) → lowest (layout.streamAt 0) (flatMap (streamFields (p .timing .nb)) (p .streams)) ≡ At k → lowest 0 (fields p) ≡ At k
     unfolding fields
     streams-here k d =
-        append-none layout.contents (timingFields (p .timing)) _ e ∙ append-at (layout.streamAt 0) k (flatMap (streamFields (p .timing .nb)) (p .streams)) _ d
+        append-none 0 (timingFields (p .timing)) _ e ∙ append-at (layout.streamAt 0) k (flatMap (streamFields (p .timing .nb)) (p .streams)) _ d
 
     pub gaps-left : lowest (layout.streamAt 0) (flatMap (streamFields (p .timing .nb)) (p .streams)) ≡ Nothing
-        → lowest layout.contents (fields p) ≡ lowest (layout.streamAt (length (p .streams))) (map gapField (p .gaps))
+        → lowest 0 (fields p) ≡ lowest (layout.streamAt (length (p .streams))) (map gapField (p .gaps))
     unfolding fields
     gaps-left d =
-        append-none layout.contents (timingFields (p .timing)) _ e
+        append-none 0 (timingFields (p .timing)) _ e
         ∙ append-none (layout.streamAt 0) (flatMap (streamFields (p .timing .nb)) (p .streams)) _ d
         ∙ ap (λ n. lowest (layout.streamAt 0 + n) (map gapField (p .gaps))) (length-streams (p .timing .nb) (p .streams))
 
@@ -120,7 +120,7 @@ module _ (words least most : List ℕ) where
     unfolding fieldsOf
     next = rw (add-one i, drop-cons words i 0 h, drop-cons least i 0 (omega arith), drop-cons most i 0 (omega arith)) refl
 
-    pub here : inside (getD words i 0 from getD least i 0 to getD most i 0) ≡ false → lowest k (fieldsOf words least most) ≡ At (layout.word * (k + i))
+    pub here : inside (getD words i 0 from getD least i 0 to getD most i 0) ≡ false → lowest k (fieldsOf words least most) ≡ At (k + i)
     here e = so-far ∙ ap (lowest (k + i)) next ∙ stop (k + i) _ (rest (i + 1)) e
 
     pub not-here : inside (getD words i 0 from getD least i 0 to getD most i 0) ≡ true → lowest k (fieldsOf words least most) ≡ lowest (k + (i + 1)) (rest (i + 1))

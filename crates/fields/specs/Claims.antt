@@ -1,24 +1,24 @@
 -- What is proved of the lowest field outside its limits; the proofs are in proofs/Inside.antt and proofs/Limits.antt.
 use mathlib.Core.Path.{_≡_}
 use mathlib.Core.Bool.{true, false}
-use mathlib.Core.List.{List}
+use mathlib.Core.List.{List, map}
 use mathlib.Core.Logic.{_↔_}
-use Prim.Native.Nat.{ℕ, _+_, _*_, _≤_, _<_}
+use Prim.Native.Nat.{ℕ, _+_, _≤_, _<_}
 use lib.ListN.{length, getD}
 use Rattle.laws.specs.declared.Found.the-variants.{At, Nothing}
 use Rattle.names.specs.Limits.{ticks}
 use Rattle.plan.specs.Plan.{Plan, blank, TimingWithin, StreamWithin, GapWithin}
-use Rattle.fields.specs.Layout as layout
+use Rattle.carried.specs.Carried.{valuesOf}
 use Rattle.fields.specs.Fields.{Field, _from_to_, fields, inside, lowest}
 
 abbrev pub fieldAt : List Field → ℕ → Field
 fieldAt fs i = getD fs i (0 from 0 to 0)
 
--- p is the byte offset of a field outside its limits, and every field before it is inside
+-- p is a field outside its limits, the first counted as k, and every field before it is inside
 pub record LowestOutside (k : ℕ) (fs : List Field) (p : ℕ) : Type 0 where
   pub i : ℕ
   pub among : i < length fs
-  pub offset : p ≡ layout.word * (k + i)
+  pub counted : p ≡ k + i
   pub outside : inside (fieldAt fs i) ≡ false
   pub before : (j : ℕ) → j < i → inside (fieldAt fs j) ≡ true
 
@@ -45,3 +45,7 @@ pub record FieldsWithin (p : Plan) : Type 0 where
 
 abbrev pub InsideIfFieldsWithin : Type 0
 InsideIfFieldsWithin = (p : Plan) → AllInside (fields p) ↔ FieldsWithin p
+
+-- the words of a plan's fields are the words that are carried, in their order
+abbrev pub WordsAreCarried : Type 0
+WordsAreCarried = (p : Plan) → map (λ f. f .word) (fields p) ≡ valuesOf p

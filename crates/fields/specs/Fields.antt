@@ -1,7 +1,7 @@
--- The fields of a plan's bodies in file order, each with its limits, and refusal 3: the lowest that is outside.
+-- The fields of a plan in the order in which they are carried, each with its limits, and the lowest that is outside.
 use mathlib.Core.Bool.{Bool, true, false, _&&_}
 use mathlib.Core.List.{List, [], _∷_, _++_, map, flatMap}
-use Prim.Native.Nat.{ℕ, _+_, _-_, _*_, _^_}
+use Prim.Native.Nat.{ℕ, _+_, _-_, _^_}
 use lib.Dec.{leb}
 use Rattle.names.specs.Limits.{constant, payload, bits, ticks}
 use Rattle.laws.specs.declared.Found.{Found}
@@ -9,9 +9,8 @@ use Rattle.laws.specs.declared.Found.the-variants.{At, Nothing}
 use Rattle.plan.specs.declared.Timing.{Timing}
 use Rattle.plan.specs.declared.Stream.{Stream}
 use Rattle.plan.specs.Plan.{Plan}
-use Rattle.fields.specs.Layout as layout
 
--- a word of a body, and the least and the most that it may be
+-- a word of a plan, and the least and the most that it may be
 pub record Field : Type 0 where
   pub word : ℕ
   pub least : ℕ
@@ -35,7 +34,8 @@ timingFields t =
     ∷ t .nb from 1 to bits
     ∷ []
 
--- Stream, six words: label (any word), priority (0 to 2^NB - 1), T (1 to 4,294,967,295), J (0 to that), C (1 to 65,535), D (1 to 4,294,967,295)
+-- Stream, six words: label (any word), priority (0 to 2^NB - 1), T (1 to 4,294,967,295), J (0 to that), C (1 to 65,535),
+-- D (1 to 4,294,967,295)
 abbrev pub streamFields : ℕ → Stream → List Field
 streamFields nb s =
     s .label .0 from 0 to ticks
@@ -50,22 +50,15 @@ streamFields nb s =
 abbrev pub gapField : ℕ → Field
 gapField n = n from 1 to ticks
 
--- the bodies, with nothing between
+-- the timing, the streams, the gaps
 unfoldable pub fields : Plan → List Field
 fields p =
     timingFields (p .timing) ++ (flatMap (streamFields (p .timing .nb)) (p .streams) ++ map gapField (p .gaps))
 
--- the words alone; the number of priority bits bears on a stream's limits and not on its words
-abbrev pub timingWords : Timing → List ℕ
-timingWords t = map (λ f. f .word) (timingFields t)
-
-abbrev pub streamWords : Stream → List ℕ
-streamWords s = map (λ f. f .word) (streamFields 0 s)
-
 abbrev pub inside : Field → Bool
 inside f = leb (f .least) (f .word) && leb (f .word) (f .most)
 
--- the byte offset of the lowest field outside its limits, where the first of the fields is word k of the file
+-- the lowest field outside its limits, where the first of the fields is counted as k. Where it stands in a file is not said here
 unfoldable pub lowest : ℕ → List Field → Found
 lowest k [] = Nothing
-lowest k (f ∷ fs) = elim (inside f) [ true ↦ lowest (k + 1) fs | false ↦ At (layout.word * k) ]
+lowest k (f ∷ fs) = elim (inside f) [ true ↦ lowest (k + 1) fs | false ↦ At k ]

@@ -1,5 +1,3 @@
-pub mod Layout
 pub mod Fields
-pub mod Words
 pub mod Claims
-pub mod Private
+pub mod private

@@ -15,23 +15,24 @@ use Rattle.laws.specs.Lists.{sumOf, largestOf, those, rows}
 use Rattle.laws.specs.Search.{first}
 use Rattle.laws.specs.Signed.{largestTo}
 use Rattle.laws.proofs.Tests.{both}
-use Rattle.repeats.specs.Rows.{some}
+use Rattle.laws.specs.Rows.{some}
 use Rattle.repeats.specs.Repeats.{firstRepeat}
 use Rattle.bound.specs.Terms.{Terms}
 use Rattle.bound.specs.Bound.{E, demand, sideL, busy, sideW, w, bound, answerOf, answer}
 use Rattle.plan.specs.Rules.{«V», U, C″, B, hit, terms, answers}
 use Rattle.fields.specs.Fields.{fields, lowest}
-use Rattle.checks.specs.Checks.{judge}
+use Rattle.judge.specs.Table.{judge}
 use Rattle.words.specs.Words.{wordsOf, bytesOf}
-use Rattle.file.specs.File.{words, planIn, same, sizeRight, fileOf, readOf}
+use Rattle.carried.specs.Carried.{planIn}
+use Rattle.file.specs.File.{fileWords, same, sizeRight, fileOf, readOf}
 use Rattle.decimal.specs.Decimal.{digitsOf, digits}
 use Rattle.text.specs.Listing.{listingOf}
 use Rattle.text.specs.Listing as text
-use Rattle.tournament_state.specs.Refusals.{eightPriorities, nine, verdictOf}
+use Rattle.tournament_state.specs.Refusals.{lowestUnfit, verdictOf}
 use Rattle.tournament.specs.Rule.{begunOf, heardAt, silencedAt, marksAfter, lowestMarked, winnerOf, nextAt, steps}
 use Rattle.tournament.specs.Answers.{startOf, runOf}
 use Rattle.figures.specs.Load.{load, delayed}
-use Rattle.figures.specs.Figures.{Entry, constants, plan, row, listing, bytes, tournament}
+use Rattle.figures.specs.Figures.{Entry, ofTiming, ofPlan, ofRow, ofListing, ofBytes, ofTournament}
 use Rattle.figures.specs.Figures.{values, file, refusal, at, count, instance, states, Holds, table, All, Figures}
 use Rattle.figures.proofs.Load.{full-is-none}
 
@@ -59,17 +60,17 @@ abbrev bySize : Bool → ℕ → ℕ
 bySize ok number = cond ok (number + 1) 1
 
 again : Entry → Entry
-again (constants t v u) = constants t («V» t) (U t)
-again (plan p c d) = plan p (values p) (file (fileOf p))
-again (row p k c L q is a) =
+again (ofTiming t v u) = ofTiming t («V» t) (U t)
+again (ofPlan p c d) = ofPlan p (values p) (file (fileOf p))
+again (ofRow p k c L q is a) =
     let r = terms p (at p k) in
     let f = sought r (full r (r .own .T)) in
-    row p k (C″ p (at p k)) f (count r f) (rows (count r f) (instance r)) (answerOf r (at p k .deadline) f)
-again (listing p size text) = listing p (length (fileOf p)) (listingOf p (answers p))
-again (bytes bs size number) = bytes bs (length bs) (bySize (sizeRight bs) number)
-again (tournament NB n places a b ss) =
+    ofRow p k (C″ p (at p k)) f (count r f) (rows (count r f) (instance r)) (answerOf r (at p k .deadline) f)
+again (ofListing p size text) = ofListing p (length (fileOf p)) (listingOf p (answers p))
+again (ofBytes bs size number) = ofBytes bs (length bs) (bySize (sizeRight bs) number)
+again (ofTournament NB n places a b ss) =
     let start = startOf NB n places in
-    tournament NB n places (start .answer) (runOf (start .tournament) .answer) (states (start .tournament))
+    ofTournament NB n places (start .checked) (runOf (start .tournament) .checked) (states (start .tournament))
 
 -- ---- an entry that is the same again holds
 
@@ -84,12 +85,12 @@ by-size bs any size number e f h = go (sizeRight any) refl (rw (f ∙ sym e) h)
 
 holds : (e : Entry) → again e ≡ e → Holds e
 unfolding again answer
-holds (constants t v u) e = (cc, cc)
-holds (plan p c d) e = (cc, cc)
-holds (row p k c L q is a) e = let b = is-busy (terms p (at p k)) in (cc, cc, cc, cc, cc)
-holds (listing p size text) e = (cc, cc)
-holds (bytes bs size number) e = (cc, λ any f. by-size bs any size number (cc) f (cc))
-holds (tournament NB n places a b ss) e = (cc, cc, cc)
+holds (ofTiming t v u) e = (cc, cc)
+holds (ofPlan p c d) e = (cc, cc)
+holds (ofRow p k c L q is a) e = let b = is-busy (terms p (at p k)) in (cc, cc, cc, cc, cc)
+holds (ofListing p size text) e = (cc, cc)
+holds (ofBytes bs size number) e = (cc, λ any f. by-size bs any size number (cc) f (cc))
+holds (ofTournament NB n places a b ss) e = (cc, cc, cc)
 
 all-hold : (es : List Entry) → map again es ≡ es → All es
 all-hold [] e = tt
@@ -99,9 +100,9 @@ all-hold (x ∷ es) e = (holds x cc, all-hold es cc)
 same-again : map again table ≡ table
 unfolding again full load delayed sumOf largestOf those rows first largestTo some firstRepeat
     E demand sideL busy sideW w bound answer B hit terms
-    fields lowest flatMap judge wordsOf bytesOf words planIn same readOf
-    listingOf text.rows text.row digits digitsOf
-    eightPriorities nine verdictOf begunOf heardAt silencedAt marksAfter lowestMarked winnerOf nextAt steps startOf runOf
+    fields lowest flatMap judge wordsOf bytesOf fileWords planIn same readOf
+    listingOf text.rowLines text.row digits digitsOf
+    lowestUnfit verdictOf begunOf heardAt silencedAt marksAfter lowestMarked winnerOf nextAt steps startOf runOf
 same-again = refl
 
 pub figures : Figures

@@ -18,17 +18,16 @@ use Rattle.plan.specs.declared.Timing.{Timing}
 use Rattle.plan.specs.declared.Stream.{Stream}
 use Rattle.plan.specs.Plan.{Plan, blank}
 use Rattle.plan.specs.Rules.{«V», U, C″, terms, rowAnswer, answers}
-use Rattle.checks.specs.declared.Checked.{Checked}
-use Rattle.checks.specs.declared.Checked.the-variants.{Fine, Refused}
-use Rattle.checks.specs.Checks.{judge, lines}
+use Rattle.judge.specs.declared.Checked.{Checked}
+use Rattle.judge.specs.declared.Checked.the-variants.{Fine, Refused}
+use Rattle.judge.specs.Table.{judge}
+use Rattle.checks.specs.Checks.{lines}
 use Rattle.file.specs.File.{fileOf, readOf}
 use Rattle.ascii.specs.Ascii.{ascii}
 use Rattle.text.specs.Listing.{listingOf}
 use Rattle.tournament_state.specs.declared.Phase.{Phase}
 use Rattle.tournament_state.specs.declared.Phase.the-variants.{AtBit, Finished}
 use Rattle.tournament_state.specs.declared.Tournament.{Tournament}
-use Rattle.tournament_state.specs.declared.Answer.{Answer as Reply}
-use Rattle.tournament_state.specs.declared.Answer.the-variants.{Done}
 use Rattle.tournament.specs.Rule.{steps}
 use Rattle.tournament.specs.Answers.{startOf, runOf}
 use Rattle.figures.specs.Plans.{base, P1, P2, P3, P4, P5, P6, P7, P8, P9, P10, P11, P12}
@@ -37,17 +36,17 @@ use Rattle.figures.specs.Plans.{base, P1, P2, P3, P4, P5, P6, P7, P8, P9
 
 pub data Entry : Type 0 where
   -- timing constants: V and U
-  constants : Timing → ℕ → ℕ → Entry
+  ofTiming : Timing → ℕ → ℕ → Entry
   -- a plan: the answer to its values, and to its file
-  plan : Plan → Checked → Checked → Entry
+  ofPlan : Plan → Checked → Checked → Entry
   -- a plan and a row: C'', L or none, Q, w(q) and the term of q for q from 0 to Q - 1, and the answer
-  row : Plan → ℕ → ℕ → Found → ℕ → List (ℕ × ℤ) → Answer → Entry
+  ofRow : Plan → ℕ → ℕ → Found → ℕ → List (ℕ × ℤ) → Answer → Entry
   -- a plan: how many bytes its file has, and the whole listing
-  listing : Plan → ℕ → List ℕ → Entry
+  ofListing : Plan → ℕ → List ℕ → Entry
   -- a file: how many bytes it has, and the number of the refusal, at 0, of any file of so many bytes
-  bytes : List ℕ → ℕ → ℕ → Entry
+  ofBytes : List ℕ → ℕ → ℕ → Entry
   -- NB, how many contend, and their priorities: the answers to start and run, and phase and marks before each step and at the end
-  tournament : ℕ → ℕ → List Priority → Reply → Reply → List (Phase × List Bool) → Entry
+  ofTournament : ℕ → ℕ → List Priority → Checked → Checked → List (Phase × List Bool) → Entry
 
 -- the answer to a plan's values, and to a file
 abbrev pub values : Plan → Checked
@@ -80,16 +79,16 @@ abbrev pub states : Tournament → List (Phase × List Bool)
 states t = rows (t .bits) (λ k. state (steps k t)) ++ state (runOf t .tournament) ∷ []
 
 abbrev pub Holds : Entry → Type 0
-Holds (constants t v u) = («V» t ≡ v) × (U t ≡ u)
-Holds (plan p c d) = (values p ≡ c) × (file (fileOf p) ≡ d)
-Holds (row p k c L q is a) =
+Holds (ofTiming t v u) = («V» t ≡ v) × (U t ≡ u)
+Holds (ofPlan p c d) = (values p ≡ c) × (file (fileOf p) ≡ d)
+Holds (ofRow p k c L q is a) =
     let r = terms p (at p k) in
     (C″ p (at p k) ≡ c) × (busy r ≡ L) × (count r L ≡ q) × (rows q (instance r) ≡ is) × (rowAnswer p (at p k) ≡ a)
-Holds (listing p size text) = (length (fileOf p) ≡ size) × (listingOf p (answers p) ≡ text)
-Holds (bytes bs size number) = (length bs ≡ size) × ((any : List ℕ) → length any ≡ size → file any ≡ refusal number 0)
-Holds (tournament NB n places a b ss) =
+Holds (ofListing p size text) = (length (fileOf p) ≡ size) × (listingOf p (answers p) ≡ text)
+Holds (ofBytes bs size number) = (length bs ≡ size) × ((any : List ℕ) → length any ≡ size → file any ≡ refusal number 0)
+Holds (ofTournament NB n places a b ss) =
     let start = startOf NB n places in
-    (start .answer ≡ a) × (runOf (start .tournament) .answer ≡ b) × (states (start .tournament) ≡ ss)
+    (start .checked ≡ a) × (runOf (start .tournament) .checked ≡ b) × (states (start .tournament) ≡ ss)
 
 -- ---- the table
 
@@ -116,8 +115,8 @@ abbrev row1 : List Bool
 row1 = false ∷ true ∷ false ∷ []
 
 -- the listing that the document prints for P1
-abbrev printed : List ℕ
-printed =
+abbrev listingOfP1 : List ℕ
+listingOfP1 =
     ascii "label priority bound deadline verdict\n"
     ++ ascii "10.1 1 39 60 met\n"
     ++ ascii "10.10 2 69 120 met\n"
@@ -126,45 +125,45 @@ printed =
 abbrev pub table : List Entry
 table =
     -- base constants: V = 8 and U = 10
-    constants base 8 10
+    ofTiming base 8 10
     -- P1: C'' is 23, 25, 20; the file has 152 bytes; the whole listing
-    ∷ plan P1 Fine Fine
-    ∷ row P1 0 23 (At 39) 1 (16 gives 39 ∷ []) (met 39)
-    ∷ row P1 1 25 (At 59) 1 (34 gives 69 ∷ []) (met 69)
-    ∷ row P1 2 20 (At 68) 1 (48 gives 68 ∷ []) (met 68)
-    ∷ listing P1 152 printed
+    ∷ ofPlan P1 Fine Fine
+    ∷ ofRow P1 0 23 (At 39) 1 (16 gives 39 ∷ []) (met 39)
+    ∷ ofRow P1 1 25 (At 59) 1 (34 gives 69 ∷ []) (met 69)
+    ∷ ofRow P1 2 20 (At 68) 1 (48 gives 68 ∷ []) (met 68)
+    ∷ ofListing P1 152 listingOfP1
     -- P2: bounds 62 (missed), 94, 93
-    ∷ plan P2 Fine Fine
-    ∷ row P2 0 23 (At 62) 1 (39 gives 62 ∷ []) (missed 62)
-    ∷ row P2 1 25 (At 84) 1 (59 gives 94 ∷ []) (met 94)
-    ∷ row P2 2 20 (At 93) 1 (73 gives 93 ∷ []) (met 93)
+    ∷ ofPlan P2 Fine Fine
+    ∷ ofRow P2 0 23 (At 62) 1 (39 gives 62 ∷ []) (missed 62)
+    ∷ ofRow P2 1 25 (At 84) 1 (59 gives 94 ∷ []) (met 94)
+    ∷ ofRow P2 2 20 (At 93) 1 (73 gives 93 ∷ []) (met 93)
     -- P3: L = 23, bound 23
-    ∷ plan P3 Fine Fine
-    ∷ row P3 0 23 (At 23) 1 (0 gives 23 ∷ []) (met 23)
+    ∷ ofPlan P3 Fine Fine
+    ∷ ofRow P3 0 23 (At 23) 1 (0 gives 23 ∷ []) (met 23)
     -- P4: none
-    ∷ plan P4 Fine Fine
-    ∷ row P4 0 23 Nothing 0 [] none
+    ∷ ofPlan P4 Fine Fine
+    ∷ ofRow P4 0 23 Nothing 0 [] none
     -- P5: none
-    ∷ plan P5 Fine Fine
-    ∷ row P5 0 23 Nothing 0 [] none
+    ∷ ofPlan P5 Fine Fine
+    ∷ ofRow P5 0 23 Nothing 0 [] none
     -- P6: L = 115, Q = 5, bound 53
-    ∷ plan P6 Fine Fine
-    ∷ row P6 0 23 (At 115) 5 (0 gives 53 ∷ 23 gives 46 ∷ 46 gives 39 ∷ 69 gives 32 ∷ 92 gives 25 ∷ []) (met 53)
+    ∷ ofPlan P6 Fine Fine
+    ∷ ofRow P6 0 23 (At 115) 5 (0 gives 53 ∷ 23 gives 46 ∷ 46 gives 39 ∷ 69 gives 32 ∷ 92 gives 25 ∷ []) (met 53)
     -- P7, the last: L = 70, w(0) = 20, w(1) = 60, bound 35, where the first instance alone gives 30
-    ∷ plan P7 Fine Fine
-    ∷ row P7 0 10 (At 19) 1 (9 gives 19 ∷ []) (met 19)
-    ∷ row P7 1 10 (At 49) 2 (19 gives 29 ∷ 39 gives 14 ∷ []) (met 29)
-    ∷ row P7 2 10 (At 70) 2 (20 gives 30 ∷ 60 gives 35 ∷ []) (met 35)
+    ∷ ofPlan P7 Fine Fine
+    ∷ ofRow P7 0 10 (At 19) 1 (9 gives 19 ∷ []) (met 19)
+    ∷ ofRow P7 1 10 (At 49) 2 (19 gives 29 ∷ 39 gives 14 ∷ []) (met 29)
+    ∷ ofRow P7 2 10 (At 70) 2 (20 gives 30 ∷ 60 gives 35 ∷ []) (met 35)
     -- P8: refused 4 at row 1
-    ∷ plan P8 (refusal 4 1) (refusal 4 1)
+    ∷ ofPlan P8 (refusal 4 1) (refusal 4 1)
     -- P9: still 4
-    ∷ plan P9 (refusal 4 1) (refusal 4 1)
+    ∷ ofPlan P9 (refusal 4 1) (refusal 4 1)
     -- P10: 43 bytes: 1
-    ∷ bytes P10 43 1
+    ∷ ofBytes P10 43 1
     -- P11: refused 3 at byte 96
-    ∷ plan P11 (refusal 3 96) (refusal 3 96)
+    ∷ ofPlan P11 (refusal 3 96) (refusal 3 96)
     -- P12: row 1 wins; rows 0 and 2 go silent at the second bit from the top
-    ∷ tournament 4 3 P12 Done Done
+    ∷ ofTournament 4 3 P12 Fine Fine
     ((AtBit 1, three) ∷ (AtBit 2, three) ∷ (AtBit 3, row1) ∷ (AtBit 4, row1) ∷ (Finished (record { 0 = 1 }), row1) ∷ [])
     ∷ []
 

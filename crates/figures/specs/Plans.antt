@@ -8,6 +8,7 @@ use Rattle.plan.specs.declared.Timing.{Timing}
 use Rattle.plan.specs.declared.Stream.{Stream}
 use Rattle.plan.specs.Plan.{Plan}
 use Rattle.file.specs.File.{fileOf}
+use Rattle.text.specs.Listing.{group}
 use Rattle.tournament_state.specs.Refusals.{none}
 
 -- F, E, TFCS, SWX, H, G, ETG, LAG, NB
@@ -18,7 +19,7 @@ constants f e tfcs swx h g etg lag nb = record { f = f; e = e; tfcs = tfcs; swx 
 abbrev pub stream : ℕ → ℕ → ℕ → ℕ → ℕ → ℕ → ℕ → Stream
 stream g n p t j c d =
     record {
-      label = record { 0 = g * 65536 + n };
+      label = record { 0 = g * group + n };
       priority = record { 0 = p };
       period = t;
       jitter = j;

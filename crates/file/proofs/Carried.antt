@@ -2,19 +2,22 @@
 use mathlib.Core.Path.{_≡_, refl, sym, ap, ap₂, _∙_}
 use mathlib.Core.List.{List}
 use Prim.Native.Nat.{ℕ}
+use native.Mathlib.Omega.{arith}
 use lib.ListN.{getD, replicate}
 use Rattle.names.specs.declared.Refusal.{Refusal}
 use Rattle.laws.proofs.Lists.{length-rows}
-use Rattle.words.specs.Words.{wordsOf, laidOnto}
 use Rattle.plan.specs.declared.Sheet.{Sheet}
 use Rattle.plan.specs.Plan.{Plan, planOf}
-use Rattle.fields.specs.Layout as layout
-use Rattle.checks.specs.declared.Checked.{Checked}
-use Rattle.checks.specs.declared.Checked.the-variants.{Fine, Refused}
-use Rattle.checks.specs.Checks.{judge, lines}
+use Rattle.carried.specs.Layout as layout
+use Rattle.carried.specs.Carried.{streamIn, planIn, sheetOf}
+use Rattle.carried.proofs.Plans.{one-sheet}
+use Rattle.judge.specs.declared.Checked.{Checked}
+use Rattle.judge.specs.declared.Checked.the-variants.{Fine, Refused}
+use Rattle.judge.specs.Table.{judge}
+use Rattle.checks.specs.Checks.{lines}
 use Rattle.file.specs.declared.Counts.the-variants.{Of, Refused as Counts·Refused}
-use Rattle.file.specs.File.{streamIn, planIn, sheetOf, readAs, readOf, countsOf}
-use Rattle.file.proofs.Reading.{one-sheet, counts-refused, counts-are, counts-room, plan-laid}
+use Rattle.file.specs.File.{bodiesIn, carriedOf, readAs, readOf, countsOf}
+use Rattle.file.proofs.Reading.{planAt, counts-refused, counts-are, counts-right, counts-plan}
 
 -- `read` is what is done with an answer and its sheet: by the counts and the plan where it is fine, and else by the refusal alone
 module _ {A : Type 0} (read : Checked → Sheet → A) (no : Refusal → A) (by : ℕ → ℕ → Plan → A)
@@ -25,21 +28,23 @@ module _ {A : Type 0} (read : Checked → Sheet → A) (no : Refusal → A) (by 
 
   module _ (bs : List ℕ) (n m : ℕ) (e : countsOf bs ≡ Of n m) where
     abbrev p : Plan
-    p = planIn n m (wordsOf bs)
+    p = planAt n m bs
 
     own : read Fine (sheetOf p) ≡ by n m p
     unfolding planIn
     own =
+        let n-is = length-rows n (λ r. streamIn (bodiesIn bs) (layout.streamAt r)) in
+        let m-is = length-rows m (λ k. getD (bodiesIn bs) (layout.gapAt n k) 0) in
+        let (some, few, quiet) = counts-right bs n m e in
         fine (sheetOf p)
-        ∙ ap₂ (λ i j. by i j (planOf (sheetOf p))) (length-rows n (λ r. streamIn (wordsOf bs) (layout.streamAt r))) (length-rows m (λ k. getD (wordsOf bs) (layout.gapAt n k) 0))
-        ∙ ap (by n m) (one-sheet p)
+        ∙ ap₂ (λ i j. by i j (planOf (sheetOf p))) n-is m-is
+        ∙ ap (by n m) (one-sheet p (omega (arith, n-is, few)) (omega (arith, m-is, quiet)))
 
     as-read : (c : Checked) → judge (lines n m p) ≡ c → read (readAs c p .answer) (readAs c p .sheet) ≡ by n m p
     as-read Fine d = own
     as-read (Refused r) d = not r _ ∙ sym (refused n m p r d)
 
-    -- the words may be laid onto as many as the largest file has
-    pub by-words : {ws : List ℕ} → ws ≡ laidOnto (wordsOf bs) (replicate layout.largest 0) → read (readOf bs .answer) (readOf bs .sheet) ≡ by n m (planIn n m ws)
+    pub by-words : {ws : List ℕ} → ws ≡ carriedOf bs (replicate layout.largest 0) → read (readOf bs .answer) (readOf bs .sheet) ≡ by n m (planIn n m ws)
     by-words d =
         ap (λ f. read (f .answer) (f .sheet)) (counts-are bs n m e) ∙ as-read (judge (lines n m p)) refl
-        ∙ ap (by n m) (sym (plan-laid n m (wordsOf bs) (counts-room bs n m e))) ∙ ap (λ ws. by n m (planIn n m ws)) (sym d)
+        ∙ ap (by n m) (sym (counts-plan bs n m e d))

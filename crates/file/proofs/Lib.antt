@@ -1,4 +1,3 @@
-pub mod Rows
 pub mod Same
 pub mod Bodies
 pub mod Reading

@@ -1,8 +1,8 @@
 -- One plan, one file: bytes and words are each other's inverse, words and plans are too, and what is within the limits fits its words.
 -- Assumes nothing.
 use mathlib.Core.Path.{_≡_, refl, sym, ap, ap₂, _∙_}
-use mathlib.Core.List.{List, _++_, flatMap}
-use Prim.Native.Nat.{ℕ, _*_, _^_, _≤_, _<_}
+use mathlib.Core.List.{List, [], _++_, flatMap, append-nil}
+use Prim.Native.Nat.{ℕ, _+_, _*_, _^_, _≤_, _<_}
 use native.Mathlib.Nat.{lt-of-not-le, lt-of-le-of-lt, lt-of-lt-of-le}
 use native.Mathlib.Decide.{decLe}
 use native.Mathlib.Omega.{arith}
@@ -15,24 +15,26 @@ use Rattle.names.specs.Limits.{streams, sources}
 use Rattle.words.specs.Words.{wordsOf, bytesOf, Below}
 use Rattle.words.proofs.Laws as W
 use Rattle.plan.specs.Plan.{Plan, planOf, blank}
-use Rattle.fields.specs.Layout as layout
-use Rattle.fields.specs.Fields.{timingWords, streamWords}
+use Rattle.carried.specs.Layout as layout
+use Rattle.carried.specs.Carried.{planIn, timingWords, streamWords, valuesOf, sheetOf}
+use Rattle.carried.proofs.Plans.{one-sheet, plan-in-values}
 use Rattle.fields.proofs.All.{none, next, All, shown, all-both, flat-all}
-use Rattle.checks.specs.declared.Checked.{Checked}
-use Rattle.checks.specs.declared.Checked.the-variants.{Fine, Refused}
-use Rattle.checks.specs.Checks.{judge, lines, checkedOf}
+use Rattle.judge.specs.declared.Checked.{Checked}
+use Rattle.judge.specs.declared.Checked.the-variants.{Fine, Refused}
+use Rattle.judge.specs.Table.{judge}
+use Rattle.checks.specs.Checks.{lines, checkedOf}
 use Rattle.checks.specs.Claims.{Right}
-use Rattle.checks.proofs.Judge.{fine-parts}
+use Rattle.judge.proofs.Table.{fine-parts}
 use Rattle.checks.proofs.Fine.{fine-if-right, own-counts}
 use Rattle.file.specs.declared.ReadPlan.{ReadPlan}
 use Rattle.file.specs.declared.Written.{Written}
 use Rattle.file.specs.declared.Written.the-variants.{Bytes}
-use Rattle.file.specs.File.{contents, words, fileOf, streamsIn, gapsIn, planIn, sheetOf, readAs, readOf, linesOut, writeAs, writeWith, writeOf}
+use Rattle.file.specs.File.{contents, fileWords, fileOf, countIn, sourcesIn, bodiesIn, readAs, readOf, linesOut, writeAs, writeWith, writeOf}
 use Rattle.file.specs.Claims.{ReadsAsItsValues, ReadsWhatWasWritten, WritesWhatWasRead, ReadsOneSheet}
 use Rattle.file.proofs.Same.{same-refl}
-use Rattle.file.proofs.Reading.{read-values, ReadFine, fine-read, one-sheet, checked-sheet}
+use Rattle.file.proofs.Reading.{planAt, read-values, ReadFine, fine-read, checked-sheet}
 use Rattle.file.proofs.Writing.{write-fine}
-use Rattle.file.proofs.Bodies.{words-are, length-words, plan-in-words, words-of-plan}
+use Rattle.file.proofs.Bodies.{length-words, words-of-plan}
 
 -- ---- the words of a plan within the limits fit 32 bits
 abbrev Fits : ℕ → Type 0
@@ -44,7 +46,7 @@ fit {x} {b} h t = lt-of-le-of-lt h (ltb→lt b (2 ^ 32) t)
 contents-fit : (n m : ℕ) → n ≤ streams → m ≤ sources → All Fits 0 (contents n m)
 contents-fit n m a b =
     let x : Fits (layout.word * (layout.stream * n)) = omega arith in
-    let y : Fits (layout.word * layout.streamAt n) = omega arith in
+    let y : Fits (layout.byteOf (layout.streamAt n)) = omega arith in
     let z : Fits (layout.word * m) = omega arith in
     shown Fits 0
     (next (lit< tt) (next (lit< tt) (next (lit< tt) (next (lit< tt) (next (lit< tt)
@@ -66,39 +68,40 @@ module _ (p : Plan) (w : Right (length (p .streams)) (length (p .gaps)) p) where
       (next (fit (w .label k h) tt) (next priority (next (fit (s .period) tt)
       (next (fit (s .jitter) tt) (next (fit (s .payload) tt) (next (fit (s .deadline) tt) none))))))
 
-  words-fit : Below (2 ^ 32) (words p)
-  words-fit i = go (decLe (length (words p)) i)
+  words-fit : Below (2 ^ 32) (fileWords p)
+  unfolding fileWords
+  words-fit i = go (decLe (length (fileWords p)) i)
     where
-      all : All Fits 0 (words p)
+      all : All Fits 0 (fileWords p)
       all =
-          rw (words-are p)
           (all-both Fits 0 (contents (length (p .streams)) (length (p .gaps))) (timingWords (p .timing) ++ (flatMap streamWords (p .streams) ++ p .gaps)) (contents-fit (length (p .streams)) (length (p .gaps)) (w .within .count) (w .within .sources))
           (all-both Fits 0 (timingWords (p .timing)) (flatMap streamWords (p .streams) ++ p .gaps) timing-fit
           (all-both Fits 0 (flatMap streamWords (p .streams)) (p .gaps) (flat-all Fits 0 blank streamWords (p .streams) stream-fit)
           (λ k h. fit (w .within .gap k h .gap) tt))))
 
-      go : Dec (length (words p) ≤ i) → getD (words p) i 0 < 2 ^ 32
-      go (yes h) = rw (List·getD-eq-default (words p) 0 h) (omega arith)
+      go : Dec (length (fileWords p) ≤ i) → getD (fileWords p) i 0 < 2 ^ 32
+      go (yes h) = rw (List·getD-eq-default (fileWords p) 0 h) (omega arith)
       go (no h) = all i (lt-of-not-le h)
 
 -- ---- from a plan to its file and back
 length-file : (p : Plan) → length (fileOf p) ≡ layout.size (length (p .streams)) (length (p .gaps))
-length-file p = W.length-bytes (words p) ∙ ap (λ k. layout.word * k) (length-words p)
+length-file p = W.length-bytes (fileWords p) ∙ ap (λ k. layout.word * k) (length-words p)
 
 -- any plan of few enough streams and gaps whose words fit is read as its values say, the refused ones too
 pub reads-as-its-values : ReadsAsItsValues
+unfolding fileWords
 reads-as-its-values p few quiet fits =
     let n = length (p .streams) in
     let m = length (p .gaps) in
-    let all = contents n m ++ (timingWords (p .timing) ++ (flatMap streamWords (p .streams) ++ p .gaps)) in
-    let ws : wordsOf (fileOf p) ≡ words p = W.words-bytes (words p) fits in
+    let ws : wordsOf (fileOf p) ≡ contents n m ++ valuesOf p = W.words-bytes (fileWords p) fits in
     let long : length (fileOf p) ≡ layout.size n m = length-file p in
-    let n-is : streamsIn all ≡ n = omega arith in
-    let m-is : gapsIn all ≡ m = omega arith in
-    let head : take layout.contents (wordsOf (fileOf p)) ≡ contents n m = ap (take layout.contents) (ws ∙ words-are p) in
-    let back : planIn n m (wordsOf (fileOf p)) ≡ p = ap (planIn n m) ws ∙ plan-in-words p in
-    read-values (fileOf p) n m (ap streamsIn (ws ∙ words-are p) ∙ n-is) (ap gapsIn (ws ∙ words-are p) ∙ m-is)
-    (simp (le-leb (layout.word * layout.contents) (length (fileOf p)) (omega arith), le-leb (length (fileOf p)) (layout.size streams sources) (omega arith)))
+    let n-is : countIn (contents n m ++ valuesOf p) ≡ n = omega arith in
+    let m-is : sourcesIn (contents n m ++ valuesOf p) ≡ m = omega arith in
+    let head : take layout.contents (wordsOf (fileOf p)) ≡ contents n m = ap (take layout.contents) ws in
+    let bodies : bodiesIn (fileOf p) ≡ valuesOf p ++ [] = ap (drop layout.contents) ws ∙ sym (append-nil (valuesOf p)) in
+    let back : planAt n m (fileOf p) ≡ p = ap (planIn n m) bodies ∙ plan-in-values p [] in
+    read-values (fileOf p) n m (ap countIn ws ∙ n-is) (ap sourcesIn ws ∙ m-is)
+    (simp (le-leb (layout.byteOf 0) (length (fileOf p)) (omega arith), le-leb (length (fileOf p)) (layout.size streams sources) (omega arith)))
     (rw head (rw (same-refl (contents n m)) (eq-eqb _ _ long)))
     ∙ ap (λ q. readAs (judge (lines n m q)) q) back
 
@@ -128,14 +131,15 @@ reads-what-was-written s buf n e = go (judge (linesOut (s .count) (s .sources) (
 pub reads-one-sheet : ReadsOneSheet
 reads-one-sheet bs e =
     let f = fine-read bs e in
-    let p = planIn (f .n) (f .m) (wordsOf bs) in
+    let p = planAt (f .n) (f .m) bs in
     let q : readOf bs .sheet ≡ sheetOf p = ap (λ (r : ReadPlan). r .sheet) (f .read) in
-    q ∙ ap sheetOf (sym (one-sheet p)) ∙ ap (λ s. sheetOf (planOf s)) (sym q)
+    let r = fine-if-right (f .n) (f .m) p .0 (f .values) in
+    q ∙ ap sheetOf (sym (one-sheet p (r .within .count) (r .within .sources))) ∙ ap (λ s. sheetOf (planOf s)) (sym q)
 
 -- the bytes of the plan that was read are the bytes that were read
-pub file-back : (bs : List ℕ) → Below 256 bs → (f : ReadFine bs) → fileOf (planIn (f .n) (f .m) (wordsOf bs)) ≡ bs
+pub file-back : (bs : List ℕ) → Below 256 bs → (f : ReadFine bs) → fileOf (planAt (f .n) (f .m) bs) ≡ bs
 file-back bs small f =
-    let k = layout.gapAt (f .n) (f .m) in
+    let k = layout.contents + layout.gapAt (f .n) (f .m) in
     let long : length (wordsOf bs) ≡ k = W.length-words bs ∙ omega (arith, f .size) in
     ap bytesOf (words-of-plan (wordsOf bs) (f .n) (f .m) long (f .contents)) ∙ W.bytes-words k bs small (f .size)
 
@@ -143,12 +147,12 @@ pub writes-what-was-read : WritesWhatWasRead
 unfolding writeOf checkedOf
 writes-what-was-read bs buf small e h =
     let f = fine-read bs e in
-    let p = planIn (f .n) (f .m) (wordsOf bs) in
+    let p = planAt (f .n) (f .m) bs in
     let r = fine-if-right (f .n) (f .m) p .0 (f .values) in
     let n = length (p .streams) in
     let m = length (p .gaps) in
     let long : layout.size n m ≡ length bs = ap₂ layout.size (r .count) (r .sources) ∙ sym (f .size) in
-    let fine : checkedOf (sheetOf p) ≡ Fine = checked-sheet (f .n) (f .m) p (r .count) (r .sources) ∙ f .values in
+    let fine : checkedOf (sheetOf p) ≡ Fine = checked-sheet (f .n) (f .m) p (r .count) (r .sources) (omega (arith, r .count, r .within .count)) (omega (arith, r .sources, r .within .sources)) ∙ f .values in
     ap (λ (r : ReadPlan). writeOf (r .sheet) buf) (f .read)
     ∙ write-fine n m (planOf (sheetOf p)) buf fine (omega arith)
-    ∙ ap₂ (λ k (bytes : List ℕ). (Bytes k, bytes ++ drop k buf)) long (ap fileOf (one-sheet p) ∙ file-back bs small f)
+    ∙ ap₂ (λ k (bytes : List ℕ). (Bytes k, bytes ++ drop k buf)) long (ap fileOf (one-sheet p (r .within .count) (r .within .sources)) ∙ file-back bs small f)

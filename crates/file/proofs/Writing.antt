@@ -2,21 +2,30 @@
 use mathlib.Core.Path.{_≡_, refl, sym, ap, _∙_}
 use mathlib.Core.List.{List, [], _∷_, _++_}
 use Prim.Native.Nat.{ℕ, _≤_, _<_}
+use mathlib.Core.Bool.{false}
+use native.Mathlib.Nat.{lt-of-not-le}
+use native.Mathlib.Decide.{decLe}
 use borrow.Author.Tests.{le-leb, lt-leb}
 use lib.Dec.{leb}
 use lib.ListN.{length, drop}
+use Rattle.names.specs.Limits.{streams, sources}
 use Rattle.names.specs.declared.Refusal.{Refusal}
 use Rattle.plan.specs.declared.Sheet.{Sheet}
 use Rattle.plan.specs.Plan.{Plan, planOf}
-use Rattle.fields.specs.Layout as layout
-use Rattle.fields.proofs.Places.{Owned}
-use Rattle.checks.specs.declared.Checked.{Checked}
-use Rattle.checks.specs.declared.Checked.the-variants.{Fine, Refused}
-use Rattle.checks.specs.Checks.{Line, judge, unless, lines}
-use Rattle.checks.proofs.Judge.{given, passed, nothing-given, fine-then, refused-then}
+use Rattle.carried.specs.Layout as layout
+use Rattle.plan.proofs.Places.{Owned}
+use Rattle.judge.specs.declared.Checked.{Checked}
+use Rattle.judge.specs.declared.Checked.the-variants.{Fine, Refused}
+use Rattle.judge.specs.Table.{Line, judge, unless}
+use Rattle.carried.specs.Carried.{planIn, inPlaces}
+use Rattle.carried.proofs.Plans.{plan-in-places}
+use Rattle.checks.specs.Checks.{inRange, lines}
+use Rattle.judge.proofs.Table.{given, passed, nothing-given, fine-then, refused-then}
+use Rattle.checks.proofs.Counts.{too-few, too-many, too-noisy, out-of-range}
 use Rattle.checks.proofs.Words.{planInWords, same-lines, same-plan-if-fine}
 use Rattle.file.specs.declared.Written.the-variants.{Bytes, Refused as Written·Refused}
 use Rattle.file.specs.File.{fileOf, linesOut, writeAs, writeWith, writeOf}
+use Rattle.file.specs.Claims.{WrongCounts}
 
 module _ (n m : ℕ) (p : Plan) (buf : List ℕ) where
   -- a line of the values is given
@@ -51,3 +60,22 @@ same-writing s o buf = go (judge (linesOut n m (planOf s) buf)) refl
     go : (c : Checked) → judge (linesOut n m (planOf s) buf) ≡ c → writeWith n m (planInWords s o) buf ≡ writeWith n m (planOf s) buf
     go Fine e = ap (λ p. writeWith n m p buf) (same-plan-if-fine s o six e)
     go (Refused r) e = ap (λ c. writeAs c n m (planInWords s o) buf) (same-lines s o six ∙ e) ∙ sym (ap (λ c. writeAs c n m (planOf s) buf) e)
+
+-- ---- counts out of range, and lent words in places
+pub wrong-counts : WrongCounts
+wrong-counts n m p buf =
+    let two : inRange n m ≡ false → writeWith n m p buf ≡ _ = λ e. write-refused n m p buf _ (out-of-range n m e p []) in
+    (λ h. two (too-few n m h), λ h. two (too-many n m h), λ h. two (too-noisy n m h))
+
+pub values-written : (n m : ℕ) (ws buf : List ℕ) → writeWith n m (planIn n m (inPlaces ws)) buf ≡ writeWith n m (planIn n m ws) buf
+values-written n m ws buf =
+    let p = planIn n m (inPlaces ws) in
+    let q = planIn n m ws in
+    elim (decLe n streams) [
+      | yes few ↦
+          elim (decLe m sources) [
+            | yes quiet ↦ ap (λ r. writeWith n m r buf) (plan-in-places n m ws few quiet)
+            | no noisy ↦ let h = lt-of-not-le noisy in wrong-counts n m p buf .2 h ∙ sym (wrong-counts n m q buf .2 h)
+          ]
+      | no many ↦ let h = lt-of-not-le many in wrong-counts n m p buf .1 h ∙ sym (wrong-counts n m q buf .1 h)
+    ]

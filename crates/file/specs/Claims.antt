@@ -10,19 +10,21 @@ use Rattle.names.specs.declared.Refusal.{Refusal}
 use Rattle.words.specs.Words.{Below}
 use Rattle.plan.specs.declared.Sheet.{Sheet}
 use Rattle.plan.specs.Plan.{Plan, planOf}
-use Rattle.fields.specs.Layout as layout
+use Rattle.carried.specs.Layout as layout
+use Rattle.carried.specs.Carried.{sheetOf}
 use Rattle.fields.specs.Fields.{fields}
 use Rattle.fields.specs.Claims.{fieldAt}
-use Rattle.checks.specs.declared.Checked.the-variants.{Fine, Refused as Checked·Refused}
-use Rattle.checks.specs.Checks.{judge, lines}
+use Rattle.judge.specs.declared.Checked.the-variants.{Fine, Refused as Checked·Refused}
+use Rattle.judge.specs.Table.{judge}
+use Rattle.checks.specs.Checks.{lines}
 use Rattle.file.specs.declared.Counts.the-variants.{Refused as Counts·Refused}
-use Rattle.file.specs.declared.Written.the-variants.{Bytes}
-use Rattle.file.specs.File.{contents, words, fileOf, countsOf, sheetOf, readAs, readOf, writeOf}
+use Rattle.file.specs.declared.Written.the-variants.{Bytes, Refused as Written·Refused}
+use Rattle.file.specs.File.{contents, fileWords, fileOf, countsOf, readAs, readOf, writeWith, writeOf}
 
 -- the file of any plan of at most 64 streams and 8 gaps, whose words fit 32 bits, is answered as the plan's values are, with the same place
 abbrev pub ReadsAsItsValues : Type 0
 ReadsAsItsValues =
-    (p : Plan) → length (p .streams) ≤ streams → length (p .gaps) ≤ sources → Below (2 ^ 32) (words p)
+    (p : Plan) → length (p .streams) ≤ streams → length (p .gaps) ≤ sources → Below (2 ^ 32) (fileWords p)
     → readOf (fileOf p) ≡ readAs (judge (lines (length (p .streams)) (length (p .gaps)) p)) p
 
 -- reading what was written gives the same plan, for every sheet that is not refused
@@ -37,15 +39,19 @@ WritesWhatWasRead =
     (bs buf : List ℕ) → Below 256 bs → readOf bs .answer ≡ Fine → length bs ≤ length buf
     → writeOf (readOf bs .sheet) buf ≡ (Bytes (length bs), bs ++ drop (length bs) buf)
 
+-- counts out of range are refused 2 at 0, whatever else is wrong, and the lent bytes are as they were
+abbrev pub WrongCounts : Type 0
+WrongCounts =
+    (n m : ℕ) (p : Plan) (buf : List ℕ)
+    → let refused-2 = writeWith n m p buf ≡ (Written·Refused (record { number = 2; place = 0 }), buf) in
+    (n < 1 → refused-2) × (streams < n → refused-2) × (sources < m → refused-2)
+
 -- the contents are refused exactly where the file is refused 1 or 2, and then as the file is
 abbrev pub ContentsRefused : Type 0
 ContentsRefused =
     (bs : List ℕ) (r : Refusal) → (countsOf bs ≡ Counts·Refused r) ↔ ((readOf bs .answer ≡ Checked·Refused r) × (r .number ≤ 2))
 
--- a plan has one sheet: the plan on it is that plan, and what was read is such a sheet
-abbrev pub OneSheet : Type 0
-OneSheet = (p : Plan) → planOf (sheetOf p) ≡ p
-
+-- what was read is the one sheet of its plan
 abbrev pub ReadsOneSheet : Type 0
 ReadsOneSheet = (bs : List ℕ) → readOf bs .answer ≡ Fine → readOf bs .sheet ≡ sheetOf (planOf (readOf bs .sheet))
 
@@ -55,8 +61,10 @@ ContentsAre = (n m : ℕ) → contents n m ≡ 1 ∷ 3 ∷ 1 ∷ 44 ∷ 36 ∷ 2
 
 -- .. a file has as many bytes as it says, the largest 1,648, ..
 abbrev pub SizesAre : Type 0
-SizesAre = ((n m : ℕ) → layout.size n m ≡ 80 + 24 * n + 4 * m) × (layout.word * layout.largest ≡ 1648)
+SizesAre = ((n m : ℕ) → layout.size n m ≡ 80 + 24 * n + 4 * m) × (layout.size streams sources ≡ 1648)
 
--- .. and field i of the bodies, whose place in refusal 3 is 4 × (11 + i), is word 11 + i of the file
+-- .. and field i, whose place in refusal 3 is byte 4 × (11 + i), is word 11 + i of the file
 abbrev pub PlaceIsOffset : Type 0
-PlaceIsOffset = (p : Plan) (i : ℕ) → i < length (fields p) → getD (words p) (layout.contents + i) 0 ≡ fieldAt (fields p) i .word
+PlaceIsOffset =
+    (p : Plan) (i : ℕ) → i < length (fields p)
+    → (layout.byteOf i ≡ 4 * (11 + i)) × (getD (fileWords p) (layout.contents + i) 0 ≡ fieldAt (fields p) i .word)

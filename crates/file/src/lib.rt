@@ -2,15 +2,15 @@
 //
 // specs/ goes from bytes to raw words, from raw words to a plan, and back; proofs/ has the two round trips. The reader and
 // the writer are crates above, which promise what is defined here. Nothing is assumed. The two functions are lent nothing.
-use checks::Checked;
-use fields::CONTENTS;
-use fields::STREAM;
-use fields::TIMING;
-use fields::WORD;
+use carried::CONTENTS;
+use carried::STREAM;
+use carried::TIMING;
+use carried::WORD;
+use judge::Checked;
 use names::Refusal;
 use plan::Sheet;
 ghost use mathlib.Core.Path.{_≡_};
-ghost use Rattle.fields.specs.Layout as layout;
+ghost use Rattle.carried.specs.Layout as layout;
 ghost use Rattle.file.specs.File as spec;
 
 // What a reader hands back. The sheet of a refused file is all zero.
@@ -55,7 +55,7 @@ pub fn contents(n: u16, m: u16) -> [u32; CONTENTS]
         (WORD * (CONTENTS + TIMING)) as u32,
         (WORD * streams) as u32,
         3,
-        (WORD * (CONTENTS + TIMING + streams)) as u32,
+        (WORD * (CONTENTS + (TIMING + streams))) as u32,
         (WORD * m as usize) as u32,
     ]
 }

@@ -1,8 +1,10 @@
 pub mod Tests
 pub mod Round
 pub mod Lists
+pub mod Pieces
 pub mod Placed
 pub mod Search
+pub mod Rows
 pub mod Chain
 pub mod Signed
 pub mod Unique

@@ -1,8 +1,8 @@
 -- Laws of sums, largest values and choices over a list, by the question that a proof asks. Assumes nothing.
 use mathlib.Core.Path.{_≡_, refl, sym, ap, ap₂, _∙_}
-use mathlib.Core.Bool.{Bool, true, false, cond}
+use mathlib.Core.Bool.{Bool, true, false, cond, _&&_}
 use mathlib.Core.Logic.{⊎-elim}
-use mathlib.Core.List.{List, [], _∷_, _++_, map, map-append, append-assoc}
+use mathlib.Core.List.{List, [], _∷_, _++_, map, map-append, append-assoc, append-nil}
 use Prim.Native.Nat.{ℕ, zero, suc, _+_, _-_, _*_, max, min, _≤_, _<_}
 use native.Mathlib.Nat.{le-refl, add-le-add, zero-mul, add-mul, suc-mul, add-zero, add-suc, sub-zero, suc-inj, eq-or-lt-of-le, lt-of-not-le}
 use native.Mathlib.Decide.{decLe}
@@ -109,6 +109,10 @@ rows-front f rest d (suc n) i h =
     (λ l. rows-front f (f n ∷ rest) d n i l)
     (eq-or-lt-of-le {n = i} {m = n} (omega arith))
 
+-- row k of rows with nothing behind them
+pub rows-at : {A : Type 0} (n : ℕ) (f : ℕ → A) (d : A) (k : ℕ) → k < n → getD (rows n f) k d ≡ f k
+rows-at n f d k h = ap (λ l. getD l k d) (sym (append-nil (rows n f))) ∙ rows-front f [] d n k h
+
 -- rows that agree below n
 pub rows-same : {A : Type 0} (n : ℕ) (f g : ℕ → A) → ((k : ℕ) → k < n → f k ≡ g k) → rows n f ≡ rows n g
 unfolding rows
@@ -178,9 +182,9 @@ pub every-none : (t : ℕ → Bool) → every 0 t ≡ true
 unfolding every
 every-none t = refl
 
-pub every-more : (t : ℕ → Bool) (n : ℕ) → every n t ≡ true → t n ≡ true → every (n + 1) t ≡ true
+pub every-more : (t : ℕ → Bool) (n : ℕ) (all next : Bool) → all ≡ every n t → next ≡ t n → all && next ≡ every (n + 1) t
 unfolding every
-every-more t n e d = rw (add-one, e, d) refl
+every-more t n all next e d = rw (add-one, e, d) refl
 
 -- every row passes exactly if each does
 pub every-each : (t : ℕ → Bool) (n : ℕ) → every n t ≡ true → (k : ℕ) → k < n → t k ≡ true
@@ -194,14 +198,6 @@ pub every-all : (t : ℕ → Bool) (n : ℕ) → ((k : ℕ) → k < n → t k �
 unfolding every
 every-all t zero h = refl
 every-all t (suc n) h = rw (every-all t n (λ k p. h k (omega arith)), h n (omega arith)) refl
-
--- one that fails is enough
-pub every-fails : (t : ℕ → Bool) (n k : ℕ) → k < n → t k ≡ false → every n t ≡ false
-every-fails t n k h e = go (every n t) refl
-  where
-    go : (b : Bool) → every n t ≡ b → b ≡ false
-    go true d = sym (every-each t n d k h) ∙ e
-    go false d = refl
 
 -- ---- places that are laid from the front, one row a turn, over places that hold one value
 pub lay-none : {A : Type 0} (f : ℕ → A) (y : A) (n : ℕ) → replicate n y ≡ rows 0 f ++ replicate (n - 0) y

@@ -1,4 +1,5 @@
 pub mod Lists
 pub mod Search
+pub mod Rows
 pub mod Signed
 pub mod Determined

@@ -4,8 +4,8 @@ use console::print;
 use console::print_number;
 use pairs::Line;
 use pairs::line_at;
-ghost use Prim.Native.Nat.{_≤_, _<_};
-ghost use lib.ListN.{length};
+use pairs::name_in;
+use pairs::next_line;
 
 fn wrong(number: u64) {
     print(b"lighter: line ");
@@ -13,25 +13,12 @@ fn wrong(number: u64) {
     print(b": give two names parted by one space\n");
 }
 
-// The line at a place of the list, by its number; where the next line starts is handed back.
-fn line(text: &[u8], at: usize, number: u64) -> usize
-    requires { ⌜ at < length (now text) ⌝ }
-    ensures { λ r. ⌜ (at < r) × (r ≤ length (now (text .entry))) ⌝ }
-{
+// The line at a place of the list, by its number.
+fn line(text: &[u8], at: usize, number: u64) {
     match line_at(text, at) {
-        Line::Names(old, new, next) => {
-            let old_from = old.from;
-            let old_to = old.to;
-            let new_from = new.from;
-            let new_to = new.to;
-            files(&text[old_from..old_to], &text[new_from..new_to]);
-            next
-        }
-        Line::Wrong(next) => {
-            wrong(number);
-            next
-        }
-        Line::Over => text.len(),
+        Line::Names(old, new, _) => files(name_in(text, old), name_in(text, new)),
+        Line::Wrong(_) => wrong(number),
+        Line::Over => {}
     }
 }
 
@@ -39,7 +26,8 @@ pub(crate) fn all(text: &[u8]) {
     let mut at: usize = 0;
     let mut number: u64 = 1;
     while at < text.len() {
-        at = line(text, at, number);
+        line(text, at, number);
+        at = next_line(text, at);
         number += 1;
     }
 }

@@ -11,16 +11,16 @@ use libc::STDIN_FILENO;
 use text::Put;
 
 fn show(file: &[u8]) {
-    let mut out = io::buffer();
+    let mut out = desk::listing_buffer();
     match desk::show(file, &mut out) {
         Put::At(k) => print_first(&out, k),
-        // 4,096 bytes hold every listing (ListingFits, in desk's claims) and every refusal (LargestRefusal, in text's).
+        // It holds every listing (ListingFits, in desk's claims) and every refusal (LargestRefusal, in text's).
         Put::Full => {}
     }
 }
 
 fn main() {
-    let mut file = io::buffer();
+    let mut file = desk::file_buffer();
     match read(STDIN_FILENO, &mut file) {
         Input::Bytes(n) => show(first(&file, n)),
         Input::Failed => print_unreadable(b"listing", b"standard input"),

@@ -12,9 +12,9 @@ use Rattle.laws.specs.Search.{first}
 use Rattle.laws.specs.Signed.{largestTo}
 use Rattle.laws.proofs.Lists.{every-each}
 use Rattle.laws.proofs.Tests.{both}
-use Rattle.repeats.specs.Rows.{some}
+use Rattle.laws.specs.Rows.{some}
 use Rattle.repeats.specs.Repeats.{firstRepeat}
-use Rattle.repeats.proofs.Rows.{some-passes}
+use Rattle.laws.proofs.Rows.{some-passes}
 use Rattle.bound.specs.declared.Verdict.{Verdict}
 use Rattle.bound.specs.declared.Verdict.the-variants.{Met, Missed, None}
 use Rattle.bound.specs.Bound.{E, demand, sideL, busy, sideW, w, bound, answer}
@@ -22,9 +22,10 @@ use Rattle.plan.specs.Plan.{Plan}
 use Rattle.plan.specs.Rules.{B, hit, terms, rowAnswer}
 use Rattle.cover.specs.Cover.{Partnered}
 use Rattle.fields.specs.Fields.{fields, lowest}
-use Rattle.checks.specs.declared.Checked.{Checked}
-use Rattle.checks.specs.declared.Checked.the-variants.{Fine, Refused}
-use Rattle.checks.specs.Checks.{judge, lines}
+use Rattle.judge.specs.declared.Checked.{Checked}
+use Rattle.judge.specs.declared.Checked.the-variants.{Fine, Refused}
+use Rattle.judge.specs.Table.{judge}
+use Rattle.checks.specs.Checks.{lines}
 use Rattle.checks.proofs.Fine.{fine-if-right}
 use Rattle.promise.specs.Lighter.{at, NotRefused, NoGreater, Stands}
 use Rattle.compare.specs.Changes.{rowOf}
@@ -120,8 +121,8 @@ both-fine : fine (easier .old) && fine (easier .new) ≡ true
 unfolding some first firstRepeat fields lowest flatMap judge
 both-fine = refl
 
-constants : NoGreater (easier .old .timing) (easier .new .timing)
-constants =
+no-greater : NoGreater (easier .old .timing) (easier .new .timing)
+no-greater =
     record {
       f = omega arith;
       e = omega arith;
@@ -170,4 +171,4 @@ partners = (500 ∷ [], 900, 500 ∷ [], refl, omega arith, ([], 500, 500 ∷ []
 pub not-empty : NotEmpty
 not-empty =
     let (a, b) = both (fine (easier .old)) (fine (easier .new)) both-fine in
-    (fine-says _ a, fine-says _ b, record { timing = constants; row = λ k h. row k; stands = stand; order = order; gaps = partners })
+    (fine-says _ a, fine-says _ b, record { timing = no-greater; row = λ k h. row k; stands = stand; order = order; gaps = partners })

@@ -15,7 +15,7 @@ use Rattle.plan.specs.Plan.{Plan}
 use Rattle.promise.specs.Lighter.{at, NoGreater, Eased}
 use Rattle.compare.specs.declared.Change.the-variants.{Nothing}
 use Rattle.compare.specs.Changes.{rowOf, inRow}
-use Rattle.compare.proofs.First.{given-not-nothing, unless-nothing, unless-true}
+use Rattle.compare.proofs.First.{of-not-nothing, must-nothing, must-true}
 use Rattle.compare.proofs.Exactly.{no-greater, constants-nothing, eases, eased-nothing, Unbroken, unbroken, no-changes}
 use Rattle.needed.specs.Needed.{stands, holds, eachBeside, conditions, count, AllHoldExactly}
 
@@ -45,11 +45,11 @@ module _ (old : Plan) (s : Stream) where
   -- and back
   it-stands : (f : Found) → inRow old s f ≡ Nothing → stands s f ≡ true
   it-stands (Found·At r) e = refl
-  it-stands Found·Nothing e = absurd (given-not-nothing e)
+  it-stands Found·Nothing e = absurd (of-not-nothing e)
 
   it-holds : (t : Stream → Stream → Bool) → ((a : Stream) → Eased a s → t a s ≡ true) → (f : Found) → inRow old s f ≡ Nothing → holds t old s f ≡ true
   it-holds t h (Found·At r) e = h (at old r) (eases (at old r) s e)
-  it-holds t h Found·Nothing e = absurd (given-not-nothing e)
+  it-holds t h Found·Nothing e = absurd (of-not-nothing e)
 
 -- ---- all the conditions
 module _ (old new : Plan) where
@@ -83,8 +83,8 @@ module _ (old new : Plan) where
             (every-each _ _ (h 11 (omega arith)) k l)
             (every-each _ _ (h 12 (omega arith)) k l)
             (every-each _ _ (h 13 (omega arith)) k l);
-        order = λ k l. unless-true _ _ (every-each _ _ (h 14 (omega arith)) k l);
-        gaps = λ k l. unless-true _ _ (every-each _ _ (h 15 (omega arith)) k l);
+        order = λ k l. must-true _ _ (every-each _ _ (h 14 (omega arith)) k l);
+        gaps = λ k l. must-true _ _ (every-each _ _ (h 15 (omega arith)) k l);
       }
 
   -- and back
@@ -110,8 +110,8 @@ module _ (old new : Plan) where
       and each-holds u (λ a b. leb (b .jitter) (a .jitter)) (λ a b e. le-leb _ _ (e .jitter))
       and each-holds u (λ a b. leb (b .payload) (a .payload)) (λ a b e. le-leb _ _ (e .payload))
       and each-holds u (λ a b. leb (a .deadline) (b .deadline)) (λ a b e. le-leb _ _ (e .deadline))
-      and every-all _ _ (λ k l. unless-nothing _ _ (u .order k l))
-      and every-all _ _ (λ k l. unless-nothing _ _ (u .gaps k l))
+      and every-all _ _ (λ k l. must-nothing _ _ (u .order k l))
+      and every-all _ _ (λ k l. must-nothing _ _ (u .gaps k l))
       and none)
 
 pub all-hold-exactly : AllHoldExactly

@@ -10,7 +10,7 @@ use lib.ListN.{length, getD}
 use Rattle.laws.specs.declared.Found.{Found}
 use Rattle.laws.specs.declared.Found.the-variants.{At as Found·At, Nothing as Found·Nothing}
 use Rattle.laws.specs.Lists.{every}
-use Rattle.repeats.specs.Rows.{some}
+use Rattle.laws.specs.Rows.{some}
 use Rattle.plan.specs.declared.Timing.{Timing}
 use Rattle.plan.specs.declared.Stream.{Stream}
 use Rattle.plan.specs.Plan.{Plan}
@@ -78,8 +78,8 @@ old then new = record { old = old; new = new }
 abbrev alone : Timing → Plan
 alone t = plan t (stream 10 1 1 100 0 5 23 ∷ []) []
 
--- two streams under the base constants, 10.1 with T, J and D as given: with T 100 and J 0 the bound of 10.1 is 14 + 23 = 37, and that of 10.10
--- is 23 + 23 = 46, its deadline
+-- two streams under the base constants, 10.1 with T, J and D as given: with T 100 and J 0 the bound of 10.1 is 14 + 23 = 37, and that of
+-- 10.10 is 23 + 23 = 46, its deadline
 abbrev two : ℕ → ℕ → ℕ → Plan
 two t j d = plan base (stream 10 1 1 t j 5 d ∷ stream 10 10 2 100 0 5 46 ∷ []) []
 
@@ -106,7 +106,7 @@ table =
     ∷ (alone base then alone (constants 4 1 1 2 1 1 2 1 5))
     -- the label 10.10 is new, and more urgent: the bound of 10.1 grows from 23 to 46, past its deadline of 23
     ∷ (plan base (stream 10 1 2 100 0 5 23 ∷ []) [] then plan base (stream 10 10 1 100 0 5 60 ∷ stream 10 1 2 100 0 5 23 ∷ []) [])
-    -- T of 10.1 falls from 100 to 30: 10.10 waits for two of its messages, and the bound of 10.10 grows from 46 to 69, past its deadline of 46
+    -- T of 10.1 falls from 100 to 30: 10.10 waits for two of its messages, and the bound of 10.10 grows from 46 to 69, past its deadline
     ∷ (two 100 0 37 then two 30 0 37)
     -- J of 10.1 grows from 0 to 90: the same
     ∷ (two 100 0 200 then two 100 90 200)
@@ -148,12 +148,14 @@ EachNeeded =
     (i : ℕ) → i < count
     → NotRefused (pair i .old) × NotRefused (pair i .new) × Broken i (pair i .old) (pair i .new) × Lost (pair i .old) (pair i .new)
 
--- And they can all hold with something eased in each: constants smaller, T and D longer, J and C shorter, a stream fewer, rows in another
--- order, other priority numbers in the same order, gaps longer, fewer and in another order. The bound of 10.1 falls from 198 to 80, and that
--- of 11.2 from 252 to 89.
+-- And they can all hold with something eased in each: constants smaller, T and D longer, J and C shorter, a stream fewer, rows in
+-- another order, other priority numbers in the same order, gaps longer, fewer and in another order. The bound of 10.1 falls from 198
+-- to 80, and that of 11.2 from 252 to 89.
 abbrev pub easier : Pair
 easier =
-    plan (constants 5 2 2 3 2 2 3 2 5) (stream 10 1 7 400 5 6 200 ∷ stream 10 10 13 600 10 7 300 ∷ stream 11 2 20 800 5 3 400 ∷ []) (500 ∷ 900 ∷ 500 ∷ [])
+    plan (constants 5 2 2 3 2 2 3 2 5)
+    (stream 10 1 7 400 5 6 200 ∷ stream 10 10 13 600 10 7 300 ∷ stream 11 2 20 800 5 3 400 ∷ [])
+    (500 ∷ 900 ∷ 500 ∷ [])
     then plan base (stream 11 2 5 900 0 2 450 ∷ stream 10 1 2 500 0 5 250 ∷ []) (950 ∷ 600 ∷ [])
 
 abbrev pub NotEmpty : Type 0

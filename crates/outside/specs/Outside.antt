@@ -1,33 +1,33 @@
 -- What is handed to a caller in another language: numbers, with 0 for "not refused" and document 01's numbers else.
-use mathlib.Core.Bool.{cond}
-use mathlib.Core.List.{List}
+use mathlib.Core.Path.{_≡_}
+use mathlib.Core.List.{List, _∷_}
 use Prim.Native.Nat.{ℕ}
-use lib.Dec.{ltb}
+use lib.Dec.{leb}
 use lib.ListN.{length}
 use Rattle.names.specs.declared.Refusal.{Refusal}
-use Rattle.checks.specs.declared.Checked.{Checked}
-use Rattle.checks.specs.declared.Checked.the-variants.{Fine, Refused}
+use Rattle.judge.specs.declared.Checked.{Checked}
+use Rattle.judge.specs.declared.Checked.the-variants.{Fine, Refused}
+use Rattle.judge.specs.Table.{Line, judge, unless}
 use Rattle.file.specs.declared.Written.{Written}
 use Rattle.file.specs.declared.Written.the-variants.{Bytes, Refused as Written·Refused}
-use Rattle.file.specs.File.{timingIn}
+use Rattle.carried.specs.Carried.{timingIn}
 use Rattle.plan.specs.declared.Stream.{Stream}
-use Rattle.answers.specs.Words.{answerOf}
+use Rattle.answers.specs.Answers.{answerOf}
 use Rattle.screen.specs.Screen.{sheetFor}
 use Rattle.compare.specs.declared.Reason.{Reason}
-use Rattle.compare.specs.declared.Reason.the-variants.{GreaterConstant, NewLabel, ShorterPeriod, LongerJitter, LongerPayload, ShorterDeadline, LessUrgent, MoreNoise}
+use Rattle.compare.specs.declared.Reason.the-variants.{GreaterConstant, NewLabel, ShorterPeriod, LongerJitter}
+use Rattle.compare.specs.declared.Reason.the-variants.{LongerPayload, ShorterDeadline, LessUrgent, MoreNoise}
 use Rattle.compare.specs.declared.Compared.{Compared}
 use Rattle.compare.specs.declared.Compared.the-variants.{FirstRefused, SecondRefused, Lighter, RunAgain}
 use Rattle.tournament.specs.declared.Parting.{Parting}
 use Rattle.tournament.specs.declared.Parting.the-variants.{At, Refused as Parting·Refused}
 use Rattle.tournament.specs.declared.Outcome.{Outcome}
-use Rattle.tournament.specs.Answers.{nobody, startOf, stepOf}
+use Rattle.tournament.specs.Rule.{begunOf, next}
+use Rattle.tournament.specs.Answers.{outcome, nobody}
 use Rattle.tournament_state.specs.declared.Phase.{Phase}
 use Rattle.tournament_state.specs.declared.Phase.the-variants.{AtBit, Finished, NoWinner}
-use Rattle.tournament_state.specs.declared.Answer.{Answer}
-use Rattle.tournament_state.specs.declared.Answer.the-variants.{Done, Refused as Answer·Refused}
-use Rattle.tournament_state.specs.declared.Tournament.{Tournament}
-use Rattle.tournament_state.specs.Refusals.{refused as Answer·refused}
-use Rattle.states.specs.States.{prioritiesFrom, stateFrom, marksInto, markedOut}
+use Rattle.tournament_state.specs.Refusals.{stateLines}
+use Rattle.states.specs.States.{prioritiesFrom, phaseFrom, stateFrom, marksInto, markedOut}
 use Rattle.outside.specs.declared.Said.{Said}
 use Rattle.outside.specs.declared.Stepped.{Stepped}
 use Rattle.outside.specs.declared.Weighed.{Weighed}
@@ -56,7 +56,11 @@ parting (Parting·Refused r) = refused r
 
 -- the answer words of lent streams, with the timing that the first nine words are and these noise gaps
 abbrev pub screenOf : List Stream → List ℕ → List ℕ → List ℕ → Checked × List ℕ
-screenOf xs ws gaps out = answerOf (sheetFor xs (timingIn ws 0) gaps) out
+screenOf xs ws gaps out = answerOf (sheetFor xs (timingIn ws) gaps) out
+
+-- so what is said of them, and what the lent words end with
+abbrev pub Screened : List Stream → List ℕ → List ℕ → List ℕ → Said → List ℕ → Type 0
+Screened xs ws gaps out said left = let o = screenOf xs ws gaps out in (said ≡ checked (o .0)) × (left ≡ o .1)
 
 -- the conditions of the lighter plan, numbered from 1 in the order in which they are looked at
 abbrev pub condition : Reason → ℕ
@@ -100,37 +104,39 @@ phaseAt (Finished row) = row .0
 phaseAt NoWinner = 0
 
 -- a start or a step: the refusal, and the phase of the state that is handed back
-abbrev pub stepped : Answer → Phase → Stepped
-stepped Done phase = record { refusal = 0; place = 0; phase = phaseNumber phase; at = phaseAt phase }
-stepped (Answer·Refused r) phase = record { refusal = r .number; place = r .place; phase = phaseNumber phase; at = phaseAt phase }
+abbrev pub stepped : Checked → Phase → Stepped
+stepped Fine phase = record { refusal = 0; place = 0; phase = phaseNumber phase; at = phaseAt phase }
+stepped (Refused r) phase = record { refusal = r .number; place = r .place; phase = phaseNumber phase; at = phaseAt phase }
 
 abbrev pub steppedBy : Outcome → Stepped
-steppedBy o = stepped (o .answer) (o .tournament .phase)
+steppedBy o = stepped (o .checked) (o .tournament .phase)
 
--- 6 if fewer marks than contenders are lent, whatever else is wrong, and the state as it was
-abbrev pub unlessFewer : List ℕ → List ℕ → Tournament → Outcome → Outcome
-unlessFewer ps bs before o = cond (ltb (length bs) (length ps)) (record { tournament = before; answer = Answer·refused 6 0 }) o
+-- a tournament that is lent, each priority a contender's: 6 if there are fewer marks than contenders, before 7, 8 and 9
+abbrev pub lentLines : ℕ → List ℕ → List ℕ → Phase → List Line
+lentLines NB ps bs phase =
+    record { number = 6; place = unless (leb (length ps) (length bs)) } ∷ stateLines NB (length ps) (prioritiesFrom ps) phase
 
--- a start on lent priorities, each a contender's
+-- a start on lent priorities
 unfoldable pub startFrom : ℕ → List ℕ → List ℕ → Outcome
-startFrom NB ps bs = unlessFewer ps bs nobody (startOf NB (length ps) (prioritiesFrom ps))
+startFrom NB ps bs = outcome (judge (lentLines NB ps bs (AtBit 1))) nobody (begunOf NB (length ps) (prioritiesFrom ps))
 
 -- a step of the state that is lent
 unfoldable pub stepFrom : ℕ → ℕ → ℕ → List ℕ → List ℕ → Outcome
-stepFrom NB phase at ps bs = unlessFewer ps bs (stateFrom NB phase at ps bs) (stepOf (stateFrom NB phase at ps bs))
+stepFrom NB phase at ps bs =
+    outcome (judge (lentLines NB ps bs (phaseFrom phase at))) (stateFrom NB phase at ps bs) (next (stateFrom NB phase at ps bs))
 
 -- the lent bytes after a call: as they were if it is refused, ..
-abbrev pub bytesUnless : Answer → List ℕ → List ℕ → List ℕ
-bytesUnless Done after found = after
-bytesUnless (Answer·Refused r) after found = found
+abbrev pub bytesUnless : Checked → List ℕ → List ℕ → List ℕ
+bytesUnless Fine after found = after
+bytesUnless (Refused r) after found = found
 
 -- .. after a start 1 for each contender and 0 for each unused place, ..
 abbrev pub startBytes : Outcome → List ℕ → List ℕ
-startBytes o found = bytesUnless (o .answer) (marksInto (o .tournament .marks) found) found
+startBytes o found = bytesUnless (o .checked) (marksInto (o .tournament .marks) found) found
 
 -- .. and after a step 0 for each contender that it marks out, and every other byte as found
 abbrev pub stepBytes : Outcome → List ℕ → List ℕ
-stepBytes o found = bytesUnless (o .answer) (markedOut (o .tournament .count) (o .tournament .marks) found) found
+stepBytes o found = bytesUnless (o .checked) (markedOut (o .tournament .count) (o .tournament .marks) found) found
 
 -- so what the lent bytes end with, of what is lent
 abbrev pub startMarks : ℕ → List ℕ → List ℕ → List ℕ

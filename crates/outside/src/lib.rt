@@ -4,19 +4,22 @@
 // tournament has a mark for each contender. A slice is a pointer and then a length. Nothing is assumed of the caller but that
 // what it lends is its own to lend.
 ghost use mathlib.Core.Path.{_≡_};
-ghost use Rattle.answers.specs.Words.{answerFileOf};
+ghost use Rattle.answer_files.specs.AnswerFiles.{answerFileOf};
 ghost use Rattle.compare_files.specs.Files.{comparedFiles};
 ghost use Rattle.tournament.specs.Answers.{partingOf};
-ghost use Rattle.file.specs.File.{writeOf};
+ghost use Rattle.file.specs.File.{writeWith};
 ghost use Rattle.rewriter.specs.Rewriter.{rewriteOf};
-ghost use Rattle.values.specs.Values.{sheetFrom};
+ghost use Rattle.carried.specs.Carried.{planIn};
 ghost use Rattle.outside.specs.Outside as number;
-use answers::answer_file;
-use checks::Checked;
+ghost use Rattle.outside.specs.Outside.{Screened};
+use answer_files::answer_file;
+use carried::timing_from;
+use carried::words_from;
 use compare::Compared;
 use compare::Reason;
 use compare_files::lighter_files;
 use file::Written;
+use judge::Checked;
 use names::Label;
 use names::Priority;
 use names::Refusal;
@@ -32,10 +35,7 @@ use tournament::Parting;
 use tournament::parting_bit;
 use tournament::start;
 use tournament::step;
-use tournament_state::Answer;
 use tournament_state::Phase;
-use values::timing_from;
-use values::words_from;
 use writer::write_words;
 
 // 0 and what was asked for, or the number of a refusal and its place.
@@ -78,10 +78,10 @@ fn done(value: u64) -> Said
     Said { refusal: 0, value }
 }
 
-fn checked(answer: Checked) -> Said
-    ensures { λ s. ⌜ s ≡ number.checked answer ⌝ }
+fn checked(verdict: Checked) -> Said
+    ensures { λ s. ⌜ s ≡ number.checked verdict ⌝ }
 {
-    match answer {
+    match verdict {
         Checked::Fine => done(0),
         Checked::Refused(r) => refused(r),
     }
@@ -90,7 +90,8 @@ fn checked(answer: Checked) -> Said
 // The answer words of a file's plan.
 #[no_mangle]
 pub extern "C" fn livnakesh_answers(file: &[u8], out: &mut [u64]) -> Said
-    ensures { λ s. ⌜ (s ≡ number.checked (answerFileOf (now (file .entry)) (now (out .entry)) .0)) × (now (out .exit) ≡ answerFileOf (now (file .entry)) (now (out .entry)) .1) ⌝ }
+    ensures { λ s. ⌜ s ≡ number.checked (answerFileOf (now (file .entry)) (now (out .entry)) .0) ⌝ }
+    ensures { λ _. ⌜ now (out .exit) ≡ answerFileOf (now (file .entry)) (now (out .entry)) .1 ⌝ }
 {
     checked(answer_file(file, out))
 }
@@ -110,7 +111,8 @@ pub extern "C" fn livnakesh_rewrite(file: &[u8], out: &mut [u8]) -> Said
 // The file of n streams and m noise gaps whose values are lent as plain words, written into lent bytes.
 #[no_mangle]
 pub extern "C" fn livnakesh_write(n: usize, m: usize, values: &[u32], out: &mut [u8]) -> Said
-    ensures { λ s. ⌜ (s ≡ number.written (writeOf (sheetFrom n m (now (values .entry))) (now (out .entry)) .0)) × (now (out .exit) ≡ writeOf (sheetFrom n m (now (values .entry))) (now (out .entry)) .1) ⌝ }
+    ensures { λ s. ⌜ s ≡ number.written (writeWith n m (planIn n m (now (values .entry))) (now (out .entry)) .0) ⌝ }
+    ensures { λ _. ⌜ now (out .exit) ≡ writeWith n m (planIn n m (now (values .entry))) (now (out .entry)) .1 ⌝ }
 {
     let placed = words_from(values);
     match write_words(&placed, n, m, out) {
@@ -127,7 +129,7 @@ pub extern "C" fn livnakesh_screen(
     gaps: &[u32],
     out: &mut [u64],
 ) -> Said
-    ensures { λ s. ⌜ (let o = number.screenOf (now (streams .entry)) (now (timing .entry)) (now (gaps .entry)) (now (out .entry)) in (s ≡ number.checked (o .0)) × (now (out .exit) ≡ o .1)) ⌝ }
+    ensures { λ s. ⌜ Screened (now (streams .entry)) (now (timing .entry)) (now (gaps .entry)) (now (out .entry)) s (now (out .exit)) ⌝ }
 {
     checked(screen(streams, timing_from(timing), gaps, out))
 }
@@ -228,35 +230,37 @@ fn at_phase(refusal: u64, place: u64, phase: Phase) -> Stepped
 
 // What a start that is not refused leaves in the lent bytes: every place, in or out.
 fn begun(outcome: Outcome, marks: &mut [u8]) -> Stepped
-    ensures { λ s. ⌜ (s ≡ number.steppedBy outcome) × (now (marks .exit) ≡ number.startBytes outcome (now (marks .entry))) ⌝ }
+    ensures { λ s. ⌜ s ≡ number.steppedBy outcome ⌝ }
+    ensures { λ _. ⌜ now (marks .exit) ≡ number.startBytes outcome (now (marks .entry)) ⌝ }
 {
-    let answer = outcome.answer;
+    let checked = outcome.checked;
     let tournament = outcome.tournament;
     let left = tournament.marks;
     let phase = tournament.phase;
-    match answer {
-        Answer::Done => {
+    match checked {
+        Checked::Fine => {
             marks_into(left, marks);
             at_phase(0, 0, phase)
         }
-        Answer::Refused(r) => at_phase(r.number as u64, r.place as u64, phase),
+        Checked::Refused(r) => at_phase(r.number as u64, r.place as u64, phase),
     }
 }
 
 // What a step that is not refused leaves in them: the bytes as lent, but for the contenders that it marks out.
 fn gone_on(outcome: Outcome, marks: &mut [u8]) -> Stepped
-    ensures { λ s. ⌜ (s ≡ number.steppedBy outcome) × (now (marks .exit) ≡ number.stepBytes outcome (now (marks .entry))) ⌝ }
+    ensures { λ s. ⌜ s ≡ number.steppedBy outcome ⌝ }
+    ensures { λ _. ⌜ now (marks .exit) ≡ number.stepBytes outcome (now (marks .entry)) ⌝ }
 {
-    let answer = outcome.answer;
+    let checked = outcome.checked;
     let tournament = outcome.tournament;
     let left = tournament.marks;
     let phase = tournament.phase;
-    match answer {
-        Answer::Done => {
+    match checked {
+        Checked::Fine => {
             mark_out(tournament.count, left, marks);
             at_phase(0, 0, phase)
         }
-        Answer::Refused(r) => at_phase(r.number as u64, r.place as u64, phase),
+        Checked::Refused(r) => at_phase(r.number as u64, r.place as u64, phase),
     }
 }
 

@@ -2,6 +2,9 @@
 use crate::writing::one_file;
 use crate::writing::p1_file;
 use crate::writing::p2_file;
+use carried::CARRIED;
+use carried::CONTENTS;
+use carried::WORD;
 use console::print;
 use outside::livnakesh_answers;
 use outside::livnakesh_lighter;
@@ -10,6 +13,9 @@ use shown::answer;
 use shown::bytes;
 use shown::number;
 use shown::words;
+
+// The bytes of the largest file.
+const LARGEST: usize = WORD * (CONTENTS + CARRIED);
 
 fn answers(file: &[u8], lent: &mut [u64]) {
     print(b"answers");
@@ -55,12 +61,17 @@ fn of_others() {
     both(&p4);
 }
 
+// The bytes of the contents, and of the largest file, and those that are one too few or too many.
 fn lengths() {
-    print(b"43, 44, 1648 and 1649 bytes of 0\n");
-    let none = [0; 1649];
+    print(b"43, 44,");
+    number(LARGEST as u64);
+    print(b" and");
+    number(LARGEST as u64 + 1);
+    print(b" bytes of 0\n");
+    let none = [0; LARGEST + 1];
     both(&none[..43]);
     both(&none[..44]);
-    both(&none[..1648]);
+    both(&none[..LARGEST]);
     both(&none);
 }
 

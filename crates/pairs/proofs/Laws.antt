@@ -2,9 +2,9 @@
 use mathlib.Core.Path.{_≡_, refl, sym, ap, ap₂, _∙_}
 use mathlib.Core.Bool.{Bool, true, false, cond, not, _&&_, and-false}
 use mathlib.Core.List.{List, [], _∷_, _++_}
-use Prim.Native.Nat.{ℕ, suc, _+_, _-_, _≤_, _<_}
+use Prim.Native.Nat.{ℕ, suc, _+_, _-_, _≤_, _<_, min}
 use native.Mathlib.Numerals.{add-one}
-use native.Mathlib.Omega.{arith}
+use native.Mathlib.Omega.{arith, min-cases}
 use borrow.Author.Tests.{lt-ltb, le-ltb, eq-eqb, ne-eqb}
 use lib.Dec.{eqb}
 use lib.ListN.{length, getD, take, drop, length-drop}
@@ -130,3 +130,20 @@ module _ (text : List ℕ) (at : ℕ) where
           let line : drop at text ≡ l = sym (take-all (length l) (drop at text) all) ∙ before-start newline (drop at text) in
           let next : end ≡ nextLine text at = omega arith in
           ap₂ (λ m n. lineAs m at n) line next ∙ sym inside
+
+-- ---- a part of a text that is cut to where the text ends
+module _ (text : List ℕ) (from to t : ℕ) where
+  pub cut-end : t ≡ min to (length text) → take (t - from) (drop from text) ≡ take (to - from) (drop from text)
+  cut-end a =
+      min-cases to (length text) (take (t - from) (drop from text) ≡ take (to - from) (drop from text))
+      (λ h e. ap (λ n. take (n - from) (drop from text)) (a ∙ e))
+      (λ h e. take-all (t - from) _ (omega (arith, length-drop from text)) ∙ sym (take-all (to - from) _ (omega (arith, length-drop from text))))
+
+  pub cut-start : (f : ℕ) → f ≡ min from t → take (t - f) (drop f text) ≡ take (t - from) (drop from text)
+  cut-start f b =
+      min-cases from t (take (t - f) (drop f text) ≡ take (t - from) (drop from text))
+      (λ h e. ap (λ n. take (t - n) (drop n text)) (b ∙ e))
+      (λ h e.
+      let p : t - f ≡ 0 = omega arith in
+      let q : t - from ≡ 0 = omega arith in
+      ap (λ n. take n (drop f text)) p ∙ sym (ap (λ n. take n (drop from text)) q))

@@ -15,8 +15,8 @@ use lib.Seq.{drop-append-seam, drop-append-add, take-append-seam, take-all, drop
 use Rattle.laws.proofs.Tests.{both}
 use Rattle.pairs.specs.declared.Part.{Part}
 use Rattle.pairs.specs.declared.Line.the-variants.{Names, Wrong, Over}
-use Rattle.pairs.specs.Pairs.{space, newline, before, free, lineFrom, nextLine, firstName, secondName, twoNames, part, lineAs, lineOf}
-use Rattle.pairs.specs.Claims.{bytesOf, Name, ReadsItsNames, ReadsItsLast, Two, OnlyTwoNames, Ordered, InOrder, WrongGoesOn, GoesOn, ends, stops, NothingPassedOver, OverAtTheEnd}
+use Rattle.pairs.specs.Pairs.{space, newline, before, free, lineFrom, nextLine, firstName, secondName, twoNames, part, bytesOf, lineAs, lineOf}
+use Rattle.pairs.specs.Claims.{Name, ReadsItsNames, ReadsItsLast, Two, OnlyTwoNames, Ordered, InOrder, WrongGoesOn, GoesOn, ends, stops, NothingPassedOver, OverAtTheEnd}
 use Rattle.pairs.proofs.Laws.{length-rest, before-short, before-start, two-names, over, inside}
 
 -- ---- a text up to a byte

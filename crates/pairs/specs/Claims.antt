@@ -5,14 +5,10 @@ use mathlib.Core.Bool.{true}
 use mathlib.Core.List.{List, _∷_, _++_}
 use mathlib.Core.Logic.{_↔_}
 use Prim.Native.Nat.{ℕ, _+_, _-_, _≤_, _<_}
-use lib.ListN.{length, take, drop}
+use lib.ListN.{length, drop}
 use Rattle.pairs.specs.declared.Part.{Part}
 use Rattle.pairs.specs.declared.Line.the-variants.{Names, Wrong, Over}
-use Rattle.pairs.specs.Pairs.{space, newline, free, lineFrom, nextLine, part, lineOf}
-
--- the bytes of a part of a text
-abbrev pub bytesOf : List ℕ → Part → List ℕ
-bytesOf text p = take (p .to - p .from) (drop (p .from) text)
+use Rattle.pairs.specs.Pairs.{space, newline, free, lineFrom, nextLine, part, bytesOf, lineOf}
 
 -- a name is not empty, and has neither a space nor a newline
 pub record Name (name : List ℕ) : Type 0 where

@@ -1,9 +1,9 @@
 -- Two names a line, parted by one space; a last line need not end in a newline.
 use mathlib.Core.Bool.{Bool, true, cond, not, _&&_}
 use mathlib.Core.List.{List, [], _∷_}
-use Prim.Native.Nat.{ℕ, _+_, min}
+use Prim.Native.Nat.{ℕ, _+_, _-_, min}
 use lib.Dec.{ltb, eqb}
-use lib.ListN.{length, drop}
+use lib.ListN.{length, take, drop}
 use Rattle.pairs.specs.declared.Part.{Part}
 use Rattle.pairs.specs.declared.Line.{Line}
 use Rattle.pairs.specs.declared.Line.the-variants.{Names, Wrong, Over}
@@ -46,6 +46,10 @@ twoNames l = ltb 0 (length (firstName l)) && ltb 0 (length (secondName l)) && fr
 -- where a name stands that starts at a place
 abbrev pub part : ℕ → List ℕ → Part
 part from name = record { from = from; to = from + length name }
+
+-- the bytes of a part of a text
+abbrev pub bytesOf : List ℕ → Part → List ℕ
+bytesOf text p = take (p .to - p .from) (drop (p .from) text)
 
 -- what a line is that starts at a place and is followed by the next line
 unfoldable pub lineAs : List ℕ → ℕ → ℕ → Line

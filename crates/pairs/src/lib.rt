@@ -1,12 +1,13 @@
 // Two names a line of a text: what programs that are given pairs of files share.
 //
-// The one public function answers for every text and every place. It hands back where the names stand, so no name is copied and
+// The public functions answer for every text, every place and every part. A line is where its names stand, so no name is copied and
 // none is cut; a line that is not two names is said to be wrong, and no line is passed over. Nothing is assumed. This crate
 // must not know of files.
 ghost use mathlib.Core.Path.{_≡_};
 ghost use Prim.Native.Nat.{_+_, _≤_};
 ghost use lib.ListN.{length, drop};
-ghost use Rattle.pairs.specs.Pairs.{before, lineAs, lineOf};
+ghost use Rattle.pairs.specs.Pairs.{before, bytesOf, nextLine, lineAs, lineOf};
+use laws::smaller;
 
 // The bytes of a text from a place up to another.
 pub struct Part {
@@ -82,4 +83,27 @@ pub fn line_at(text: &[u8], at: usize) -> Line
         return names_in(&text[..end], at, end + 1);
     }
     names_in(text, at, end)
+}
+
+// The bytes of a part of a text, as far as the text goes.
+pub fn name_in(text: &[u8], part: Part) -> &[u8]
+    ensures { λ r. ⌜ now r ≡ bytesOf (now (text .entry)) part ⌝ }
+{
+    let to = smaller(part.to, text.len());
+    let from = smaller(part.from, to);
+    &text[from..to]
+}
+
+// Where the line after the one at a place starts: past the newline, or where the text ends.
+pub fn next_line(text: &[u8], at: usize) -> usize
+    ensures { λ r. ⌜ r ≡ nextLine (now (text .entry)) at ⌝ }
+{
+    if text.len() <= at {
+        return text.len();
+    }
+    let end = place_of(text, at, b'\n');
+    if end < text.len() {
+        return end + 1;
+    }
+    end
 }

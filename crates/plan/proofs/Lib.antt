@@ -1,2 +1,3 @@
 pub mod Rules
 pub mod Letters
+pub mod Places

@@ -70,7 +70,8 @@ pub record Kept (old new : Plan) (k r : ℕ) : Type 0 where
 
 abbrev pub LighterKeeps : Type 0
 LighterKeeps =
-    (old new : Plan) → NotRefused old → NotRefused new → (l : Lighter old new) (k : ℕ) (h : k < length (new .streams)) → Kept old new k (l .row k h)
+    (old new : Plan) → NotRefused old → NotRefused new
+    → (l : Lighter old new) (k : ℕ) (h : k < length (new .streams)) → Kept old new k (l .row k h)
 
 -- ---- fewer rows
 
@@ -84,7 +85,8 @@ pub record Fewer (old new : Plan) : Type 0 where
 
 abbrev pub FewerKeeps : Type 0
 FewerKeeps =
-    (old new : Plan) → NotRefused old → NotRefused new → (f : Fewer old new) (k : ℕ) (h : k < length (new .streams)) → Kept old new k (f .row k h)
+    (old new : Plan) → NotRefused old → NotRefused new
+    → (f : Fewer old new) (k : ℕ) (h : k < length (new .streams)) → Kept old new k (f .row k h)
 
 -- one stream of a plan is pulled, and some are left: those in the rows before it and behind it
 pub record Pulled (p : Plan) : Type 0 where

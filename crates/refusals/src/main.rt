@@ -11,16 +11,16 @@ use libc::STDIN_FILENO;
 use text::Put;
 
 fn show(file: &[u8]) {
-    let mut out = io::buffer();
+    let mut out = desk::file_buffer();
     match desk::show_refusal(file, &mut out) {
         Put::At(k) => print_first(&out, k),
-        // 4,096 bytes hold every refusal (LargestRefusal, in text's claims).
+        // It holds every refusal (LargestRefusal, in text's claims).
         Put::Full => {}
     }
 }
 
 fn main() {
-    let mut file = io::buffer();
+    let mut file = desk::file_buffer();
     match read(STDIN_FILENO, &mut file) {
         Input::Bytes(n) => show(first(&file, n)),
         Input::Failed => print_unreadable(b"refusals", b"standard input"),

@@ -1,3 +1,2 @@
-pub mod Rows
 pub mod Repeats
 pub mod Unique

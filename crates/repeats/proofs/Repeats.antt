@@ -16,7 +16,7 @@ use Rattle.laws.specs.declared.Found.{Found}
 use Rattle.laws.specs.declared.Found.the-variants.{At as Found·At, Nothing as Found·Nothing}
 use Rattle.repeats.specs.declared.Repeat.the-variants.{At, Nothing}
 use Rattle.repeats.specs.Repeats.{repeatsAt, rowOf, firstRepeat, Repeats, AtTheLowest, NothingIfDistinct}
-use Rattle.repeats.proofs.Rows.{is-false, not-below, some-passes, finds-lowest, finds-nothing}
+use Rattle.laws.proofs.Rows.{is-false, not-below, some-passes, finds-lowest, finds-nothing}
 
 repeats : (xs : List ℕ) (i : ℕ) → i < length xs → repeatsAt xs i ≡ true → Repeats xs i
 repeats xs i h e =

@@ -12,7 +12,7 @@ use Rattle.laws.specs.declared.Found.the-variants.{At as Found·At, Nothing as 
 use Rattle.laws.specs.Search.{first}
 use Rattle.repeats.specs.declared.Repeat.{Repeat}
 use Rattle.repeats.specs.declared.Repeat.the-variants.{At, Nothing}
-use Rattle.repeats.specs.Rows.{some}
+use Rattle.laws.specs.Rows.{some}
 
 -- row i has the value of an earlier row
 abbrev pub repeatsAt : List ℕ → ℕ → Bool
@@ -40,4 +40,5 @@ AtTheLowest = (xs : List ℕ) (r : Row) → (firstRepeat xs ≡ At r) ↔ (Repea
 
 -- .. and nothing exactly if no two rows have one value
 abbrev pub NothingIfDistinct : Type 0
-NothingIfDistinct = (xs : List ℕ) → (firstRepeat xs ≡ Nothing) ↔ ((i j : ℕ) → i < length xs → j < length xs → getD xs i 0 ≡ getD xs j 0 → i ≡ j)
+NothingIfDistinct =
+    (xs : List ℕ) → (firstRepeat xs ≡ Nothing) ↔ ((i j : ℕ) → i < length xs → j < length xs → getD xs i 0 ≡ getD xs j 0 → i ≡ j)

@@ -2,85 +2,59 @@
 use mathlib.Core.Path.{_≡_, refl, sym, ap, _∙_}
 use mathlib.Core.Bool.{Bool, true, false}
 use mathlib.Core.List.{List, _++_}
-use Prim.Native.Nat.{ℕ, zero, suc, _+_, _-_, _<_, _≤_}
+use Prim.Native.Nat.{ℕ, zero, suc, _+_, _-_, _<_}
 use native.Mathlib.Numerals.{add-one}
 use native.Mathlib.Omega.{arith}
-use lib.ListN.{length, getD, take, replicate, List·getD-append, length-append, length-take, length-replicate}
-use lib.Seq.{getD-take}
+use lib.ListN.{length}
 use Rattle.names.specs.declared.Priority.{Priority}
 use Rattle.names.specs.declared.Refusal.{Refusal}
 use Rattle.names.specs.Limits.{contenders}
 use Rattle.tournament_state.specs.declared.Phase.the-variants.{AtBit}
 use Rattle.tournament_state.specs.declared.Tournament.{Tournament}
-use Rattle.tournament_state.specs.declared.Answer.{Answer}
-use Rattle.tournament_state.specs.declared.Answer.the-variants.{Done, Refused}
-use Rattle.tournament_state.specs.Refusals.{none, verdictOf}
-use Rattle.tournament_state.proofs.Meaning.{done-limits}
+use Rattle.judge.specs.declared.Checked.the-variants.{Fine, Refused}
+use Rattle.tournament_state.specs.Refusals.{verdictOf}
+use Rattle.tournament_state.proofs.Meaning.{fine-passed}
 use Rattle.text.specs.Listing.{refusedOf}
 use Rattle.tournament.specs.declared.Outcome.{Outcome}
 use Rattle.tournament.specs.declared.Carrier.the-variants.{Heard, NotHeard}
 use Rattle.tournament.specs.Rule.{begunOf, heardAt, next, steps}
-use Rattle.tournament.specs.Answers.{judgedOf, outcome, nobody, heardNow, heardUnless, carrierOf, startOf, stepOf, runOf}
+use Rattle.tournament.specs.Answers.{judgedOf, heardNow, heardUnless, carrierOf, startOf, stepOf}
 use Rattle.tournament_laws.proofs.Steps.{next-bit}
-use Rattle.tournament_laws.proofs.Start.{kept, start-phase}
-use Rattle.tournament_laws.proofs.Calls.{outcome-of, judged-steps as steps-judged, start-then-run}
+use Rattle.tournament_laws.proofs.Start.{start-long, kept, start-phase}
+use Rattle.tournament_laws.proofs.Calls.{outcome-of, judged-steps as steps-judged, start-fine, start-judged}
 use Rattle.replay_screen.specs.Shown.{bitLine, bitLines, playedOf, shownBy, shownOf}
-use Rattle.replay_screen.specs.Private.{Begun, isHeard}
-
-pub answer-is : (a : Answer) (before after : Tournament) → outcome a before after .answer ≡ a
-answer-is Done before after = refl
-answer-is (Refused r) before after = refl
+use Rattle.replay_screen.specs.private.Begun.{Begun, isHeard}
 
 -- ---- what a start hands out
-begun-long : (NB n : ℕ) (places : List Priority) → length places ≡ contenders → verdictOf NB n places (AtBit 1) ≡ Done → length (begunOf NB n places .priorities) ≡ contenders
-unfolding begunOf
-begun-long NB n places long e =
-    let few = done-limits NB n places (AtBit 1) e .few in
-    omega (arith, length-append (take n places) (replicate (contenders - n) none), length-take n places, length-replicate (contenders - n) none)
+module _ (NB n : ℕ) (places : List Priority) (long : length places ≡ contenders) where
+  pub begun-fine : verdictOf NB n places (AtBit 1) ≡ Fine → Begun (begunOf NB n places)
+  begun-fine e =
+      let few = fine-passed NB n places (AtBit 1) e .few in
+      record {
+        judged = start-judged NB n places long e;
+        long = start-long NB n places few (omega arith);
+        first = start-phase NB n places;
+      }
 
--- a contender's priority stands in its row
-pub priority-in : (NB n w : ℕ) (places : List Priority) → w < n → n ≤ length places → getD (begunOf NB n places .priorities) w none ≡ getD places w none
-unfolding begunOf
-priority-in NB n w places h g =
-    List·getD-append (take n places) (replicate (contenders - n) none) none w (omega (arith, length-take n places)) ∙ getD-take n places w none h
-
--- the state of a start whose verdict is not a refusal
-pub begun-of-done : (NB n : ℕ) (places : List Priority) → length places ≡ contenders → verdictOf NB n places (AtBit 1) ≡ Done → Begun (begunOf NB n places)
-unfolding startOf runOf
-begun-of-done NB n places long d =
-    let t = begunOf NB n places in
-    let e : startOf NB n places .answer ≡ Done = answer-is (verdictOf NB n places (AtBit 1)) nobody t ∙ d in
-    let s : startOf NB n places .tournament ≡ t = outcome-of (verdictOf NB n places (AtBit 1)) nobody t d in
-    let ran : runOf t .answer ≡ Done = sym (ap (λ u. runOf u .answer) s) ∙ start-then-run NB n places long e .1 .accepted in
-    record {
-      judged = sym (answer-is (judgedOf t) t (steps (t .bits) t)) ∙ ran;
-      long = begun-long NB n places long d;
-      first = start-phase NB n places;
-    }
-
-pub begun-start : (NB n : ℕ) (places : List Priority) → length places ≡ contenders → startOf NB n places .answer ≡ Done → Begun (startOf NB n places .tournament)
-unfolding startOf
-begun-start NB n places long e =
-    let t = begunOf NB n places in
-    let d : verdictOf NB n places (AtBit 1) ≡ Done = sym (answer-is (verdictOf NB n places (AtBit 1)) nobody t) ∙ e in
-    rw (outcome-of (verdictOf NB n places (AtBit 1)) nobody t d) (begun-of-done NB n places long d)
+  begun-start : startOf NB n places .checked ≡ Fine → Begun (startOf NB n places .tournament)
+  begun-start e = let (d, s) = start-fine NB n places e in rw s (begun-fine d)
 
 -- the same of what a call handed back, with what is shown of it
 module _ (NB n : ℕ) (places : List Priority) (o : Outcome) (e : o ≡ startOf NB n places) where
-  pub begun-of : length places ≡ contenders → o .answer ≡ Done → Begun (o .tournament)
+  pub begun-of : length places ≡ contenders → o .checked ≡ Fine → Begun (o .tournament)
   begun-of long d = rw e (begun-start NB n places long (rw e at d))
 
-  pub shown-done : o .answer ≡ Done → playedOf (o .tournament) ≡ shownOf NB n places
+  pub shown-fine : o .checked ≡ Fine → playedOf (o .tournament) ≡ shownOf NB n places
   unfolding shownOf
-  shown-done d = sym (ap (λ a. shownBy a (o .tournament)) d) ∙ ap (λ (o : Outcome). shownBy (o .answer) (o .tournament)) e
+  shown-fine d = sym (ap (λ a. shownBy a (o .tournament)) d) ∙ ap (λ (o : Outcome). shownBy (o .checked) (o .tournament)) e
 
-  pub shown-refused : (r : Refusal) → o .answer ≡ Refused r → refusedOf r ≡ shownOf NB n places
+  pub shown-refused : (r : Refusal) → o .checked ≡ Refused r → refusedOf r ≡ shownOf NB n places
   unfolding shownOf
-  shown-refused r d = sym (ap (λ a. shownBy a (o .tournament)) d) ∙ ap (λ (o : Outcome). shownBy (o .answer) (o .tournament)) e
+  shown-refused r d = sym (ap (λ a. shownBy a (o .tournament)) d) ∙ ap (λ (o : Outcome). shownBy (o .checked) (o .tournament)) e
 
 -- ---- its steps, and what is heard at each
 module _ (t : Tournament) (b : Begun t) where
-  pub judged-steps : (k : ℕ) → judgedOf (steps k t) ≡ Done
+  pub judged-steps : (k : ℕ) → judgedOf (steps k t) ≡ Fine
   judged-steps k = steps-judged t (b .long) (b .judged) k
 
   at-bit : (k : ℕ) → k < t .bits → steps k t .phase ≡ AtBit (k + 1)

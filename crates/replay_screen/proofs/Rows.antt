@@ -7,7 +7,7 @@ use lib.ListN.{getD}
 use Rattle.laws.specs.Lists.{rows, those}
 use Rattle.laws.proofs.Lists.{rows-more, those-yes, those-no}
 use Rattle.decimal.specs.Decimal.{digits}
-use Rattle.replay_screen.specs.Words as word
+use Rattle.replay_screen.specs.Phrases as word
 use Rattle.replay_screen.specs.Shown.{spaced, rowsText}
 
 -- the marked rows among the first k places

@@ -1,47 +1,37 @@
 -- How many bytes a replay has at most: each line by its parts, each part by its digits. Assumes nothing.
 use mathlib.Core.Path.{_≡_, refl}
-use mathlib.Core.Bool.{Bool, true, false, not, _&&_, cond}
+use mathlib.Core.Bool.{Bool, true, false, cond}
 use native.Mathlib.Decide.{decLe}
-use mathlib.Core.List.{List, [], _∷_, _++_, map}
+use mathlib.Core.List.{List, [], _∷_, _++_}
 use Prim.Native.Nat.{ℕ, zero, suc, _+_, _*_, _^_, _≤_, _<_}
 use native.Mathlib.Nat.{lt-of-not-le, suc-mul, mul-le-mul-right}
 use native.Mathlib.Omega.{arith}
 use borrow.Author.Tests.{leb-true}
-use lib.Dec.{leb}
-use lib.ListN.{length, getD, take, length-append, length-take, length-map}
+use lib.ListN.{length, getD, length-append}
 use Rattle.names.specs.declared.Priority.{Priority}
 use Rattle.names.specs.declared.Row.{Row}
-use Rattle.names.specs.declared.Refusal.{Refusal}
 use Rattle.names.specs.Limits.{contenders, bits, ticks}
-use Rattle.laws.specs.declared.Found.{Found}
-use Rattle.laws.specs.declared.Found.the-variants.{At as Found·At, Nothing as Found·Nothing}
 use Rattle.laws.specs.Lists.{rows, those}
-use Rattle.laws.specs.Search.{first}
-use Rattle.repeats.specs.declared.Repeat.{Repeat}
-use Rattle.repeats.specs.declared.Repeat.the-variants.{At as Repeat·At, Nothing as Repeat·Nothing}
-use Rattle.repeats.specs.Repeats.{firstRepeat}
-use Rattle.repeats.proofs.Rows.{finds-lowest}
-use Rattle.repeats.proofs.Repeats.{at-the-lowest}
+use Rattle.judge.specs.declared.Checked.{Checked}
+use Rattle.judge.specs.declared.Checked.the-variants.{Fine, Refused}
 use Rattle.decimal.specs.Decimal.{digitsOf, digits}
 use Rattle.decimal.proofs.Decimal.{few-digits}
-use Rattle.text.specs.Listing.{refusedOf}
 use Rattle.text.proofs.Size.{largest-refusal}
 use Rattle.tournament_state.specs.declared.Phase.{Phase}
 use Rattle.tournament_state.specs.declared.Phase.the-variants.{AtBit, Finished, NoWinner}
 use Rattle.tournament_state.specs.declared.Tournament.{Tournament}
-use Rattle.tournament_state.specs.declared.Answer.{Answer}
-use Rattle.tournament_state.specs.declared.Answer.the-variants.{Done, Refused}
-use Rattle.tournament_state.specs.Refusals.{number, none, fitsIn, unfitAt, repeatedAt, seven, eightBits, eightPriorities, eightPhase, nine, unless, refused, _then_, verdictOf}
-use Rattle.tournament_state.specs.Meaning.{at, Within}
-use Rattle.tournament_state.proofs.Meaning.{done-limits}
+use Rattle.tournament_state.specs.Refusals.{number, none, verdictOf}
+use Rattle.tournament_state.specs.Meaning.{at, PhaseWithin}
+use Rattle.tournament_state.proofs.Meaning.{fine-passed}
+use Rattle.tournament_state.proofs.Ranges.{refusal-range}
 use Rattle.tournament.specs.Rule.{begunOf, heardAt, steps}
 use Rattle.tournament.specs.Answers.{outcome, nobody, startOf}
-use Rattle.tournament_laws.proofs.Start.{kept, unused-at-start}
-use Rattle.replay_screen.specs.Words as word
+use Rattle.tournament_laws.proofs.Start.{start-priority, kept, unused-at-start}
+use Rattle.replay_screen.specs.Phrases as word
 use Rattle.replay_screen.specs.Shown.{marked, gone, spaced, rowsText, carrierText, bitLine, bitLines, winsLine, winnerLine, playedOf, shownBy, shownOf}
-use Rattle.replay_screen.specs.Private.{Begun}
+use Rattle.replay_screen.specs.private.Begun.{Begun}
 use Rattle.replay_screen.specs.Claims.{mostRows, mostOfBit, mostOfWinner, mostShown, LargestShown, MostIs}
-use Rattle.replay_screen.proofs.Play.{priority-in, judged-steps, begun-of-done}
+use Rattle.replay_screen.proofs.Play.{judged-steps, begun-fine}
 
 -- ---- the rows
 some-of : (t : ℕ → Bool) (l : List ℕ) → length (spaced (those t l)) ≤ length (spaced l)
@@ -95,7 +85,7 @@ unfolding winsLine
 wins-size row p h g =
     simp length-append (omega (arith, few-digits 3 (row .0) (omega arith) (omega arith), few-digits 10 (number p) (omega arith) (omega arith)))
 
-winner-size : (places : List Priority) (phase : Phase) (NB n : ℕ) → Within NB n phase → n ≤ contenders → ((i : ℕ) → at places i ≤ ticks)
+winner-size : (places : List Priority) (phase : Phase) (NB n : ℕ) → PhaseWithin NB n phase → n ≤ contenders → ((i : ℕ) → at places i ≤ ticks)
     → length (winnerLine places phase) ≤ mostOfWinner
 unfolding winnerLine
 winner-size places (AtBit k) NB n w h p = omega arith
@@ -107,7 +97,7 @@ played-size : (t : Tournament) → Begun t → ((i : ℕ) → at (t .priorities)
 unfolding playedOf
 played-size t b p =
     let s = steps (t .bits) t in
-    let l = done-limits (s .bits) (s .count) (s .priorities) (s .phase) (judged-steps t b (t .bits)) in
+    let l = fine-passed (s .bits) (s .count) (s .priorities) (s .phase) (judged-steps t b (t .bits)) in
     let k = kept t (t .bits) in
     let few : t .bits ≤ bits = omega (arith, l .to, k .bits) in
     omega (
@@ -118,67 +108,27 @@ played-size t b p =
       winner-size (s .priorities) (s .phase) (s .bits) (s .count) (l .within) (l .few) (λ i. rw (k .priorities) (p i)),
     )
 
--- ---- a refusal: its number has one digit, and its place is 0 or a row
-abbrev Small : Answer → Type 0
-Small Done = Unit {0}
-Small (Refused r) = (r .number ≤ 9) × (r .place ≤ contenders)
-
-small-then : (a b : Answer) → Small a → Small b → Small (a then b)
-small-then Done b p q = q
-small-then (Refused r) b p q = p
-
-small-unless : (b : Bool) (k : ℕ) → k ≤ 9 → Small (unless b (refused k 0))
-small-unless true k h = tt
-small-unless false k h = (h, omega arith)
-
-small-unfit : (NB : ℕ) (ps : List Priority) → length ps ≤ contenders → Small (eightPriorities NB ps)
-unfolding eightPriorities
-small-unfit NB ps h = by-found (first unfit 0 (length ps)) refl
-  where
-    unfit : ℕ → Bool
-    unfit i = not (fitsIn NB (getD ps i none))
-
-    by-found : (f : Found) → first unfit 0 (length ps) ≡ f → Small (unfitAt f)
-    by-found (Found·At i) e = (omega arith, omega (arith, finds-lowest unfit 0 (length ps) i .0 e .below))
-    by-found Found·Nothing e = tt
-
-small-repeated : (ps : List Priority) → length ps ≤ contenders → Small (nine ps)
-unfolding nine
-small-repeated ps h = by-repeat (firstRepeat (map number ps)) refl
-  where
-    by-repeat : (r : Repeat) → firstRepeat (map number ps) ≡ r → Small (repeatedAt r)
-    by-repeat (Repeat·At row) e = (omega arith, omega (arith, at-the-lowest (map number ps) row .0 e .0 .among, length-map ps number))
-    by-repeat Repeat·Nothing e = tt
-
-small-verdict : (NB n : ℕ) (places : List Priority) → length places ≡ contenders → Small (verdictOf NB n places (AtBit 1))
-unfolding verdictOf
-small-verdict NB n places h =
-    let ps = take n places in
-    let few : length ps ≤ contenders = omega (arith, length-take n places) in
-    small-then (seven n) _ (small-unless (leb 1 n && leb n contenders) 7 (omega arith))
-    (small-then (eightBits NB) _ (small-unless (leb 1 NB && leb NB bits) 8 (omega arith))
-    (small-then (eightPriorities NB ps) _ (small-unfit NB ps few)
-    (small-then (eightPhase NB n (AtBit 1)) _ (small-unless (leb 1 1 && leb 1 NB) 8 (omega arith)) (small-repeated ps few))))
-
-refused-size : (r : Refusal) → (r .number ≤ 9) × (r .place ≤ contenders) → length (refusedOf r) ≤ mostShown
-refused-size r (p, q) = omega (arith, largest-refusal r (omega arith) (omega arith))
-
 -- ---- what is shown
 begun-small : (NB n : ℕ) (places : List Priority) → n ≤ length places → ((i : ℕ) → at places i ≤ ticks) → (i : ℕ) → at (begunOf NB n places .priorities) i ≤ ticks
 unfolding steps
 begun-small NB n places h p i =
     elim (decLe n i) [
       | yes g ↦ rw (unused-at-start NB n places 0 i g .0) (omega arith)
-      | no g ↦ rw (priority-in NB n i places (lt-of-not-le g) h) (p i)
+      | no g ↦ rw (start-priority NB n places i h (lt-of-not-le g)) (p i)
     ]
 
 pub largest-shown : LargestShown
 unfolding shownOf startOf
-largest-shown NB n places l = by-answer (verdictOf NB n places (AtBit 1)) refl
+largest-shown NB n places l = by-verdict (verdictOf NB n places (AtBit 1)) refl
   where
-    by-answer : (a : Answer) → verdictOf NB n places (AtBit 1) ≡ a → length (shownBy (outcome a nobody (begunOf NB n places) .answer) (outcome a nobody (begunOf NB n places) .tournament)) ≤ mostShown
-    by-answer Done e = played-size (begunOf NB n places) (begun-of-done NB n places (l .long) e) (begun-small NB n places (omega (arith, done-limits NB n places (AtBit 1) e .few, l .long)) (l .small))
-    by-answer (Refused r) e = refused-size r (rw e at (small-verdict NB n places (l .long)))
+    by-verdict : (c : Checked) → verdictOf NB n places (AtBit 1) ≡ c
+        → length (shownBy (outcome c nobody (begunOf NB n places) .checked) (outcome c nobody (begunOf NB n places) .tournament)) ≤ mostShown
+    by-verdict Fine e =
+        played-size (begunOf NB n places) (begun-fine NB n places (l .long) e)
+        (begun-small NB n places (omega (arith, fine-passed NB n places (AtBit 1) e .few, l .long)) (l .small))
+    by-verdict (Refused r) e =
+        let (above, below, place) = refusal-range NB n places (AtBit 1) r e in
+        omega (arith, largest-refusal r (omega arith) (omega (arith, l .long)))
 
 pub most-is : MostIs
 unfolding spaced rows digits digitsOf

@@ -7,19 +7,19 @@ use lib.ListN.{length, getD}
 use Rattle.names.specs.declared.Priority.{Priority}
 use Rattle.names.specs.Limits.{contenders, bits, ticks}
 use Rattle.laws.specs.Lists.{rows}
-use Rattle.tournament_state.specs.declared.Answer.the-variants.{Done}
+use Rattle.judge.specs.declared.Checked.the-variants.{Fine}
 use Rattle.tournament_state.specs.Refusals.{none}
 use Rattle.tournament_state.specs.Meaning.{at}
 use Rattle.tournament.specs.Rule.{begunOf}
 use Rattle.tournament.specs.Answers.{startOf}
 use Rattle.tournament_laws.specs.Facts.{Smallest}
-use Rattle.replay_screen.specs.Words as word
+use Rattle.replay_screen.specs.Phrases as word
 use Rattle.replay_screen.specs.Shown.{spaced, bitLines, winsLine, shownOf}
 
 -- a start that is not refused: a line for each of the NB bits, and the row and the priority of the smallest
 abbrev pub SmallestShown : Type 0
 SmallestShown =
-    (NB n : ℕ) (places : List Priority) → length places ≡ contenders → startOf NB n places .answer ≡ Done
+    (NB n : ℕ) (places : List Priority) → length places ≡ contenders → startOf NB n places .checked ≡ Fine
     → (w : ℕ) × Smallest n places w
     × (shownOf NB n places ≡ bitLines (begunOf NB n places) NB ++ winsLine (record { 0 = w }) (getD places w none))
 

@@ -1,4 +1,4 @@
-pub mod Words
+pub mod Phrases
 pub mod Shown
 pub mod Claims
-pub mod Private
+pub mod private

@@ -12,12 +12,12 @@ use Rattle.text.specs.Listing.{refusedOf}
 use Rattle.tournament_state.specs.declared.Phase.{Phase}
 use Rattle.tournament_state.specs.declared.Phase.the-variants.{AtBit, Finished, NoWinner}
 use Rattle.tournament_state.specs.declared.Tournament.{Tournament}
-use Rattle.tournament_state.specs.declared.Answer.{Answer}
-use Rattle.tournament_state.specs.declared.Answer.the-variants.{Done, Refused}
+use Rattle.judge.specs.declared.Checked.{Checked}
+use Rattle.judge.specs.declared.Checked.the-variants.{Fine, Refused}
 use Rattle.tournament_state.specs.Refusals.{none}
 use Rattle.tournament.specs.Rule.{heardAt, steps}
 use Rattle.tournament.specs.Answers.{startOf}
-use Rattle.replay_screen.specs.Words as word
+use Rattle.replay_screen.specs.Phrases as word
 
 -- texts, one after the other
 abbrev pub joined : List (List ℕ) → List ℕ
@@ -81,9 +81,9 @@ unfoldable pub playedOf : Tournament → List ℕ
 playedOf t = bitLines t (t .bits) ++ winnerLine (steps (t .bits) t .priorities) (steps (t .bits) t .phase)
 
 -- what is shown of a bit count and the priorities of n contenders: the line of the refusal, or all of the tournament
-abbrev pub shownBy : Answer → Tournament → List ℕ
-shownBy Done t = playedOf t
+abbrev pub shownBy : Checked → Tournament → List ℕ
+shownBy Fine t = playedOf t
 shownBy (Refused refusal) t = refusedOf refusal
 
 unfoldable pub shownOf : ℕ → ℕ → List Priority → List ℕ
-shownOf NB n places = shownBy (startOf NB n places .answer) (startOf NB n places .tournament)
+shownOf NB n places = shownBy (startOf NB n places .checked) (startOf NB n places .tournament)

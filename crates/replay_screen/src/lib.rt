@@ -10,10 +10,12 @@ ghost use Rattle.text.specs.Put.{Lays};
 ghost use Rattle.decimal.specs.Decimal.{digits};
 ghost use Rattle.tournament_state.specs.Refusals.{none as Refusals·none};
 ghost use Rattle.tournament.specs.Answers.{carrierOf};
-ghost use Rattle.replay_screen.specs.Words as word;
+ghost use Rattle.replay_screen.specs.Phrases as word;
 ghost use Rattle.replay_screen.specs.Shown.{marked, gone as Shown·gone, rowsText, carrierText};
 ghost use Rattle.replay_screen.specs.Shown.{bitLine, winsLine, winnerLine, playedOf, shownOf};
-ghost use Rattle.replay_screen.specs.Private.{Begun, isHeard};
+ghost use Rattle.replay_screen.specs.private.Begun.{Begun, isHeard};
+use judge::Checked;
+use names::BITS;
 use names::CONTENDERS;
 use names::Priority;
 use names::Row;
@@ -24,12 +26,20 @@ use tournament::Carrier;
 use tournament::listen;
 use tournament::start;
 use tournament::step;
-use tournament_state::Answer;
 use tournament_state::Phase;
 use tournament_state::Tournament;
 
-// No replay has more bytes (specs/Claims.antt works it out), so a buffer of this length is never too small.
-pub const SHOWN: usize = 27270;
+// Every row after its space: ten rows have one digit, ninety have two, and the others three.
+const ROWS: usize = 10 * 2 + 90 * 3 + (CONTENDERS - 100) * 4;
+
+// The longest line of a bit: its words, a number of two digits, and every row in both places.
+const BIT: usize = 4 + 2 + 2 + 13 + 14 + ROWS + 11 + ROWS + 1;
+
+// The longest line of a winner: its words, a row of three digits and a priority of ten.
+const WINNER: usize = 4 + 3 + 20 + 10 + 1;
+
+// No replay has more bytes (specs/Claims.antt works it out in the same way), so a buffer of this length is never too small.
+pub const SHOWN: usize = BITS as usize * BIT + WINNER;
 
 fn either(a: bool, b: bool) -> bool
     ensures { λ r. ⌜ r ≡ a || b ⌝ }
@@ -38,12 +48,12 @@ fn either(a: bool, b: bool) -> bool
 }
 
 // A row after a space, if it is marked.
-fn lay_row(out: &mut [u8], at: usize, row: usize, mark: bool) -> usize
-    ensures { λ r. ⌜ Lays (now (out .entry)) at (cond mark (word.space ++ digits row) []) r (now (out .exit)) ⌝ }
+fn lay_row(out: &mut [u8], at: usize, row: Row, mark: bool) -> usize
+    ensures { λ r. ⌜ Lays (now (out .entry)) at (cond mark (word.space ++ digits (row .0)) []) r (now (out .exit)) ⌝ }
 {
     if mark {
         let at = lay_text(out, at, b" ");
-        return lay_number(out, at, row as u64);
+        return lay_number(out, at, row.0 as u64);
     }
     at
 }
@@ -66,7 +76,7 @@ fn lay_rows(out: &mut [u8], at: usize, marks: [bool; CONTENDERS]) -> usize
     let mut some = false;
     for i in 0..CONTENDERS {
         let mark = marks[i];
-        next = lay_row(out, next, i, mark);
+        next = lay_row(out, next, Row(i), mark);
         some = either(some, mark);
     }
     lay_none(out, next, some)
@@ -193,9 +203,9 @@ pub fn lay_shown(
     ensures { λ r. ⌜ Lays (now (out .entry)) at (shownOf bits count priorities) r (now (out .exit)) ⌝ }
 {
     let begun = start(bits, count, priorities);
-    let answer = begun.answer;
-    match answer {
-        Answer::Done => lay_played(out, at, begun.tournament),
-        Answer::Refused(no) => lay_refusal(out, at, no),
+    let checked = begun.checked;
+    match checked {
+        Checked::Fine => lay_played(out, at, begun.tournament),
+        Checked::Refused(no) => lay_refusal(out, at, no),
     }
 }

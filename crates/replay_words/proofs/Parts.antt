@@ -12,8 +12,8 @@ use lib.Seq.{take-suc}
 use Rattle.laws.specs.declared.Found.{Found}
 use Rattle.laws.specs.declared.Found.the-variants.{At, Nothing}
 use Rattle.laws.specs.Search.{first}
-use Rattle.repeats.proofs.Rows.{finds-lowest}
-use Rattle.replay_words.specs.Words.{parts}
+use Rattle.laws.proofs.Rows.{finds-lowest}
+use Rattle.replay_words.specs.Handwritten.{parts}
 use Rattle.replay_words.specs.Parts.{hasWord, endsWith, endsAfter, over, orAll, firstEnd}
 use Rattle.replay_words.specs.Claims.{EndWithin, EndGoesOn}
 

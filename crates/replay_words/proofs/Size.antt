@@ -3,25 +3,24 @@ use mathlib.Core.Path.{_≡_, refl, ap}
 use mathlib.Core.Bool.{Bool, true, false, cond, _&&_}
 use mathlib.Core.List.{List, [], _∷_, _++_, map}
 use Prim.Native.Nat.{ℕ, zero, suc, _+_, _-_, _≤_}
-use native.Mathlib.Nat.{zero-add}
 use native.Mathlib.Omega.{arith}
-use borrow.Author.Tests.{le-leb, leb-true}
+use borrow.Author.Tests.{leb-true}
 use lib.Dec.{leb, eqb}
 use lib.ListN.{length, getD, take, drop, replicate, length-append, length-take, length-replicate}
 use Rattle.names.specs.Limits.{contenders, ticks}
 use Rattle.laws.specs.Lists.{placed}
 use Rattle.decimal.specs.Decimal.{valueOf}
 use Rattle.decimal.proofs.Decimal.{few-digits}
-use Rattle.text.specs.declared.Put.the-variants.{At}
 use Rattle.text.specs.Put.{lastPlace}
+use Rattle.text.proofs.Laying.{all-put}
 use Rattle.tournament_state.specs.Refusals.{none}
 use Rattle.tournament_state.specs.Meaning.{at}
 use Rattle.replay_screen.specs.Claims.{mostShown, Lent}
 use Rattle.replay_screen.specs.Shown.{shownOf}
 use Rattle.replay_screen.proofs.Size.{largest-shown}
-use Rattle.replay_words.specs.Words.{parts, ended, wordsAfter, wordsOf, allDigits, isNumber, numberOf, wrongFrom, placesOf, usage, word, wrongLine, replayOf}
+use Rattle.replay_words.specs.Handwritten.{parts, ended, wordsAfter, textWords, allDigits, isNumber, numberOf, wrongFrom, placesOf, usage, wrongLine, replayOf}
 use Rattle.replay_words.specs.Claims.{NeverFull}
-use Rattle.replay_words.proofs.Words.{asPriority}
+use Rattle.replay_words.proofs.Words.{asPriority, few-ended}
 
 -- ---- the priorities fit in 32 bits
 number-small : (word : List ℕ) → numberOf word ≤ ticks
@@ -54,10 +53,6 @@ lent words =
     }
 
 -- ---- no text has more words than bytes
-few-ended : (word : List ℕ) → length (ended word) ≤ length word
-few-ended [] = omega arith
-few-ended (b ∷ word) = omega arith
-
 few-words : (word text : List ℕ) → length (wordsAfter word text) ≤ length word + length text
 unfolding wordsAfter
 few-words word [] = omega (arith, few-ended word)
@@ -94,5 +89,5 @@ replay-size words h = by-tests (eqb (length words) 0) (eqb (wrongFrom 1 words) 0
 
 pub never-full : NeverFull
 never-full text buffer h g =
-    let n = replay-size (wordsOf text) (omega (arith, few-words [] text)) in
-    rw (le-leb (0 + length (replayOf (wordsOf text))) (length buffer) (omega arith)) (ap At (zero-add _))
+    let n = replay-size (textWords text) (omega (arith, few-words [] text)) in
+    ap (λ x. x .0) (all-put (replayOf (textWords text)) buffer (omega arith))

@@ -3,7 +3,7 @@
 use mathlib.Core.Path.{_≡_, refl, sym, ap, _∙_}
 use mathlib.Core.Bool.{Bool, true, false, cond, _&&_}
 use mathlib.Core.List.{List, [], _∷_, _++_, map, map-append, append-assoc, append-nil}
-use Prim.Native.Nat.{ℕ, suc, _+_, _-_, _*_, _≤_, _<_}
+use Prim.Native.Nat.{ℕ, suc, _+_, _-_, _*_, _≤_, _<_, min}
 use native.Mathlib.Nat.{lt-of-not-le}
 use native.Mathlib.Decide.{decLe}
 use native.Mathlib.Numerals.{add-one}
@@ -20,8 +20,8 @@ use Rattle.decimal.proofs.Decimal.{value-snoc}
 use Rattle.tournament_state.specs.Refusals.{none}
 use Rattle.replay_screen.specs.Shown.{shownOf}
 use Rattle.replay_words.specs.declared.Reader.{Reader}
-use Rattle.replay_words.specs.Words.{parts, ended, wordsAfter, wordsOf, isDigit, allDigits, isNumber, numberOf, wrongFrom, placesOf, usage, wrongLine, replayOf}
-use Rattle.replay_words.specs.Private.{noNumber, orNone, soFar, withDigit, orZero, bitsWith, placesWith, wrongWith, closed, closedIf, withByte, begun, readOf}
+use Rattle.replay_words.specs.Handwritten.{parts, ended, wordsAfter, textWords, isDigit, allDigits, isNumber, numberOf, wrongFrom, placesOf, usage, wrongLine, replayOf}
+use Rattle.replay_words.specs.private.Reading.{noNumber, orNone, soFar, withDigit, orZero, bitsWith, placesWith, wrongWith, closed, closedIf, withByte, begun, readerOf}
 
 -- ---- the number that a word is
 digits-snoc : (word : List ℕ) (b : ℕ) → allDigits (word ++ (b ∷ [])) ≡ allDigits word && isDigit b
@@ -134,27 +134,27 @@ no-word = refl
 
 closed-one : (words : List (List ℕ)) (word : List ℕ) (inside : Bool)
     → closed (record { words = length words; bits = numberOf (getD words 0 []); priorities = placesOf words; wrong = wrongFrom 1 words; inside = inside; value = soFar word })
-    ≡ readOf (words ++ (word ∷ [])) []
-unfolding closed readOf
+    ≡ readerOf (words ++ (word ∷ [])) []
+unfolding closed readerOf
 closed-one words word inside =
     let n : length words + 1 ≡ length (words ++ (word ∷ [])) = omega (arith, length-append words (word ∷ [])) in
     rw (n, bits-one words word, places-one words word, wrong-one words word, no-word) refl
 
 -- ---- one byte more
-closed-if-is : (words : List (List ℕ)) (word : List ℕ) → closedIf (readOf words word) ≡ readOf (words ++ ended word) []
-unfolding readOf
-closed-if-is words [] = ap (λ l. readOf l []) (sym (append-nil words))
+closed-if-is : (words : List (List ℕ)) (word : List ℕ) → closedIf (readerOf words word) ≡ readerOf (words ++ ended word) []
+unfolding readerOf
+closed-if-is words [] = ap (λ l. readerOf l []) (sym (append-nil words))
 closed-if-is words (b ∷ word) = closed-one words (b ∷ word) true
 
 begun-snoc : (word : List ℕ) (b : ℕ) → begun (word ++ (b ∷ [])) ≡ true
 begun-snoc [] b = refl
 begun-snoc (c ∷ word) b = refl
 
-with-letter : (words : List (List ℕ)) (word : List ℕ) (b : ℕ) → parts b ≡ false → withByte (readOf words word) b ≡ readOf words (word ++ (b ∷ []))
-unfolding withByte readOf
+with-letter : (words : List (List ℕ)) (word : List ℕ) (b : ℕ) → parts b ≡ false → withByte (readerOf words word) b ≡ readerOf words (word ++ (b ∷ []))
+unfolding withByte readerOf
 with-letter words word b e = rw (e, so-far-more word b, begun-snoc word b) refl
 
-with-parting : (words : List (List ℕ)) (word : List ℕ) (b : ℕ) → parts b ≡ true → withByte (readOf words word) b ≡ readOf (words ++ ended word) []
+with-parting : (words : List (List ℕ)) (word : List ℕ) (b : ℕ) → parts b ≡ true → withByte (readerOf words word) b ≡ readerOf (words ++ ended word) []
 unfolding withByte
 with-parting words word b e = rw e (closed-if-is words word)
 
@@ -163,21 +163,21 @@ with-parting words word b e = rw e (closed-if-is words word)
 pub record ReadTo (text : List ℕ) (i : ℕ) (r : Reader) : Type 0 where
   pub words : List (List ℕ)
   pub word : List ℕ
-  pub state : r ≡ readOf words word
-  pub rest : wordsOf text ≡ words ++ wordsAfter word (drop i text)
+  pub state : r ≡ readerOf words word
+  pub rest : textWords text ≡ words ++ wordsAfter word (drop i text)
   pub few : length words ≤ i
 
-pub read-none : (text : List ℕ) (r : Reader) → r ≡ readOf [] [] → ReadTo text 0 r
+pub read-none : (text : List ℕ) (r : Reader) → r ≡ readerOf [] [] → ReadTo text 0 r
 read-none text r e = record { words = []; word = []; state = e; rest = refl; few = omega arith }
 
-few-ended : (word : List ℕ) → length (ended word) ≤ 1
+pub few-ended : (word : List ℕ) → length (ended word) ≤ min 1 (length word)
 few-ended [] = omega arith
 few-ended (b ∷ word) = omega arith
 
 module _ (text : List ℕ) (i : ℕ) (h : i < length text) {r : Reader} (t : ReadTo text i r) where
   -- the words go on with the byte at i
   on : (p : Bool) → parts (getD text i 0) ≡ p
-      → wordsOf text ≡ t .words ++ cond p (ended (t .word) ++ wordsAfter [] (drop (i + 1) text)) (wordsAfter (t .word ++ (getD text i 0 ∷ [])) (drop (i + 1) text))
+      → textWords text ≡ t .words ++ cond p (ended (t .word) ++ wordsAfter [] (drop (i + 1) text)) (wordsAfter (t .word ++ (getD text i 0 ∷ [])) (drop (i + 1) text))
   unfolding wordsAfter
   on p q =
       let e : drop i text ≡ getD text i 0 ∷ drop (i + 1) text = rw (add-one i) (drop-cons text i 0 h) in
@@ -208,24 +208,24 @@ module _ (text : List ℕ) (i : ℕ) (h : i < length text) {r : Reader} (t : Rea
 
 -- how many words there are can be counted
 pub read-few : {text : List ℕ} {i : ℕ} {r : Reader} → ReadTo text i r → r .words ≤ i
-unfolding readOf
+unfolding readerOf
 read-few {text} {i} {r} t = omega (arith, ap (λ (s : Reader). s .words) (t .state), t .few)
 
-pub read-all : (text : List ℕ) (i : ℕ) (r : Reader) → length text ≤ i → ReadTo text i r → closedIf r ≡ readOf (wordsOf text) []
+pub read-all : (text : List ℕ) (i : ℕ) (r : Reader) → length text ≤ i → ReadTo text i r → closedIf r ≡ readerOf (textWords text) []
 unfolding wordsAfter
 read-all text i r h t =
     ap closedIf (t .state)
     ∙ closed-if-is (t .words) (t .word)
-    ∙ ap (λ l. readOf l []) (sym (t .rest ∙ ap (λ l. t .words ++ wordsAfter (t .word) l) (drop-of-length-le text h)))
+    ∙ ap (λ l. readerOf l []) (sym (t .rest ∙ ap (λ l. t .words ++ wordsAfter (t .word) l) (drop-of-length-le text h)))
 
 -- ---- what is shown of them
-module _ (words : List (List ℕ)) (r : Reader) (e : r ≡ readOf words []) where
+module _ (words : List (List ℕ)) (r : Reader) (e : r ≡ readerOf words []) where
   counted : r .words ≡ length words
-  unfolding readOf
+  unfolding readerOf
   counted = ap (λ (s : Reader). s .words) e
 
   first-wrong : r .wrong ≡ wrongFrom 1 words
-  unfolding readOf
+  unfolding readerOf
   first-wrong = ap (λ (s : Reader). s .wrong) e
 
   pub shown-none : r .words ≡ 0 → usage ≡ replayOf words
@@ -233,7 +233,7 @@ module _ (words : List (List ℕ)) (r : Reader) (e : r ≡ readOf words []) wher
   shown-none h = rw (eq-eqb (length words) 0 (sym counted ∙ h)) refl
 
   pub shown-right : (r .words ≡ 0 → ⊥) → r .wrong ≡ 0 → shownOf (r .bits) (r .words - 1) (r .priorities) ≡ replayOf words
-  unfolding replayOf readOf
+  unfolding replayOf readerOf
   shown-right h g =
       rw (ne-eqb (length words) 0 (λ z. h (counted ∙ z)), eq-eqb (wrongFrom 1 words) 0 (sym first-wrong ∙ g))
       (ap (λ (s : Reader). shownOf (s .bits) (s .words - 1) (s .priorities)) e)

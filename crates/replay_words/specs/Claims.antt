@@ -9,7 +9,7 @@ use Rattle.decimal.specs.Decimal.{digits}
 use Rattle.text.specs.declared.Put.the-variants.{At}
 use Rattle.text.specs.Put.{lastPlace, put}
 use Rattle.replay_screen.specs.Claims.{mostShown}
-use Rattle.replay_words.specs.Words.{parts, wordsOf, isNumber, numberOf, replayOf}
+use Rattle.replay_words.specs.Handwritten.{parts, textWords, isNumber, numberOf, replayOf}
 use Rattle.replay_words.specs.Parts.{hasWord, firstEnd}
 
 -- a number's digits are a word that is that number, ..
@@ -20,13 +20,13 @@ NumberRead = (n : ℕ) → n ≤ ticks → (isNumber (digits n) ≡ true) × (nu
 abbrev pub WordRead : Type 0
 WordRead =
     (word : List ℕ) (b : ℕ) (text : List ℕ) → 1 ≤ length word → ((i : ℕ) → i < length word → parts (getD word i 0) ≡ false) → parts b ≡ true
-    → wordsOf (word ++ b ∷ text) ≡ word ∷ wordsOf text
+    → textWords (word ++ b ∷ text) ≡ word ∷ textWords text
 
 -- a buffer that holds the longest replay holds what is shown of any text that can be lent
 abbrev pub NeverFull : Type 0
 NeverFull =
     (text buffer : List ℕ) → length text ≤ lastPlace → mostShown ≤ length buffer
-    → put buffer 0 (replayOf (wordsOf text)) .0 ≡ At (length (replayOf (wordsOf text)))
+    → put buffer 0 (replayOf (textWords text)) .0 ≡ At (length (replayOf (textWords text)))
 
 -- the first tournament's text is a part of the text, and where there is a word, it is some of it
 abbrev pub EndWithin : Type 0

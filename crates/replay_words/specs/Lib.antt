@@ -1,4 +1,4 @@
-pub mod Words
+pub mod Handwritten
 pub mod Parts
 pub mod Claims
-pub mod Private
+pub mod private

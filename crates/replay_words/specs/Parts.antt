@@ -7,7 +7,7 @@ use lib.ListN.{length, take}
 use Rattle.laws.specs.declared.Found.{Found}
 use Rattle.laws.specs.declared.Found.the-variants.{At, Nothing}
 use Rattle.laws.specs.Search.{first}
-use Rattle.replay_words.specs.Words.{parts}
+use Rattle.replay_words.specs.Handwritten.{parts}
 
 -- some byte is in a word
 unfoldable pub hasWord : List ℕ → Bool

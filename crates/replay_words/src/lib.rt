@@ -8,10 +8,10 @@ ghost use mathlib.Core.List.{[]};
 ghost use Prim.Native.Nat.{_<_};
 ghost use lib.Dec.{leb};
 ghost use Rattle.text.specs.Put.{lastPlace, Lays, Puts};
-ghost use Rattle.replay_words.specs.Words.{parts, wordsOf, wrongLine, replayOf};
+ghost use Rattle.replay_words.specs.Handwritten.{parts, textWords, wrongLine, replayOf};
 ghost use Rattle.replay_words.specs.Parts.{hasWord, endsWith, firstEnd};
-ghost use Rattle.replay_words.specs.Private.{withDigit, orZero, bitsWith, placesWith, wrongWith};
-ghost use Rattle.replay_words.specs.Private.{closed as Private·closed, closedIf, withByte, readOf};
+ghost use Rattle.replay_words.specs.private.Reading.{withDigit, orZero, bitsWith, placesWith, wrongWith};
+ghost use Rattle.replay_words.specs.private.Reading.{closed as Reading·closed, closedIf, withByte, readerOf};
 use names::CONTENDERS;
 use names::Priority;
 use names::TICKS;
@@ -32,7 +32,7 @@ struct Reader {
 }
 
 fn nothing() -> Reader
-    ensures { λ r. ⌜ r ≡ readOf [] [] ⌝ }
+    ensures { λ r. ⌜ r ≡ readerOf [] [] ⌝ }
 {
     Reader {
         words: 0,
@@ -116,7 +116,7 @@ fn wrong_with(wrong: usize, words: usize, value: u64) -> usize
 // The word is over.
 fn closed(r: Reader) -> Reader
     requires { ⌜ r .words < lastPlace ⌝ }
-    ensures { λ s. ⌜ s ≡ Private·closed r ⌝ }
+    ensures { λ s. ⌜ s ≡ Reading·closed r ⌝ }
 {
     let words = r.words;
     let value = r.value;
@@ -160,7 +160,7 @@ fn with_byte(r: Reader, c: u8) -> Reader
 }
 
 fn read(text: &[u8]) -> Reader
-    ensures { λ r. ⌜ r ≡ readOf (wordsOf (now (text .entry))) [] ⌝ }
+    ensures { λ r. ⌜ r ≡ readerOf (textWords (now (text .entry))) [] ⌝ }
 {
     let mut r = nothing();
     for i in 0..text.len() {
@@ -179,7 +179,7 @@ fn lay_wrong(out: &mut [u8], at: usize, place: usize) -> usize
 }
 
 fn lay_replay(out: &mut [u8], at: usize, text: &[u8]) -> usize
-    ensures { λ r. ⌜ Lays (now (out .entry)) at (replayOf (wordsOf (now (text .entry)))) r (now (out .exit)) ⌝ }
+    ensures { λ r. ⌜ Lays (now (out .entry)) at (replayOf (textWords (now (text .entry)))) r (now (out .exit)) ⌝ }
 {
     let r = read(text);
     let words = r.words;
@@ -196,7 +196,7 @@ fn lay_replay(out: &mut [u8], at: usize, text: &[u8]) -> usize
 
 // What is shown of the one tournament of a text, at the start of the buffer.
 pub fn replay(text: &[u8], out: &mut [u8]) -> Put
-    ensures { λ r. ⌜ Puts (now (out .entry)) 0 (replayOf (wordsOf (now (text .entry)))) r (now (out .exit)) ⌝ }
+    ensures { λ r. ⌜ Puts (now (out .entry)) 0 (replayOf (textWords (now (text .entry)))) r (now (out .exit)) ⌝ }
 {
     let size = out.len();
     let bytes = lay_replay(out, size, text) - size;

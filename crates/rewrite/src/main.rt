@@ -12,16 +12,16 @@ use libc::STDIN_FILENO;
 use text::Put;
 
 fn show(file: &[u8]) {
-    let mut out = io::buffer();
+    let mut out = desk::file_buffer();
     match desk::show_file(file, &mut out) {
         Put::At(k) => print_first(&out, k),
-        // 4,096 bytes hold every plan file (FileFits, in desk's claims) and every refusal (LargestRefusal, in text's).
+        // It holds every plan file (FileFits, in desk's claims) and every refusal (LargestRefusal, in text's).
         Put::Full => {}
     }
 }
 
 fn main() {
-    let mut file = io::buffer();
+    let mut file = desk::file_buffer();
     match read(STDIN_FILENO, &mut file) {
         Input::Bytes(n) => show(first(&file, n)),
         Input::Failed => print_unreadable(b"rewrite", b"standard input"),

@@ -4,19 +4,21 @@ use mathlib.Core.List.{List, _++_}
 use Prim.Native.Nat.{ℕ, _≤_, _<_}
 use native.Mathlib.Omega.{arith}
 use lib.ListN.{length, drop}
+use Rattle.names.specs.Limits.{streams, sources}
 use Rattle.names.specs.declared.Refusal.{Refusal}
-use Rattle.words.specs.Words.{wordsOf}
 use Rattle.words.proofs.Laws.{length-bytes}
 use Rattle.plan.specs.Plan.{Plan, planOf}
-use Rattle.fields.specs.Layout as layout
-use Rattle.checks.specs.declared.Checked.the-variants.{Fine, Refused}
+use Rattle.carried.specs.Layout as layout
+use Rattle.carried.specs.Carried.{sheetOf}
+use Rattle.carried.proofs.Plans.{one-sheet}
+use Rattle.judge.specs.declared.Checked.the-variants.{Fine, Refused}
 use Rattle.checks.specs.Checks.{checkedOf}
 use Rattle.checks.proofs.Fine.{fine-if-right}
 use Rattle.file.specs.declared.ReadPlan.{ReadPlan}
 use Rattle.file.specs.declared.Written.the-variants.{Bytes, Refused as Written·Refused}
-use Rattle.file.specs.File.{words, fileOf, planIn, sheetOf, readOf, writeOf}
+use Rattle.file.specs.File.{fileWords, fileOf, readOf, writeOf}
 use Rattle.file.proofs.Bodies.{length-words}
-use Rattle.file.proofs.Reading.{fine-read, one-sheet, checked-sheet}
+use Rattle.file.proofs.Reading.{planAt, fine-read, checked-sheet}
 use Rattle.file.proofs.Writing.{write-no-room, write-fine}
 use Rattle.file.proofs.RoundTrip.{writes-what-was-read}
 use Rattle.rewriter.specs.Rewriter.{rewriteAs, rewriteOf}
@@ -37,24 +39,30 @@ module _ (bs buf : List ℕ) where
     m = fine-read bs fine .m
 
     abbrev p : Plan
-    p = planIn n m (wordsOf bs)
+    p = planAt n m bs
 
     abbrev file : List ℕ
     file = fileOf (planOf (readOf bs .sheet))
 
+    few : (length (p .streams) ≤ streams) × (length (p .gaps) ≤ sources)
+    few = let r = fine-if-right n m p .0 (fine-read bs fine .values) in (r .within .count, r .within .sources)
+
+    same-plan : planOf (sheetOf p) ≡ p
+    same-plan = one-sheet p (few .0) (few .1)
+
     pub file-is : file ≡ fileOf p
-    file-is = ap (λ (r : ReadPlan). fileOf (planOf (r .sheet))) (fine-read bs fine .read) ∙ ap fileOf (one-sheet p)
+    file-is = ap (λ (r : ReadPlan). fileOf (planOf (r .sheet))) (fine-read bs fine .read) ∙ ap fileOf same-plan
 
     abbrev size : ℕ
     size = layout.size (length (p .streams)) (length (p .gaps))
 
     long : length file ≡ size
-    long = ap length file-is ∙ length-bytes (words p) ∙ omega (arith, length-words p)
+    long = ap length file-is ∙ length-bytes (fileWords p) ∙ omega (arith, length-words p)
 
     right : checkedOf (sheetOf p) ≡ Fine
     right =
         let r = fine-if-right n m p .0 (fine-read bs fine .values) in
-        checked-sheet n m p (r .count) (r .sources) ∙ fine-read bs fine .values
+        checked-sheet n m p (r .count) (r .sources) (omega (arith, r .count, few)) (omega (arith, r .sources, few)) ∙ fine-read bs fine .values
 
     written : rewriteOf bs buf ≡ writeOf (sheetOf p) buf
     unfolding rewriteOf
@@ -72,7 +80,7 @@ module _ (bs buf : List ℕ) where
     rewrite-fine h =
         written
         ∙ write-fine (length (p .streams)) (length (p .gaps)) (planOf (sheetOf p)) buf right (omega (arith, long))
-        ∙ ap₂ (λ k (bytes : List ℕ). (Bytes k, bytes ++ drop k buf)) (sym long) (ap fileOf (one-sheet p) ∙ sym file-is)
+        ∙ ap₂ (λ k (bytes : List ℕ). (Bytes k, bytes ++ drop k buf)) (sym long) (ap fileOf same-plan ∙ sym file-is)
 
 pub rewrites-the-same : RewritesTheSame
 unfolding rewriteOf

@@ -4,7 +4,7 @@ use mathlib.Core.List.{List, _++_}
 use Prim.Native.Nat.{ℕ, _≤_}
 use lib.ListN.{length, drop}
 use Rattle.words.specs.Words.{Below}
-use Rattle.checks.specs.declared.Checked.the-variants.{Fine}
+use Rattle.judge.specs.declared.Checked.the-variants.{Fine}
 use Rattle.file.specs.declared.Written.the-variants.{Bytes}
 use Rattle.file.specs.File.{readOf}
 use Rattle.rewriter.specs.Rewriter.{rewriteOf}

@@ -2,11 +2,10 @@
 //
 // The one public function answers for any bytes, and its contract fixes each byte of the lent ones. Nothing is assumed. This crate
 // joins the reader and the writer, which know nothing of each other; it makes no check of its own, and must not know of text.
-use fields::WORDS;
+use carried::CARRIED;
 use file::Counts;
 use file::Written;
-use reader::counts;
-use words::words_into;
+use reader::carry;
 use writer::write_words;
 ghost use mathlib.Core.Path.{_≡_};
 ghost use Rattle.rewriter.specs.Rewriter.{rewriteOf};
@@ -16,12 +15,9 @@ pub fn rewrite(file: &[u8], out: &mut [u8]) -> Written
     ensures { λ r. ⌜ r ≡ rewriteOf (now (file .entry)) (now (out .entry)) .0 ⌝ }
     ensures { λ _. ⌜ now (out .exit) ≡ rewriteOf (now (file .entry)) (now (out .entry)) .1 ⌝ }
 {
-    match counts(file) {
+    let mut words = [0; CARRIED];
+    match carry(file, &mut words) {
         Counts::Refused(r) => Written::Refused(r),
-        Counts::Of(n, m) => {
-            let mut words = [0; WORDS];
-            words_into(file, &mut words);
-            write_words(&words, n, m, out)
-        }
+        Counts::Of(n, m) => write_words(&words, n, m, out),
     }
 }

@@ -1,21 +1,14 @@
 -- The sheet of a lent list has that list's plan, and so the answers of its file. Assumes nothing.
-use mathlib.Core.Path.{_≡_, refl, sym, ap₂}
-use mathlib.Core.List.{List}
-use Prim.Native.Nat.{ℕ, _-_, _≤_}
-use lib.ListN.{length, take, replicate}
-use lib.Seq.{take-all, take-append-seam}
-use Rattle.answers.proofs.Alike.{file-alike}
-use Rattle.laws.specs.Lists.{placed}
-use Rattle.screen.specs.Screen.{sheetFor}
+use mathlib.Core.Path.{refl, sym}
+use Prim.Native.Nat.{_-_}
+use Rattle.answer_files.proofs.Alike.{file-alike}
+use Rattle.carried.proofs.Plans.{one-sheet}
+use Rattle.screen.specs.Screen.{planFor, sheetFor}
 use Rattle.screen.specs.Claims.{SamePlan, SameAsFile}
-
-front : {A : Type 0} (n : ℕ) (d : A) (xs : List A) → length xs ≤ n → take (length xs) (placed n d xs) ≡ xs
-unfolding placed
-front n d xs h = rw (take-all n xs h) (take-append-seam xs (replicate (n - length xs) d))
 
 pub same-plan : SamePlan
 unfolding sheetFor
-same-plan xs t gaps h k = ap₂ (λ l m. record { timing = t; streams = l; gaps = m }) (front _ _ xs h) (front _ _ gaps k)
+same-plan xs t gaps h k = one-sheet (planFor xs t gaps) h k
 
 pub same-as-file : SameAsFile
 unfolding sheetFor

@@ -1,4 +1,5 @@
--- What is proved of the sheet of a lent list: the screen gets the answers and refusals that the file of the same plan gets. The proofs are in proofs/Same.antt and proofs/Counts.antt.
+-- What is proved of the sheet of a lent list: the screen gets the answers and refusals that the file of the same plan gets. The proofs are
+-- in proofs/Same.antt and proofs/Counts.antt.
 use mathlib.Core.Path.{_≡_}
 use mathlib.Core.List.{List}
 use Prim.Native.Nat.{ℕ, _^_, _≤_, _<_}
@@ -8,21 +9,22 @@ use Rattle.words.specs.Words.{Below}
 use Rattle.plan.specs.declared.Timing.{Timing}
 use Rattle.plan.specs.declared.Stream.{Stream}
 use Rattle.plan.specs.Plan.{Plan, planOf}
-use Rattle.checks.specs.declared.Checked.the-variants.{Refused}
-use Rattle.file.specs.File.{words, fileOf}
-use Rattle.answers.specs.Words.{answerOf, answerFileOf}
-use Rattle.screen.specs.Screen.{sheetFor}
+use Rattle.judge.specs.declared.Checked.the-variants.{Refused}
+use Rattle.file.specs.File.{fileWords, fileOf}
+use Rattle.answers.specs.Answers.{answerOf}
+use Rattle.answer_files.specs.AnswerFiles.{answerFileOf}
+use Rattle.screen.specs.Screen.{planFor, sheetFor}
 
 -- of lists that are not too long, the sheet's plan has exactly these streams and gaps
 abbrev pub SamePlan : Type 0
 SamePlan =
     (xs : List Stream) (t : Timing) (gaps : List ℕ) → length xs ≤ streams → length gaps ≤ sources
-    → planOf (sheetFor xs t gaps) ≡ record { timing = t; streams = xs; gaps = gaps }
+    → planOf (sheetFor xs t gaps) ≡ planFor xs t gaps
 
 -- so the lists of a plan are answered as its file is: the same answers, or the same refusal at the same place
 abbrev pub SameAsFile : Type 0
 SameAsFile =
-    (p : Plan) → length (p .streams) ≤ streams → length (p .gaps) ≤ sources → Below (2 ^ 32) (words p)
+    (p : Plan) → length (p .streams) ≤ streams → length (p .gaps) ≤ sources → Below (2 ^ 32) (fileWords p)
     → (out : List ℕ) → answerOf (sheetFor (p .streams) (p .timing) (p .gaps)) out ≡ answerFileOf (fileOf p) out
 
 -- an empty or over-long list is refused 2 at 0, whatever else is wrong, and the lent words are as they were

@@ -10,5 +10,6 @@ use denote.Triple.Clauses.{Clauses, Ended, Lasts, atExit}
 
 abbrev pub OneOutcome : {M : Type 1} (𝓤 : URA M) (T : Ended) → Clauses 𝓤 T → Type 1
 OneOutcome 𝓤 T c =
-    (κs : Lfts (T .signature .lifetimes)) (a : Args (T .signature) κs) (g : c κs a .ghost) (x y : Res (T .signature) κs) (ws us : Lasts T κs a)
+    (κs : Lfts (T .signature .lifetimes)) (a : Args (T .signature) κs) (g : c κs a .ghost) (x y : Res (T .signature) κs)
+    (ws us : Lasts T κs a)
     → ent 𝓤 (sep 𝓤 (c κs a .ensures g x (atExit T κs a ws)) (c κs a .ensures g y (atExit T κs a us))) (fact 𝓤 ((x ≡ y) × (ws ≡ us)))

@@ -1,4 +1,4 @@
 pub mod Screen
 pub mod Claims
-pub mod Private
+pub mod private
 pub mod Determined

@@ -9,15 +9,13 @@ ghost use Prim.Native.Nat.{_<_};
 ghost use lib.ListN.{length, getD, set, replicate};
 ghost use Rattle.names.specs.Limits.{streams as most, sources};
 ghost use Rattle.plan.specs.Plan.{blank};
-ghost use Rattle.answers.specs.Words.{answerOf};
 ghost use Rattle.laws.specs.Lists.{placed};
-ghost use Rattle.screen.specs.Screen.{sheetFor};
-ghost use Rattle.screen.specs.Private.{lotOf, sheetOf};
+ghost use Rattle.screen.specs.Screen.{Screens};
+ghost use Rattle.screen.specs.private.Gathering.{takenOf, TakenAnswered};
 use answers::answer_values;
-use checks::Checked;
+use carried::no_streams;
+use judge::Checked;
 use laws::smaller;
-use names::Label;
-use names::Priority;
 use names::SOURCES;
 use names::STREAMS;
 use plan::Sheet;
@@ -25,29 +23,19 @@ use plan::Stream;
 use plan::Timing;
 
 // A list's first streams in places of fixed number, and how many the list has.
-struct Lot {
+struct Taken {
     rows: [Stream; STREAMS],
     count: usize,
 }
 
-fn empty(n: usize) -> Lot
+fn empty(n: usize) -> Taken
     ensures { λ r. ⌜ r ≡ record { rows = replicate most blank; count = n } ⌝ }
 {
-    let s = Stream {
-        label: Label(0),
-        priority: Priority(0),
-        period: 0,
-        jitter: 0,
-        payload: 0,
-        deadline: 0,
-    };
-    Lot {
-        rows: [s; STREAMS],
-        count: n,
-    }
+    let rows = no_streams();
+    Taken { rows, count: n }
 }
 
-fn put(lot: Lot, i: usize, s: Stream) -> Lot
+fn put(lot: Taken, i: usize, s: Stream) -> Taken
     requires { ⌜ i < most ⌝ }
     ensures { λ r. ⌜ r ≡ record { rows = set (lot .rows) i s; count = lot .count } ⌝ }
 {
@@ -65,8 +53,8 @@ fn stream_at(streams: &[Stream], i: usize) -> Stream
 }
 
 // However long the list is, no more than 64 turns; its own length goes along, so that it is refused later.
-fn gathered(streams: &[Stream]) -> Lot
-    ensures { λ r. ⌜ r ≡ lotOf (now (streams .entry)) ⌝ }
+fn gathered(streams: &[Stream]) -> Taken
+    ensures { λ r. ⌜ r ≡ takenOf (now (streams .entry)) ⌝ }
 {
     let count = streams.len();
     let n = smaller(count, STREAMS);
@@ -90,8 +78,8 @@ fn copied(gaps: &[u32]) -> [u32; SOURCES]
     out
 }
 
-fn answered(lot: Lot, timing: Timing, gaps: &[u32], out: &mut [u64]) -> Checked
-    ensures { λ r. ⌜ (r ≡ answerOf (sheetOf lot timing (now (gaps .entry))) (now (out .entry)) .0) × (now (out .exit) ≡ answerOf (sheetOf lot timing (now (gaps .entry))) (now (out .entry)) .1) ⌝ }
+fn answered(lot: Taken, timing: Timing, gaps: &[u32], out: &mut [u64]) -> Checked
+    ensures { λ r. ⌜ TakenAnswered lot timing (now (gaps .entry)) (now (out .entry)) r (now (out .exit)) ⌝ }
 {
     let rows = lot.rows;
     let copies = copied(gaps);
@@ -107,7 +95,7 @@ fn answered(lot: Lot, timing: Timing, gaps: &[u32], out: &mut [u64]) -> Checked
 
 // The answers of the lent streams under this timing and these noise gaps, or the first refusal of 2, 3, 4, 5, 6 that applies.
 pub fn screen(streams: &[Stream], timing: Timing, gaps: &[u32], out: &mut [u64]) -> Checked
-    ensures { λ r. ⌜ (r ≡ answerOf (sheetFor (now (streams .entry)) timing (now (gaps .entry))) (now (out .entry)) .0) × (now (out .exit) ≡ answerOf (sheetFor (now (streams .entry)) timing (now (gaps .entry))) (now (out .entry)) .1) ⌝ }
+    ensures { λ r. ⌜ Screens (now (streams .entry)) timing (now (gaps .entry)) (now (out .entry)) r (now (out .exit)) ⌝ }
 {
     answered(gathered(streams), timing, gaps, out)
 }

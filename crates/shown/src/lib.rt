@@ -23,7 +23,8 @@ fn run(byte: u8, times: usize) {
 // Where the run from this place ends.
 fn run_end(bytes: &[u8], from: usize) -> usize
     requires { ⌜ from < length (now bytes) ⌝ }
-    ensures { λ r. ⌜ (from < r) × (r ≤ length (now (bytes .entry))) ⌝ }
+    ensures { λ r. ⌜ from < r ⌝ }
+    ensures { λ r. ⌜ r ≤ length (now (bytes .entry)) ⌝ }
 {
     let byte = bytes[from];
     for i in from + 1..bytes.len() {

@@ -2,19 +2,19 @@
 -- Assumes nothing.
 use mathlib.Core.Path.{_≡_, refl, sym, ap, ap₂, _∙_}
 use mathlib.Core.Bool.{Bool, true, false, _&&_, not, cond}
-use mathlib.Core.List.{List, [], _∷_, _++_, map, map-append, append-assoc, append-nil}
+use mathlib.Core.List.{List, [], _++_, map, append-nil}
 use Prim.Native.Nat.{ℕ, zero, suc, _+_, _-_, min, _≤_, _<_}
 use borrow.Author.Tests.{lt-ltb, le-ltb, ltb-true, eqb-true}
 use lib.Dec.{eqb, ltb}
 use native.Mathlib.Nat.{lt-of-not-le}
 use native.Mathlib.Decide.{decLe}
-use native.Mathlib.Numerals.{add-one}
 use native.Mathlib.Omega.{arith, min-cases}
 use lib.ListN.{length, take, drop, getD, set, length-map, length-take, drop-of-length-le, List·getD-map, List·getD-append, List·getD-eq-default}
-use lib.Seq.{take-suc, take-length, drop-cons, drop-length, getD-at, getD-take, set-at, append-snoc, length-take-le}
+use lib.Seq.{take-length, drop-cons, drop-length, getD-at, getD-take}
 use Rattle.names.specs.Limits.{contenders}
 use Rattle.laws.specs.Lists.{rows, placed}
-use Rattle.laws.proofs.Lists.{take-min, rows-more, rows-same, rows-take, rows-front, length-rows}
+use Rattle.laws.proofs.Lists.{take-min, rows-same, rows-map, rows-take, rows-front, length-rows}
+use Rattle.tournament_state.proofs.Places.{lay-over, lay-kept}
 use Rattle.laws.proofs.Placed.{placedTo, placed-more, placed-all}
 use Rattle.states.specs.States.{byte, marksInto, mark, marksFrom, goesOut, markedOut}
 
@@ -26,29 +26,6 @@ module _ {A : Type 0} (f : ℕ → A) (xs : List ℕ) where
 
   pub filled-all : (k : ℕ) → k ≡ min (length xs) contenders → placedTo contenders (f 0) (map f xs) k ≡ placed contenders (f 0) (map f xs)
   filled-all k e = ap (placedTo contenders (f 0) (map f xs)) (e ∙ ap (λ n. min n contenders) (sym (length-map xs f))) ∙ placed-all contenders (f 0) (map f xs)
-
-module _ (marks : List Bool) (found : List ℕ) where
-  -- the lent bytes once the first k are written, one more, and at the end
-  abbrev pub writtenTo : ℕ → List ℕ
-  writtenTo k = map byte (take k marks) ++ drop k found
-
-  pub written-more : (k b : ℕ) (out : List ℕ) → k < length marks → k < length found → out ≡ writtenTo k → b ≡ byte (getD marks k false)
-      → set out k b ≡ writtenTo (k + 1)
-  written-more k b out h g e v =
-      let n : length (map byte (take k marks)) ≡ k = length-map (take k marks) byte ∙ length-take-le k marks (omega arith) in
-      let m : map byte (take k marks ++ (getD marks k false ∷ [])) ≡ map byte (take k marks) ++ (byte (getD marks k false) ∷ []) = map-append byte (take k marks) _ in
-      rw (e, drop-cons found k 0 g, set-at (map byte (take k marks)) _ _ b k n, v, add-one k, take-suc marks k false h, m, append-snoc)
-
-  pub written-all : (k : ℕ) → length marks ≡ contenders → k ≡ min (length found) contenders → writtenTo k ≡ marksInto marks found
-  unfolding marksInto
-  written-all k h e =
-      ap₂ (λ l m. map byte l ++ m) (ap (λ n. take n marks) e ∙ take-min (length found) contenders marks (omega arith)) (ap (λ n. drop n found) e ∙ rest)
-    where
-      rest : drop (min (length found) contenders) found ≡ drop contenders found
-      rest =
-          min-cases (length found) contenders (drop (min (length found) contenders) found ≡ drop contenders found)
-          (λ h e. rw (e, drop-length) (sym (drop-of-length-le found h)))
-          (λ h e. rw e refl)
 
 rows-at : (f : ℕ → ℕ) (n i : ℕ) → i < n → getD (rows n f) i 0 ≡ f i
 rows-at f n i h = ap (λ l. getD l i 0) (sym (append-nil (rows n f))) ∙ rows-front f [] 0 n i h
@@ -62,11 +39,8 @@ module _ (f : ℕ → ℕ) (l : List ℕ) where
   unfolding rows
   laid-none = refl
 
-  laid-next : (k b : ℕ) → k < length l → set (laidTo k) k b ≡ rows k f ++ (b ∷ drop (k + 1) l)
-  laid-next k b h = rw (drop-cons l k 0 h, set-at (rows k f) _ _ b k (length-rows k f), add-one k) refl
-
   pub laid-more : (k b : ℕ) (out : List ℕ) → k < length l → out ≡ laidTo k → b ≡ f k → set out k b ≡ laidTo (k + 1)
-  laid-more k b out h e v = rw (e, laid-next k b h, rows-more f k, append-assoc, v) refl
+  laid-more k b out h e v = rw (e, v) (lay-over f l 0 k h)
 
   pub laid-at : (k : ℕ) (out : List ℕ) → k < length l → out ≡ laidTo k → getD out k 0 ≡ getD l k 0
   laid-at k out h e = rw (e, drop-cons l k 0 h) (getD-at (rows k f) _ _ 0 k (length-rows k f))
@@ -77,8 +51,22 @@ module _ (f : ℕ → ℕ) (l : List ℕ) where
       rw (n, drop-length) (append-nil _)
   laid-all (suc d) k e h =
       let n : k < length l = omega arith in
-      let s : laidTo k ≡ laidTo (k + 1) = rw (drop-cons l k 0 n, rows-more f k, append-assoc, h k (omega arith) n, add-one k) refl in
-      s ∙ laid-all d (k + 1) (omega arith) (λ i g j. h i (omega arith) j)
+      lay-kept f l 0 k n (h k (omega arith) n) ∙ laid-all d (k + 1) (omega arith) (λ i g j. h i (omega arith) j)
+
+-- the marks as bytes, all laid
+pub written-all : (marks : List Bool) (found : List ℕ) (k : ℕ) → length marks ≡ contenders → k ≡ min (length found) contenders
+    → laidTo (λ i. byte (getD marks i false)) found k ≡ marksInto marks found
+unfolding marksInto
+written-all marks found k h e =
+    ap₂ _++_
+    (sym (rows-map byte k (λ i. getD marks i false)) ∙ ap (map byte) (rows-take marks false k (omega arith) ∙ ap (λ n. take n marks) e ∙ take-min (length found) contenders marks (omega arith)))
+    (ap (λ n. drop n found) e ∙ rest)
+  where
+    rest : drop (min (length found) contenders) found ≡ drop contenders found
+    rest =
+        min-cases (length found) contenders (drop (min (length found) contenders) found ≡ drop contenders found)
+        (λ h e. rw (e, drop-length) (sym (drop-of-length-le found h)))
+        (λ h e. rw e refl)
 
 -- a byte that stays, and one that does not
 abbrev kept : Bool → ℕ → ℕ

@@ -6,7 +6,7 @@ use native.Mathlib.Omega.{arith}
 use lib.ListN.{length, getD, drop}
 use Rattle.decimal.specs.Decimal.{digits, valueOf}
 use Rattle.decimal.proofs.Decimal.{value-of-digits, digits-are-numeral}
-use Rattle.text.specs.Words as word
+use Rattle.text.specs.Vocabulary as word
 use Rattle.text.specs.Listing.{group}
 use Rattle.text.specs.Claims.{LabelsApart}
 

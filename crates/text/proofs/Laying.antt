@@ -1,15 +1,13 @@
 -- What it is to lay texts into a buffer, by the question that a proof asks: stores one after the other, one text and then another, a text byte
 -- by byte, a number digit by digit, and a text that is measured and then put or not. Other crates lay their texts by these laws. Assumes nothing.
 use mathlib.Core.Path.{_≡_, refl, sym, ap, _∙_}
-use mathlib.Core.Bool.{Bool, true, false}
-use mathlib.Core.Logic.{_⊎_, inl, inr, ⊎-elim}
 use mathlib.Core.List.{List, [], _∷_, _++_, append-nil}
 use Prim.Native.Nat.{ℕ, suc, _+_, _-_, _*_, _/_, _%_, _≤_, _<_, min}
-use native.Mathlib.Nat.{le-refl}
+use native.Mathlib.Decide.{decLe}
+use native.Mathlib.Nat.{le-refl, le-of-lt, lt-of-not-le, zero-add}
 use native.Mathlib.Numerals.{add-one}
 use native.Mathlib.Omega.{arith}
-use borrow.Author.Tests.{le-leb, lt-leb, leb-true, leb-false}
-use lib.Dec.{leb}
+use borrow.Author.Tests.{le-leb, lt-leb}
 use lib.ListN.{length, getD, set, take, drop, length-append, length-take, take-append-drop, drop-of-length-le}
 use lib.Seq.{sets, sets-eq, set-out, length-sets, take-suc, take-length, take-all}
 use Rattle.decimal.specs.Decimal.{digit, digits}
@@ -17,13 +15,6 @@ use Rattle.decimal.proofs.Decimal.{digits-one, digits-more}
 use Rattle.text.specs.declared.Put.the-variants.{At, Full}
 use Rattle.text.specs.Put.{lastPlace, laid, Lays, put, Puts}
 use Rattle.text.specs.Claims.{LaidInTurn, LaidWhole}
-
-le-or-lt : (m n : ℕ) → (m ≤ n) ⊎ (n < m)
-le-or-lt m n = go (leb m n) refl
-  where
-    go : (b : Bool) → leb m n ≡ b → (m ≤ n) ⊎ (n < m)
-    go true e = inl (leb-true m n e)
-    go false e = inr (leb-false m n e)
 
 -- ---- a run of stores, and then another
 sets-append : (l : List ℕ) (i : ℕ) (s t : List ℕ) → sets l i (s ++ t) ≡ sets (sets l i s) (i + length s) t
@@ -66,14 +57,14 @@ laid-some l i s h g =
 
 pub laid-sets : (l : List ℕ) (i : ℕ) (s : List ℕ) → sets l i s ≡ laid l i s
 laid-sets l i s =
-    ⊎-elim
-    (λ (h : length l ≤ i). sets-past l i s h ∙ sym (laid-past l i s h))
-    (λ (h : i < length l).
-    ⊎-elim
-    (λ (g : i + length s ≤ length l). sets-eq s l i g ∙ sym (put-is l i s g) ∙ sym (laid-whole l i s g))
-    (λ (g : length l < i + length s). laid-some l i s (omega arith) g)
-    (le-or-lt (i + length s) (length l)))
-    (le-or-lt (length l) i)
+    elim (decLe (length l) i) [
+      | yes h ↦ sets-past l i s h ∙ sym (laid-past l i s h)
+      | no h ↦
+          elim (decLe (i + length s) (length l)) [
+            | yes g ↦ sets-eq s l i g ∙ sym (put-is l i s g) ∙ sym (laid-whole l i s g)
+            | no g ↦ laid-some l i s (le-of-lt (lt-of-not-le h)) (lt-of-not-le g)
+          ]
+    ]
 
 pub length-laid : (l : List ℕ) (i : ℕ) (s : List ℕ) → length (laid l i s) ≡ length l
 length-laid l i s = ap length (sym (laid-sets l i s)) ∙ length-sets l i s
@@ -92,11 +83,11 @@ laid-in-turn l i s t h =
     let j = min (i + length s) lastPlace in
     sym (laid-sets (laid l i s) j t)
     ∙ ap (λ m. sets m j t) (sym (laid-sets l i s))
-    ∙ ⊎-elim
-    (λ (q : i + length s ≤ lastPlace). let e : j ≡ i + length s = omega arith in ap (λ k. sets (sets l i s) k t) e)
-    (λ (q : lastPlace < i + length s).
-    sets-past (sets l i s) j t (omega (arith, length-sets l i s)) ∙ sym (sets-past (sets l i s) (i + length s) t (omega (arith, length-sets l i s))))
-    (le-or-lt (i + length s) lastPlace)
+    ∙ elim (decLe (i + length s) lastPlace) [
+      | yes q ↦ ap (λ k. sets (sets l i s) k t) (omega arith)
+      | no q ↦ let g = lt-of-not-le q in
+          sets-past (sets l i s) j t (omega (arith, length-sets l i s)) ∙ sym (sets-past (sets l i s) (i + length s) t (omega (arith, length-sets l i s)))
+    ]
     ∙ sym (sets-append l i s t)
     ∙ laid-sets l i (s ++ t)
 
@@ -147,10 +138,6 @@ number-more x h g p q = is (sym (digits-more x h)) (then p (last q) g)
 full : (e : List ℕ) (i : ℕ) (t : List ℕ) → length e < i + length t → Puts e i t Full e
 full e i t h = let f = lt-leb (i + length t) (length e) h in (rw f refl, rw f refl)
 
--- the place is past the end
-pub put-past : (e : List ℕ) (i : ℕ) (t : List ℕ) → length e < i → Puts e i t Full e
-put-past e i t h = full e i t (omega arith)
-
 -- it was measured past the end: a buffer is so short that a text that cannot be counted from there on cannot fit
 module _ {e b t : List ℕ} {j : ℕ} (i : ℕ) (short : 2 * length e < lastPlace) (p : Lays e (length e) t j b) where
   kept : b ≡ e
@@ -169,3 +156,10 @@ module _ {e b t : List ℕ} {j : ℕ} (i : ℕ) (short : 2 * length e < lastPlac
       let f = le-leb (i + length t) (length e) g in
       let m : k ≡ i + length t = omega (arith, q .place) in
       (rw f (ap At m), q .bytes ∙ ap (λ l. laid l i t) kept ∙ laid-whole e i t g)
+
+-- ---- a text at the start of a buffer: there is room for it, or not
+pub all-put : (text buffer : List ℕ) → length text ≤ length buffer → put buffer 0 text ≡ (At (length text), text ++ drop (length text) buffer)
+all-put text buffer h = rw (le-leb (0 + length text) (length buffer) (omega arith)) (rw (zero-add (length text)) refl)
+
+pub none-put : (text buffer : List ℕ) → length buffer < length text → put buffer 0 text ≡ (Full, buffer)
+none-put text buffer h = rw (lt-leb (0 + length text) (length buffer) (omega arith)) refl

@@ -2,9 +2,8 @@
 use mathlib.Core.Path.{ap}
 use mathlib.Core.List.{List, [], _∷_, map}
 use Prim.Native.Nat.{ℕ, suc, _+_, _*_, _/_, _%_, _^_, _≤_, _<_}
-use native.Mathlib.Nat.{zero-add, suc-mul, mul-le-mul-right}
+use native.Mathlib.Nat.{suc-mul, mul-le-mul-right}
 use native.Mathlib.Omega.{arith}
-use borrow.Author.Tests.{le-leb}
 use lib.ListN.{length, getD, length-append}
 use Rattle.bound.specs.declared.Verdict.{Verdict}
 use Rattle.bound.specs.declared.Verdict.the-variants.{Met, Missed, None}
@@ -12,9 +11,9 @@ use Rattle.bound.specs.declared.Answer.{Answer}
 use Rattle.plan.specs.declared.Stream.{Stream}
 use Rattle.plan.specs.Plan.{blank}
 use Rattle.decimal.proofs.Decimal.{few-digits}
-use Rattle.text.specs.declared.Put.the-variants.{At}
-use Rattle.text.specs.Listing.{boundText, verdictText, header, row, rows, listingOf, refusedOf}
-use Rattle.text.specs.Claims.{Printed, LargestListing, LargestOfBounds, NeverFull, LargestRefusal}
+use Rattle.text.specs.Listing.{group, boundText, verdictText, header, row, rowLines, listingOf, refusedOf}
+use Rattle.text.proofs.Laying.{all-put}
+use Rattle.text.specs.Claims.{beside, Printed, LargestListing, NeverFull, LargestRefusal}
 
 -- ---- the fields
 bound-size : (w : ℕ) (v : Verdict) (b : ℕ) → 1 ≤ w → b < 10 ^ w → length (boundText v b) ≤ w
@@ -28,14 +27,14 @@ verdict-size Missed = omega arith
 verdict-size None = omega arith
 
 -- ---- the lines
-row-size : (w : ℕ) (s : Stream) (a : Answer) → 1 ≤ w → Printed s → a .bound < 10 ^ w → length (row s a) ≤ 42 + w
+row-size : (w : ℕ) (s : Stream) (a : Answer) → 1 ≤ w → Printed s → a .bound < 10 ^ w → length (row s a) ≤ beside + w
 unfolding row
 row-size w s a h p l =
     simp length-append
     (omega (
       arith,
-      few-digits 5 (s .label .0 / 65536) (omega arith) (omega (arith, p .label)),
-      few-digits 5 (s .label .0 % 65536) (omega arith) (omega arith),
+      few-digits 5 (s .label .0 / group) (omega arith) (omega (arith, p .label)),
+      few-digits 5 (s .label .0 % group) (omega arith) (omega arith),
       few-digits 10 (s .priority .0) (omega arith) (omega (arith, p .priority)),
       bound-size w (a .verdict) (a .bound) h l,
       few-digits 10 (s .deadline) (omega arith) (omega (arith, p .deadline)),
@@ -44,15 +43,15 @@ row-size w s a h p l =
 
 rows-size : (w : ℕ) (ss : List Stream) (answers : List Answer) → 1 ≤ w
     → ((k : ℕ) → k < length ss → Printed (getD ss k blank)) → ((k : ℕ) → k < length answers → getD (map (λ a. a .bound) answers) k 0 < 10 ^ w)
-    → length (rows ss answers) ≤ length ss * (42 + w)
-unfolding rows
+    → length (rowLines ss answers) ≤ length ss * (beside + w)
+unfolding rowLines
 rows-size w [] answers h p l = omega arith
 rows-size w (s ∷ ss) [] h p l = omega arith
 rows-size w (s ∷ ss) (a ∷ answers) h p l =
     omega (
       arith,
-      length-append (row s a) (rows ss answers),
-      suc-mul (length ss) (42 + w),
+      length-append (row s a) (rowLines ss answers),
+      suc-mul (length ss) (beside + w),
       row-size w s a h (p 0 (omega arith)) (l 0 (omega arith)),
       rows-size w ss answers h (λ k g. p (suc k) (omega arith)) (λ k g. l (suc k) (omega arith)),
     )
@@ -63,17 +62,14 @@ unfolding listingOf
 largest-listing w p answers h l =
     omega (
       arith,
-      length-append header (rows (p .streams) answers),
+      length-append header (rowLines (p .streams) answers),
       rows-size w (p .streams) answers h (l .stream) (l .bound),
-      mul-le-mul-right (42 + w) (l .count),
+      mul-le-mul-right (beside + w) (l .count),
     )
-
-pub largest-of-bounds : LargestOfBounds
-largest-of-bounds p answers l = largest-listing 10 p answers (omega arith) l
 
 pub never-full : NeverFull
 never-full p answers buffer l h =
-    rw (le-leb (0 + length (listingOf p answers)) (length buffer) (omega (arith, largest-listing 20 p answers (omega arith) l))) (ap At (zero-add _))
+    ap (λ x. x .0) (all-put (listingOf p answers) buffer (omega (arith, largest-listing 20 p answers (omega arith) l)))
 
 -- ---- the line of a refusal
 pub largest-refusal : LargestRefusal

@@ -11,7 +11,7 @@ use Rattle.bound.specs.declared.Answer.{Answer}
 use Rattle.plan.specs.declared.Stream.{Stream}
 use Rattle.plan.specs.Plan.{Plan, blank}
 use Rattle.text.specs.declared.Put.the-variants.{At}
-use Rattle.text.specs.Listing.{labelText, listingOf, refusedOf}
+use Rattle.text.specs.Listing.{labelText, header, listingOf, refusedOf}
 use Rattle.text.specs.Put.{lastPlace, laid, put}
 
 -- to lay a text and then another is to lay them as one text, in any buffer whose places can be counted, ..
@@ -40,22 +40,23 @@ pub record Listed (w : ℕ) (p : Plan) (answers : List Answer) : Type 0 where
   pub stream : (k : ℕ) → k < length (p .streams) → Printed (getD (p .streams) k blank)
   pub bound : (k : ℕ) → k < length answers → getD (map (λ a. a .bound) answers) k 0 < 10 ^ w
 
--- the header has 38 bytes and a row 42 at most beside its bound
-abbrev pub most : ℕ → ℕ
-most w = 38 + streams * (42 + w)
+-- what a row has at most beside its bound: 11 bytes of its label, 10 of its priority, 10 of its deadline, 6 of its verdict, 4 spaces and
+-- the newline
+abbrev pub beside : ℕ
+beside = 11 + 10 + 10 + 6 + 4 + 1
 
--- no listing has more
+-- the header, and 64 rows whose bounds have at most w digits
+abbrev pub most : ℕ → ℕ
+most w = length header + streams * (beside + w)
+
+-- no listing has more; bounds up to 8,589,934,590 have 10 digits at most
 abbrev pub LargestListing : Type 0
 LargestListing = (w : ℕ) (p : Plan) (answers : List Answer) → 1 ≤ w → Listed w p answers → length (listingOf p answers) ≤ most w
 
--- bounds up to 8,589,934,590 have 10 digits at most, and then 3,366 bytes are enough, ..
-abbrev pub LargestOfBounds : Type 0
-LargestOfBounds = (p : Plan) (answers : List Answer) → Listed 10 p answers → length (listingOf p answers) ≤ 3366
-
--- .. and a buffer of 4,006 bytes is never too small: no 64-bit word has more than 20 digits
+-- a buffer that holds bounds of 20 digits is never too small: no 64-bit word has more
 abbrev pub NeverFull : Type 0
 NeverFull =
-    (p : Plan) (answers : List Answer) (buffer : List ℕ) → Listed 20 p answers → 4006 ≤ length buffer
+    (p : Plan) (answers : List Answer) (buffer : List ℕ) → Listed 20 p answers → most 20 ≤ length buffer
     → put buffer 0 (listingOf p answers) .0 ≡ At (length (listingOf p answers))
 
 -- the line of a refusal, whose number has 32 bits and whose place has 64, has 43 bytes at most

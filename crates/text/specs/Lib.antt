@@ -1,4 +1,4 @@
-pub mod Words
+pub mod Vocabulary
 pub mod Listing
 pub mod Put
 pub mod Claims

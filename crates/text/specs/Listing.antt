@@ -6,10 +6,12 @@ use Rattle.names.specs.declared.Refusal.{Refusal}
 use Rattle.bound.specs.declared.Verdict.{Verdict}
 use Rattle.bound.specs.declared.Verdict.the-variants.{Met, Missed, None}
 use Rattle.bound.specs.declared.Answer.{Answer}
+use Rattle.row_words.specs.RowWords.{answersIn}
 use Rattle.plan.specs.declared.Stream.{Stream}
-use Rattle.plan.specs.Plan.{Plan}
+use Rattle.plan.specs.declared.Sheet.{Sheet}
+use Rattle.plan.specs.Plan.{Plan, planOf}
 use Rattle.decimal.specs.Decimal.{digits}
-use Rattle.text.specs.Words as word
+use Rattle.text.specs.Vocabulary as word
 
 -- a line of fields: they are parted by one space, and the line ends in one newline
 abbrev pub line : List (List ℕ) → List ℕ
@@ -53,14 +55,18 @@ row s a =
     ∷ [])
 
 -- a line for each stream that has an answer, in file order
-unfoldable pub rows : List Stream → List Answer → List ℕ
-rows [] answers = []
-rows (s ∷ ss) [] = []
-rows (s ∷ ss) (a ∷ answers) = row s a ++ rows ss answers
+unfoldable pub rowLines : List Stream → List Answer → List ℕ
+rowLines [] answers = []
+rowLines (s ∷ ss) [] = []
+rowLines (s ∷ ss) (a ∷ answers) = row s a ++ rowLines ss answers
 
 -- the whole listing of a plan and its rows' answers
 unfoldable pub listingOf : Plan → List Answer → List ℕ
-listingOf p answers = header ++ rows (p .streams) answers
+listingOf p answers = header ++ rowLines (p .streams) answers
+
+-- of a sheet's plan, with the answers of its rows from their words
+abbrev pub listingIn : Sheet → List ℕ → List ℕ
+listingIn s words = listingOf (planOf s) (answersIn (s .count) words)
 
 -- a refused plan prints one line, "refused 4 at 1"
 unfoldable pub refusedOf : Refusal → List ℕ

@@ -8,7 +8,6 @@ ghost use mathlib.Core.Path.{_≡_};
 ghost use mathlib.Core.List.{[], _∷_};
 ghost use Prim.Native.Nat.{_+_, min};
 ghost use Rattle.decimal.specs.Decimal.{digits};
-ghost use Rattle.plan.specs.Plan.{planOf};
 ghost use Rattle.text.specs.Listing as text;
 ghost use Rattle.text.specs.Put.{lastPlace, Lays, Puts};
 use bound::Answer;
@@ -16,9 +15,11 @@ use bound::Verdict;
 use laws::smaller;
 use names::Label;
 use names::Refusal;
+use names::Row;
 use names::STREAMS;
 use plan::Sheet;
 use plan::Stream;
+use row_words::answer_in;
 
 // The place after a text that was put, or that it does not fit.
 pub enum Put {
@@ -124,16 +125,15 @@ fn lay_header(out: &mut [u8], at: usize) -> usize
     lay_text(out, at, b"label priority bound deadline verdict\n")
 }
 
-fn lay_listing(out: &mut [u8], at: usize, sheet: Sheet, rows: [Answer; STREAMS]) -> usize
-    ensures { λ r. ⌜ Lays (now (out .entry)) at (text.listingOf (planOf sheet) rows) r (now (out .exit)) ⌝ }
+fn lay_listing(out: &mut [u8], at: usize, sheet: Sheet, answers: &[u64]) -> usize
+    ensures { λ r. ⌜ Lays (now (out .entry)) at (text.listingIn sheet (now (answers .entry))) r (now (out .exit)) ⌝ }
 {
     let n = smaller(sheet.count, STREAMS);
     let mut next = lay_header(out, at);
     let mut k: usize = 0;
     while k < n {
         let stream = sheet.streams[k];
-        let answer = rows[k];
-        next = lay_row(out, next, stream, answer);
+        next = lay_row(out, next, stream, answer_in(answers, Row(k)));
         k += 1;
     }
     next
@@ -150,46 +150,16 @@ pub fn lay_refusal(out: &mut [u8], at: usize, refusal: Refusal) -> usize
     lay(out, at, b'\n')
 }
 
-// A number's digits, at a place of the buffer.
-pub fn put_number(out: &mut [u8], at: usize, x: u64) -> Put
-    ensures { λ r. ⌜ Puts (now (out .entry)) at (digits x) r (now (out .exit)) ⌝ }
+// The listing of a sheet's plan with its rows' answers, which stand in words, at the start of the buffer.
+pub fn listing(sheet: Sheet, answers: &[u64], out: &mut [u8]) -> Put
+    ensures { λ r. ⌜ Puts (now (out .entry)) 0 (text.listingIn sheet (now (answers .entry))) r (now (out .exit)) ⌝ }
 {
     let size = out.len();
-    if size < at {
-        return Put::Full;
-    }
-    let bytes = lay_number(out, size, x) - size;
-    if size - at < bytes {
-        return Put::Full;
-    }
-    Put::At(lay_number(out, at, x))
-}
-
-// A label as group.number, at a place of the buffer.
-pub fn put_label(out: &mut [u8], at: usize, label: Label) -> Put
-    ensures { λ r. ⌜ Puts (now (out .entry)) at (text.labelText label) r (now (out .exit)) ⌝ }
-{
-    let size = out.len();
-    if size < at {
-        return Put::Full;
-    }
-    let bytes = lay_label(out, size, label) - size;
-    if size - at < bytes {
-        return Put::Full;
-    }
-    Put::At(lay_label(out, at, label))
-}
-
-// The listing of a sheet's plan with its rows' answers, at the start of the buffer.
-pub fn listing(sheet: Sheet, rows: [Answer; STREAMS], out: &mut [u8]) -> Put
-    ensures { λ r. ⌜ Puts (now (out .entry)) 0 (text.listingOf (planOf sheet) rows) r (now (out .exit)) ⌝ }
-{
-    let size = out.len();
-    let listed = lay_listing(out, size, sheet, rows) - size;
+    let listed = lay_listing(out, size, sheet, answers) - size;
     if size < listed {
         return Put::Full;
     }
-    Put::At(lay_listing(out, 0, sheet, rows))
+    Put::At(lay_listing(out, 0, sheet, answers))
 }
 
 // The line of a refusal, at the start of the buffer.

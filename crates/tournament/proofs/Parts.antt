@@ -9,7 +9,7 @@ use native.Mathlib.Omega.{arith}
 use borrow.Author.Tests.{eqb-true, not-false}
 use lib.Dec.{eqb}
 use Rattle.names.specs.declared.Priority.{Priority}
-use Rattle.repeats.proofs.Rows.{finds-lowest}
+use Rattle.laws.proofs.Rows.{finds-lowest}
 use Rattle.tournament_state.specs.Refusals.{number}
 use Rattle.tournament.specs.Rule.{bitAt}
 use Rattle.tournament.specs.Answers.{numberOf, partingBit}

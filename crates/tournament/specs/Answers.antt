@@ -9,11 +9,11 @@ use Rattle.names.specs.Limits.{contenders}
 use Rattle.laws.specs.declared.Found.{Found}
 use Rattle.laws.specs.declared.Found.the-variants.{At as Found·At, Nothing as Found·Nothing}
 use Rattle.laws.specs.Search.{first}
+use Rattle.judge.specs.declared.Checked.{Checked}
+use Rattle.judge.specs.declared.Checked.the-variants.{Fine, Refused}
 use Rattle.tournament_state.specs.declared.Phase.{Phase}
 use Rattle.tournament_state.specs.declared.Phase.the-variants.{AtBit, Finished, NoWinner}
 use Rattle.tournament_state.specs.declared.Tournament.{Tournament}
-use Rattle.tournament_state.specs.declared.Answer.{Answer}
-use Rattle.tournament_state.specs.declared.Answer.the-variants.{Done, Refused}
 use Rattle.tournament_state.specs.Refusals.{none, verdictOf, pairVerdictOf}
 use Rattle.tournament.specs.declared.Outcome.{Outcome}
 use Rattle.tournament.specs.declared.Carrier.{Carrier}
@@ -23,13 +23,13 @@ use Rattle.tournament.specs.declared.Parting.the-variants.{At as Parting
 use Rattle.tournament.specs.Rule.{bitAt, begunOf, heardAt, next, steps}
 
 -- the verdict on a state
-abbrev pub judgedOf : Tournament → Answer
+abbrev pub judgedOf : Tournament → Checked
 judgedOf t = verdictOf (t .bits) (t .count) (t .priorities) (t .phase)
 
 -- a refused call hands the state back as it was
-abbrev pub outcome : Answer → Tournament → Tournament → Outcome
-outcome Done before after = record { tournament = after; answer = Done }
-outcome (Refused refusal) before after = record { tournament = before; answer = Refused refusal }
+abbrev pub outcome : Checked → Tournament → Tournament → Outcome
+outcome Fine before after = record { tournament = after; checked = Fine }
+outcome (Refused refusal) before after = record { tournament = before; checked = Refused refusal }
 
 -- a refused start has no state: no bits, no contenders, no winner
 abbrev pub nobody : Tournament
@@ -52,8 +52,8 @@ heardNow t (AtBit k) = elim (heardAt t k) [ true ↦ Heard | false ↦ NotHeard 
 heardNow t (Finished row) = NotHeard
 heardNow t NoWinner = NotHeard
 
-abbrev pub heardUnless : Answer → Carrier → Carrier
-heardUnless Done carrier = carrier
+abbrev pub heardUnless : Checked → Carrier → Carrier
+heardUnless Fine carrier = carrier
 heardUnless (Refused refusal) carrier = Carrier·Refused refusal
 
 unfoldable pub carrierOf : Tournament → Carrier
@@ -68,8 +68,8 @@ unfoldable pub partingBit : ℕ → Priority → Priority → ℕ
 partingBit NB a b = numberOf (first (λ k. not (eqb (bitAt NB k a) (bitAt NB k b))) 1 NB)
 
 -- here 8 and 9 apply, with rows 0 and 1
-abbrev pub partUnless : Answer → ℕ → Parting
-partUnless Done k = Parting·At k
+abbrev pub partUnless : Checked → ℕ → Parting
+partUnless Fine k = Parting·At k
 partUnless (Refused refusal) k = Parting·Refused refusal
 
 unfoldable pub partingOf : ℕ → Priority → Priority → Parting

@@ -1,3 +1,3 @@
 pub mod Rule
 pub mod Answers
-pub mod Ready
+pub mod private

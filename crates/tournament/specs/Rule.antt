@@ -10,7 +10,7 @@ use Rattle.laws.specs.declared.Found.{Found}
 use Rattle.laws.specs.declared.Found.the-variants.{At, Nothing}
 use Rattle.laws.specs.Lists.{rows}
 use Rattle.laws.specs.Search.{first}
-use Rattle.repeats.specs.Rows.{some}
+use Rattle.laws.specs.Rows.{some}
 use Rattle.tournament_state.specs.declared.Phase.{Phase}
 use Rattle.tournament_state.specs.declared.Phase.the-variants.{AtBit, Finished, NoWinner}
 use Rattle.tournament_state.specs.declared.Tournament.{Tournament}
@@ -38,13 +38,17 @@ isIn t i = getD (t .marks) i false
 abbrev pub hasZero : Tournament → ℕ → ℕ → Bool
 hasZero t k i = eqb (bitAt (t .bits) k (getD (t .priorities) i none)) 0
 
+-- row i is in and has a 0 at bit k
+abbrev pub inWithZero : Tournament → ℕ → ℕ → Bool
+inWithZero t k i = isIn t i && hasZero t k i
+
 -- At a bit, a carrier is heard if some marked contender has a 0 there
 unfoldable pub heardAt : Tournament → ℕ → Bool
-heardAt t k = some (λ i. isIn t i && hasZero t k i) (t .count)
+heardAt t k = some (inWithZero t k) (t .count)
 
 -- If so, each marked contender with a 1 there is marked out (no other place is touched); ..
 unfoldable pub silencedAt : Tournament → ℕ → List Bool
-silencedAt t k = rows (t .count) (λ i. isIn t i && hasZero t k i) ++ drop (t .count) (t .marks)
+silencedAt t k = rows (t .count) (inWithZero t k) ++ drop (t .count) (t .marks)
 
 -- .. if none is heard, no mark changes
 unfoldable pub marksAfter : Tournament → ℕ → List Bool

@@ -4,11 +4,11 @@
 // Every public function answers for every input, a state that a caller made up too, and its contract determines the
 // whole answer, all 128 places included. A refused call hands the state back as it was. Nothing is assumed.
 // This crate must not know of plans, files or text.
+use judge::Checked;
 use names::CONTENDERS;
 use names::Priority;
 use names::Refusal;
 use names::Row;
-use tournament_state::Answer;
 use tournament_state::Phase;
 use tournament_state::Tournament;
 use tournament_state::pair_verdict;
@@ -17,14 +17,15 @@ ghost use mathlib.Core.Path.{_≡_};
 ghost use Prim.Native.Nat.{_≤_};
 ghost use Rattle.names.specs.Limits.{contenders as Limits·contenders, bits as Limits·bits};
 ghost use Rattle.tournament.specs.Rule.{bitAt, heardAt, silencedAt, winnerOf, begunOf, next as Rule·next};
-ghost use Rattle.tournament.specs.Answers.{judgedOf, nobody as Answers·nobody, startOf, stepOf, runOf, carrierOf, partingBit, partingOf};
-ghost use Rattle.tournament.specs.Ready.{AtABit, Ready};
-ghost use Rattle.tournament_state.specs.Meaning.{SoundPair};
+ghost use Rattle.tournament.specs.Answers.{judgedOf, nobody as Answers·nobody, startOf, stepOf, runOf};
+ghost use Rattle.tournament.specs.Answers.{carrierOf, partingBit, partingOf};
+ghost use Rattle.tournament.specs.private.Ready.{AtABit, Ready};
+ghost use Rattle.tournament_state.specs.Meaning.{PlayablePair};
 
-// The state after the call beside the answer: a refused call changes nothing.
+// The state after the call, beside whether it was fine: a refused call changes nothing.
 pub struct Outcome {
     pub tournament: Tournament,
-    pub answer: Answer,
+    pub checked: Checked,
 }
 
 pub enum Carrier {
@@ -41,7 +42,9 @@ pub enum Parting {
 
 // Bit k of a priority, counted from 1 at the top.
 fn bit(p: Priority, bits: u32, k: u32) -> u32
-    requires { ⌜ (1 ≤ k) × (k ≤ bits) × (bits ≤ Limits·bits) ⌝ }
+    requires { ⌜ 1 ≤ k ⌝ }
+    requires { ⌜ k ≤ bits ⌝ }
+    requires { ⌜ bits ≤ Limits·bits ⌝ }
     ensures { λ r. ⌜ r ≡ bitAt bits k p ⌝ }
 {
     (p.0 >> (bits - k)) & 1
@@ -163,19 +166,19 @@ pub fn start(bits: u32, count: usize, priorities: [Priority; CONTENDERS]) -> Out
     ensures { λ r. ⌜ r ≡ startOf bits count priorities ⌝ }
 {
     match verdict(bits, count, priorities, Phase::AtBit(1)) {
-        Answer::Done => Outcome {
+        Checked::Fine => Outcome {
             tournament: begun(bits, count, priorities),
-            answer: Answer::Done,
+            checked: Checked::Fine,
         },
-        Answer::Refused(no) => Outcome {
+        Checked::Refused(no) => Outcome {
             tournament: nobody(),
-            answer: Answer::Refused(no),
+            checked: Checked::Refused(no),
         },
     }
 }
 
 // The verdict on a state, field by field.
-fn judged(t: Tournament) -> Answer
+fn judged(t: Tournament) -> Checked
     ensures { λ r. ⌜ r ≡ judgedOf t ⌝ }
 {
     let priorities = t.priorities;
@@ -187,13 +190,13 @@ pub fn step(t: Tournament) -> Outcome
     ensures { λ r. ⌜ r ≡ stepOf t ⌝ }
 {
     match judged(t) {
-        Answer::Done => Outcome {
+        Checked::Fine => Outcome {
             tournament: next(t),
-            answer: Answer::Done,
+            checked: Checked::Fine,
         },
-        Answer::Refused(no) => Outcome {
+        Checked::Refused(no) => Outcome {
             tournament: t,
-            answer: Answer::Refused(no),
+            checked: Checked::Refused(no),
         },
     }
 }
@@ -203,7 +206,7 @@ pub fn run(t: Tournament) -> Outcome
     ensures { λ r. ⌜ r ≡ runOf t ⌝ }
 {
     match judged(t) {
-        Answer::Done => {
+        Checked::Fine => {
             let bits = t.bits;
             let mut now = t;
             for _ in 0..bits {
@@ -211,12 +214,12 @@ pub fn run(t: Tournament) -> Outcome
             }
             Outcome {
                 tournament: now,
-                answer: Answer::Done,
+                checked: Checked::Fine,
             }
         }
-        Answer::Refused(no) => Outcome {
+        Checked::Refused(no) => Outcome {
             tournament: t,
-            answer: Answer::Refused(no),
+            checked: Checked::Refused(no),
         },
     }
 }
@@ -225,7 +228,7 @@ pub fn run(t: Tournament) -> Outcome
 pub fn listen(t: Tournament) -> Carrier
     ensures { λ r. ⌜ r ≡ carrierOf t ⌝ }
 {
-    if let Answer::Refused(no) = judged(t) {
+    if let Checked::Refused(no) = judged(t) {
         return Carrier::Refused(no);
     }
     let phase = t.phase;
@@ -244,7 +247,7 @@ pub fn listen(t: Tournament) -> Carrier
 
 // The first bit from the top at which a and b differ. Where no earlier bit does, it is the last.
 fn first_difference(bits: u32, a: Priority, b: Priority) -> u32
-    requires { ⌜ SoundPair bits a b ⌝ }
+    requires { ⌜ PlayablePair bits a b ⌝ }
     ensures { λ r. ⌜ r ≡ partingBit bits a b ⌝ }
 {
     for k in 1..bits {
@@ -260,7 +263,7 @@ pub fn parting_bit(bits: u32, a: Priority, b: Priority) -> Parting
     ensures { λ r. ⌜ r ≡ partingOf bits a b ⌝ }
 {
     match pair_verdict(bits, a, b) {
-        Answer::Done => Parting::At(first_difference(bits, a, b)),
-        Answer::Refused(no) => Parting::Refused(no),
+        Checked::Fine => Parting::At(first_difference(bits, a, b)),
+        Checked::Refused(no) => Parting::Refused(no),
     }
 }

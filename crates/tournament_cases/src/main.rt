@@ -5,23 +5,23 @@
 use console::print;
 use console::print_number;
 use console::print_refusal;
+use judge::Checked;
 use names::CONTENDERS;
 use names::Priority;
 use names::Row;
 use tournament::Outcome;
 use tournament::Parting;
-use tournament_state::Answer;
 use tournament_state::Phase;
 use tournament_state::Tournament;
 
-fn parting(bits: u32, a: u32, b: u32) {
-    print_number(a as u64);
+fn parting(bits: u32, a: Priority, b: Priority) {
+    print_number(a.0 as u64);
     print(b" and ");
-    print_number(b as u64);
+    print_number(b.0 as u64);
     print(b" in ");
     print_number(bits as u64);
     print(b" bits: ");
-    match tournament::parting_bit(bits, Priority(a), Priority(b)) {
+    match tournament::parting_bit(bits, a, b) {
         Parting::At(k) => {
             print(b"part at bit ");
             print_number(k as u64);
@@ -59,10 +59,10 @@ fn mark(is_in: bool) {
 fn shown(call: &[u8], o: Outcome) {
     print(call);
     print(b": ");
-    let answer = o.answer;
-    match answer {
-        Answer::Done => print(b"done"),
-        Answer::Refused(no) => print_refusal(no),
+    let checked = o.checked;
+    match checked {
+        Checked::Fine => print(b"done"),
+        Checked::Refused(no) => print_refusal(no),
     }
     let t = o.tournament;
     let phase = t.phase;
@@ -87,16 +87,16 @@ fn shown(call: &[u8], o: Outcome) {
 }
 
 fn partings() {
-    parting(4, 5, 3);
-    parting(4, 3, 5);
-    parting(1, 0, 1);
-    parting(32, 0, 2147483648);
-    parting(32, 4294967295, 4294967294);
-    parting(0, 3, 4);
-    parting(33, 3, 4);
-    parting(2, 4, 4);
-    parting(2, 1, 4);
-    parting(4, 3, 3);
+    parting(4, Priority(5), Priority(3));
+    parting(4, Priority(3), Priority(5));
+    parting(1, Priority(0), Priority(1));
+    parting(32, Priority(0), Priority(2147483648));
+    parting(32, Priority(4294967295), Priority(4294967294));
+    parting(0, Priority(3), Priority(4));
+    parting(33, Priority(3), Priority(4));
+    parting(2, Priority(4), Priority(4));
+    parting(2, Priority(1), Priority(4));
+    parting(4, Priority(3), Priority(3));
 }
 
 fn steps() {

@@ -10,12 +10,12 @@ use Rattle.names.specs.declared.Priority.{Priority}
 use Rattle.laws.specs.declared.Found.{Found}
 use Rattle.laws.specs.declared.Found.the-variants.{At, Nothing}
 use Rattle.laws.specs.Search.{first}
-use Rattle.repeats.proofs.Rows.{finds-lowest, finds-nothing}
-use Rattle.tournament_state.specs.declared.Answer.{Answer}
-use Rattle.tournament_state.specs.declared.Answer.the-variants.{Done, Refused}
+use Rattle.laws.proofs.Rows.{finds-lowest, finds-nothing}
+use Rattle.judge.specs.declared.Checked.{Checked}
+use Rattle.judge.specs.declared.Checked.the-variants.{Fine, Refused}
 use Rattle.tournament_state.specs.Refusals.{number, pairVerdictOf}
-use Rattle.tournament_state.specs.Meaning.{SoundPair}
-use Rattle.tournament_state.proofs.Meaning.{done-if-sound-pair}
+use Rattle.tournament_state.specs.Meaning.{PlayablePair}
+use Rattle.tournament_state.proofs.Meaning.{fine-if-playable-pair}
 use Rattle.tournament.specs.declared.Parting.the-variants.{At as Parting·At}
 use Rattle.tournament.specs.Rule.{bitAt}
 use Rattle.tournament.specs.Answers.{numberOf, partingBit, partUnless, partingOf}
@@ -49,16 +49,16 @@ pub parting-answer : PartingAnswer
 unfolding partingOf
 parting-answer NB a b d = (to, from)
   where
-    at-bit : (v : Answer) (k : ℕ) → partUnless v k ≡ Parting·At d → (v ≡ Done) × (k ≡ d)
-    at-bit Done k e = (refl, cc)
+    at-bit : (v : Checked) (k : ℕ) → partUnless v k ≡ Parting·At d → (v ≡ Fine) × (k ≡ d)
+    at-bit Fine k e = (refl, cc)
     at-bit (Refused r) k e = absurd (let z : _≡_ {A = ℕ} 0 1 = cc in omega arith)
 
-    to : partingOf NB a b ≡ Parting·At d → SoundPair NB a b × FirstDifference NB a b d
+    to : partingOf NB a b ≡ Parting·At d → PlayablePair NB a b × FirstDifference NB a b d
     to e =
         let (v, k) = at-bit (pairVerdictOf NB a b) (partingBit NB a b) e in
-        let s = done-if-sound-pair NB a b .0 v in
+        let s = fine-if-playable-pair NB a b .0 v in
         (s, parting-is-first NB a b (s .first-fits) (s .second-fits) (s .differ) d .0 k)
 
-    from : SoundPair NB a b × FirstDifference NB a b d → partingOf NB a b ≡ Parting·At d
+    from : PlayablePair NB a b × FirstDifference NB a b d → partingOf NB a b ≡ Parting·At d
     from (s, r) =
-        rw (done-if-sound-pair NB a b .1 s) (ap Parting·At (parting-is-first NB a b (s .first-fits) (s .second-fits) (s .differ) d .1 r))
+        rw (fine-if-playable-pair NB a b .1 s) (ap Parting·At (parting-is-first NB a b (s .first-fits) (s .second-fits) (s .differ) d .1 r))

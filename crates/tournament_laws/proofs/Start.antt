@@ -45,22 +45,22 @@ module _ (NB n : ℕ) (places : List Priority) where
       past (replicate n true) (replicate (contenders - n) false) false n i (length-replicate n true) h ∙ one-value (contenders - n) (i - n) false
 
 -- ---- what a step keeps
-pub record Kept (t s : Tournament) : Type 0 where
+pub record StepKeeps (t s : Tournament) : Type 0 where
   pub bits : s .bits ≡ t .bits
   pub count : s .count ≡ t .count
   pub priorities : s .priorities ≡ t .priorities
   pub unused : (i : ℕ) → t .count ≤ i → isIn s i ≡ isIn t i
 
-pub kept-next : (t : Tournament) → Kept t (next t)
+pub kept-next : (t : Tournament) → StepKeeps t (next t)
 unfolding nextAt
 kept-next t = by-phase (t .phase)
   where
-    by-phase : (p : Phase) → Kept t (nextAt t p)
+    by-phase : (p : Phase) → StepKeeps t (nextAt t p)
     by-phase (AtBit k) = record { bits = refl; count = refl; priorities = refl; unused = λ i h. mark-unused t k i h }
     by-phase (Finished row) = record { bits = refl; count = refl; priorities = refl; unused = λ i h. refl }
     by-phase NoWinner = record { bits = refl; count = refl; priorities = refl; unused = λ i h. refl }
 
-pub kept : (t : Tournament) (k : ℕ) → Kept t (steps k t)
+pub kept : (t : Tournament) (k : ℕ) → StepKeeps t (steps k t)
 unfolding steps
 kept t zero = record { bits = refl; count = refl; priorities = refl; unused = λ i h. refl }
 kept t (suc k) =

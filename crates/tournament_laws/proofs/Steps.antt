@@ -1,6 +1,6 @@
 -- A step, at every bit of any state, and its end: the definitions, row by row. Assumes nothing.
 use mathlib.Core.Path.{_≡_, refl, sym, ap, _∙_}
-use mathlib.Core.Bool.{Bool, true, false, cond, _&&_, true≢false}
+use mathlib.Core.Bool.{Bool, true, false, cond, true≢false}
 use mathlib.Core.List.{List}
 use mathlib.Core.Logic.{_↔_}
 use Prim.Native.Nat.{ℕ, _+_, _≤_, _<_}
@@ -11,24 +11,24 @@ use lib.ListN.{getD}
 use Rattle.names.specs.declared.Row.{Row}
 use Rattle.laws.specs.declared.Found.{Found}
 use Rattle.laws.specs.declared.Found.the-variants.{At, Nothing}
-use Rattle.repeats.proofs.Rows.{some-passes, finds-lowest, finds-nothing}
+use Rattle.laws.proofs.Rows.{some-passes, finds-lowest, finds-nothing}
 use Rattle.tournament_state.specs.declared.Phase.{Phase}
 use Rattle.tournament_state.specs.declared.Phase.the-variants.{AtBit, Finished, NoWinner}
 use Rattle.tournament_state.specs.declared.Tournament.{Tournament}
-use Rattle.tournament_state.specs.declared.Answer.{Answer}
-use Rattle.tournament_state.specs.declared.Answer.the-variants.{Done, Refused}
+use Rattle.judge.specs.declared.Checked.{Checked}
+use Rattle.judge.specs.declared.Checked.the-variants.{Fine, Refused}
 use Rattle.tournament_state.specs.Refusals.{none}
 use Rattle.laws.proofs.Tests.{both}
 use Rattle.tournament_state.proofs.Tests.{and-both}
-use Rattle.tournament.specs.Rule.{bitAt, isIn, hasZero, heardAt, silencedAt, marksAfter, lowestMarked, finishedBy, winnerOf, nextAt, next}
+use Rattle.tournament.specs.Rule.{bitAt, isIn, hasZero, inWithZero, heardAt, silencedAt, marksAfter, lowestMarked, finishedBy, winnerOf, nextAt, next}
 use Rattle.tournament.specs.Answers.{judgedOf, outcome, stepOf}
 use Rattle.tournament_laws.specs.Facts.{Handled, StepHandlesOneBit, FinishedStays, NoneMarkedNoWinner, LowestMarkedWins}
 use Rattle.tournament_laws.proofs.Places.{laid-front, laid-past}
 
 -- ---- the marks after a bit
-pub mark-heard : (t : Tournament) (k i : ℕ) → heardAt t k ≡ true → i < t .count → getD (marksAfter t k) i false ≡ isIn t i && hasZero t k i
+pub mark-heard : (t : Tournament) (k i : ℕ) → heardAt t k ≡ true → i < t .count → getD (marksAfter t k) i false ≡ inWithZero t k i
 unfolding marksAfter silencedAt
-mark-heard t k i e h = rw e (laid-front (λ i. isIn t i && hasZero t k i) (t .marks) false (t .count) i h)
+mark-heard t k i e h = rw e (laid-front (inWithZero t k) (t .marks) false (t .count) i h)
 
 pub mark-unheard : (t : Tournament) (k i : ℕ) → heardAt t k ≡ false → getD (marksAfter t k) i false ≡ isIn t i
 unfolding marksAfter
@@ -39,7 +39,7 @@ unfolding marksAfter silencedAt
 mark-unused t k i h = by-test (heardAt t k)
   where
     by-test : (b : Bool) → getD (cond b (silencedAt t k) (t .marks)) i false ≡ getD (t .marks) i false
-    by-test true = laid-past (λ i. isIn t i && hasZero t k i) (t .marks) false (t .count) i h
+    by-test true = laid-past (inWithZero t k) (t .marks) false (t .count) i h
     by-test false = refl
 
 -- ---- the state after a bit
@@ -79,10 +79,10 @@ module _ (t : Tournament) (k : ℕ) (e : t .phase ≡ AtBit k) where
   unfolding heardAt
   carrier-heard = (
     λ h.
-        let (i, l, s) = some-passes (λ i. isIn t i && hasZero t k i) (t .count) .0 h in
+        let (i, l, s) = some-passes (inWithZero t k) (t .count) .0 h in
         let b = both (isIn t i) (hasZero t k i) s in
         (i, l, b .0, eqb-true _ _ (b .1)),
-    λ (i, l, m, z). some-passes (λ i. isIn t i && hasZero t k i) (t .count) .1 (i, l, and-both (isIn t i) (hasZero t k i) m (eq-eqb _ _ z)),
+    λ (i, l, m, z). some-passes (inWithZero t k) (t .count) .1 (i, l, and-both (isIn t i) (hasZero t k i) m (eq-eqb _ _ z)),
   )
 
   stays-in : (i : ℕ) → i < t .count → (isIn (next t) i ≡ true) ↔ ((isIn t i ≡ true) × (heardAt t k ≡ true → bitAt (t .bits) k (getD (t .priorities) i none) ≡ 0))
@@ -125,11 +125,11 @@ finished-next t f = by-phase (t .phase) refl
 
 pub finished-stays : FinishedStays
 unfolding stepOf
-finished-stays t f = by-answer (judgedOf t)
+finished-stays t f = by-verdict (judgedOf t)
   where
-    by-answer : (a : Answer) → outcome a t (next t) .tournament ≡ t
-    by-answer Done = finished-next t f
-    by-answer (Refused r) = refl
+    by-verdict : (a : Checked) → outcome a t (next t) .tournament ≡ t
+    by-verdict Fine = finished-next t f
+    by-verdict (Refused r) = refl
 
 -- ---- the end
 no-winner : (f : Found) → finishedBy f ≡ NoWinner → f ≡ Nothing

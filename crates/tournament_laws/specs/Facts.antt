@@ -11,9 +11,9 @@ use Rattle.names.specs.declared.Priority.{Priority}
 use Rattle.names.specs.Limits.{contenders}
 use Rattle.tournament_state.specs.declared.Phase.the-variants.{AtBit, Finished, NoWinner}
 use Rattle.tournament_state.specs.declared.Tournament.{Tournament}
-use Rattle.tournament_state.specs.declared.Answer.the-variants.{Done}
+use Rattle.judge.specs.declared.Checked.the-variants.{Fine}
 use Rattle.tournament_state.specs.Refusals.{number, none}
-use Rattle.tournament_state.specs.Meaning.{at, Fair, SoundPair}
+use Rattle.tournament_state.specs.Meaning.{at, Fair, PlayablePair}
 use Rattle.tournament.specs.declared.Parting.the-variants.{At as Parting·At}
 use Rattle.tournament.specs.Rule.{bitAt, begunOf, isIn, heardAt, winnerOf, next, steps}
 use Rattle.tournament.specs.Answers.{judgedOf, partingBit, partingOf, startOf, stepOf, runOf}
@@ -42,7 +42,8 @@ pub record Won (NB n : ℕ) (places : List Priority) (w : ℕ) : Type 0 where
 abbrev pub SmallestWins : Type 0
 SmallestWins = (NB n : ℕ) (places : List Priority) → Start NB n places → (w : ℕ) × Won NB n places w
 
--- a loser goes silent exactly at the first bit where it differs from the winner, which is the parting bit: in while fewer steps are done, out from then on
+-- a loser goes silent exactly at the first bit where it differs from the winner, which is the parting bit: in while fewer steps
+-- are done, out from then on
 abbrev pub LoserGoesSilent : Type 0
 LoserGoesSilent =
     (NB n : ℕ) (places : List Priority) → Start NB n places → (w i : ℕ) → Smallest n places w → i < n → (i ≡ w → ⊥)
@@ -51,9 +52,11 @@ LoserGoesSilent =
 -- the winner never does
 abbrev pub WinnerStaysIn : Type 0
 WinnerStaysIn =
-    (NB n : ℕ) (places : List Priority) → Start NB n places → (w : ℕ) → Smallest n places w → (k : ℕ) → k ≤ NB → isIn (after NB n places k) w ≡ true
+    (NB n : ℕ) (places : List Priority) → Start NB n places → (w : ℕ) → Smallest n places w → (k : ℕ) → k ≤ NB
+    → isIn (after NB n places k) w ≡ true
 
--- the parting bit of two priorities that fit and differ is d exactly if d is the first bit from the top, counted from 1, at which they differ
+-- the parting bit of two priorities that fit and differ is d exactly if d is the first bit from the top, counted from 1, at which
+-- they differ
 pub record FirstDifference (NB : ℕ) (a b : Priority) (d : ℕ) : Type 0 where
   pub from : 1 ≤ d
   pub to : d ≤ NB
@@ -67,7 +70,7 @@ PartingIsFirst =
 
 -- so a call answers d exactly if both fit in 1 to 32 bits, they differ, and d is that bit
 abbrev pub PartingAnswer : Type 0
-PartingAnswer = (NB : ℕ) (a b : Priority) (d : ℕ) → (partingOf NB a b ≡ Parting·At d) ↔ (SoundPair NB a b × FirstDifference NB a b d)
+PartingAnswer = (NB : ℕ) (a b : Priority) (d : ℕ) → (partingOf NB a b ≡ Parting·At d) ↔ (PlayablePair NB a b × FirstDifference NB a b d)
 
 -- bit after bit: after k steps, k below NB, it is at bit k + 1
 abbrev pub BitAfterBit : Type 0
@@ -80,11 +83,15 @@ UnusedAtStart =
     → (getD (after NB n places k .priorities) i none ≡ none) × (isIn (after NB n places k) i ≡ false)
 
 -- ---- a step, at every bit of any state
+-- row i has a 0 at bit k
+abbrev pub ZeroAt : Tournament → ℕ → ℕ → Type 0
+ZeroAt t k i = bitAt (t .bits) k (getD (t .priorities) i none) ≡ 0
+
 pub record Handled (t : Tournament) (k : ℕ) : Type 0 where
   -- a carrier is heard exactly if some marked contender has a 0 there
-  pub carrier : (heardAt t k ≡ true) ↔ ((i : ℕ) × (i < t .count) × (isIn t i ≡ true) × (bitAt (t .bits) k (getD (t .priorities) i none) ≡ 0))
+  pub carrier : (heardAt t k ≡ true) ↔ ((i : ℕ) × (i < t .count) × (isIn t i ≡ true) × ZeroAt t k i)
   -- a contender stays in exactly if it was in and, where a carrier is heard, has a 0 there
-  pub marks : (i : ℕ) → i < t .count → (isIn (next t) i ≡ true) ↔ ((isIn t i ≡ true) × (heardAt t k ≡ true → bitAt (t .bits) k (getD (t .priorities) i none) ≡ 0))
+  pub marks : (i : ℕ) → i < t .count → (isIn (next t) i ≡ true) ↔ ((isIn t i ≡ true) × (heardAt t k ≡ true → ZeroAt t k i))
   -- no unused place is touched, and no priority
   pub unused : (i : ℕ) → t .count ≤ i → isIn (next t) i ≡ isIn t i
   pub priorities : next t .priorities ≡ t .priorities
@@ -103,7 +110,8 @@ FinishedStays = (t : Tournament) → ((k : ℕ) → t .phase ≡ AtBit k → ⊥
 
 -- ---- the end of any state, made up or not
 abbrev pub NoneMarkedNoWinner : Type 0
-NoneMarkedNoWinner = (t : Tournament) → t .phase ≡ AtBit (t .bits) → (next t .phase ≡ NoWinner) ↔ ((i : ℕ) → i < t .count → isIn (next t) i ≡ false)
+NoneMarkedNoWinner =
+    (t : Tournament) → t .phase ≡ AtBit (t .bits) → (next t .phase ≡ NoWinner) ↔ ((i : ℕ) → i < t .count → isIn (next t) i ≡ false)
 
 -- row r is the lowest marked row
 pub record LowestMarked (t : Tournament) (r : ℕ) : Type 0 where
@@ -112,12 +120,13 @@ pub record LowestMarked (t : Tournament) (r : ℕ) : Type 0 where
   pub lowest : (i : ℕ) → i < r → isIn t i ≡ false
 
 abbrev pub LowestMarkedWins : Type 0
-LowestMarkedWins = (t : Tournament) (r : ℕ) → t .phase ≡ AtBit (t .bits) → (next t .phase ≡ Finished (record { 0 = r })) ↔ LowestMarked (next t) r
+LowestMarkedWins =
+    (t : Tournament) (r : ℕ) → t .phase ≡ AtBit (t .bits) → (next t .phase ≡ Finished (record { 0 = r })) ↔ LowestMarked (next t) r
 
 -- ---- calls
 -- what is not refused is not refused after a step
 abbrev pub NotRefusedLater : Type 0
-NotRefusedLater = (t : Tournament) → length (t .priorities) ≡ contenders → judgedOf t ≡ Done → judgedOf (next t) ≡ Done
+NotRefusedLater = (t : Tournament) → length (t .priorities) ≡ contenders → judgedOf t ≡ Fine → judgedOf (next t) ≡ Fine
 
 -- so a run is NB calls of a step, refused or not, ..
 unfoldable pub calls : ℕ → Tournament → Tournament
@@ -129,13 +138,15 @@ RunIsCalls = (t : Tournament) → length (t .priorities) ≡ contenders → runO
 
 -- .. and where it is not refused, it has come to the end
 abbrev pub RunEnds : Type 0
-RunEnds = (t : Tournament) → judgedOf t ≡ Done → (k : ℕ) → runOf t .tournament .phase ≡ AtBit k → ⊥
+RunEnds = (t : Tournament) → judgedOf t ≡ Fine → (k : ℕ) → runOf t .tournament .phase ≡ AtBit k → ⊥
 
 -- a start that is not refused is won by the smallest priority
 pub record WonByCalls (NB n : ℕ) (places : List Priority) (w : ℕ) : Type 0 where
   pub smallest : Smallest n places w
-  pub accepted : runOf (startOf NB n places .tournament) .answer ≡ Done
+  pub accepted : runOf (startOf NB n places .tournament) .checked ≡ Fine
   pub ends : runOf (startOf NB n places .tournament) .tournament .phase ≡ Finished (record { 0 = w })
 
 abbrev pub StartThenRun : Type 0
-StartThenRun = (NB n : ℕ) (places : List Priority) → length places ≡ contenders → startOf NB n places .answer ≡ Done → (w : ℕ) × WonByCalls NB n places w
+StartThenRun =
+    (NB n : ℕ) (places : List Priority) → length places ≡ contenders → startOf NB n places .checked ≡ Fine
+    → (w : ℕ) × WonByCalls NB n places w

@@ -1,4 +1,5 @@
 pub mod Tests
 pub mod Places
 pub mod Meaning
+pub mod Ranges
 pub mod Unique

@@ -1,13 +1,13 @@
--- The tests that the code does, as the definitions name them: a number against the bits, and against its two limits.
+-- The tests that the code does, as the definitions name them: a number against the bits; two tests in a row.
 -- Assumes nothing.
 use mathlib.Core.Path.{_≡_, refl}
 use mathlib.Core.Bool.{Bool, true, false, _&&_}
-use Prim.Native.Nat.{ℕ, _/_, _^_, _≤_, _<_}
+use Prim.Native.Nat.{ℕ, _/_, _^_, _≤_}
 use native.Mathlib.Nat.{div-eq-of-lt, le-div-iff-mul-le}
 use native.Mathlib.Omega.{arith}
-use borrow.Author.Tests.{eq-eqb, ne-eqb, ltb-true, ltb-false, le-leb, lt-leb}
+use borrow.Author.Tests.{eq-eqb, ne-eqb, ltb-true, ltb-false}
 use lib.Pow.{pow-pos}
-use lib.Dec.{eqb, ltb, leb}
+use lib.Dec.{eqb, ltb}
 
 -- a number fits in k bits exactly if nothing is left of it above them
 pub above-bits : (x k : ℕ) → eqb (x / 2 ^ k) 0 ≡ ltb x (2 ^ k)
@@ -18,16 +18,6 @@ above-bits x k = go (ltb x (2 ^ k)) refl
     go false e =
         let h : 1 ≤ x / 2 ^ k = le-div-iff-mul-le (pow-pos k) .1 (omega (arith, ltb-false x (2 ^ k) e)) in
         ne-eqb _ _ (λ (z : x / 2 ^ k ≡ 0). omega arith)
-
--- a number against its two limits
-pub within-below : (lo x hi : ℕ) → x < lo → leb lo x && leb x hi ≡ false
-within-below lo x hi h = rw (lt-leb lo x h) refl
-
-pub within-above : (lo x hi : ℕ) → lo ≤ x → hi < x → leb lo x && leb x hi ≡ false
-within-above lo x hi h k = rw (le-leb lo x h, lt-leb x hi k) refl
-
-pub within : (lo x hi : ℕ) → lo ≤ x → x ≤ hi → leb lo x && leb x hi ≡ true
-within lo x hi h k = rw (le-leb lo x h, le-leb x hi k) refl
 
 -- two tests in a row
 pub and-both : (x y : Bool) → x ≡ true → y ≡ true → x && y ≡ true

@@ -1,6 +1,6 @@
--- When the answer is no: refusals 7, 8 and 9 of document 01, each given exactly when its rule says so, with its place.
+-- Document 01, "When the answer is no": refusals 7, 8 and 9 of a tournament, as the lines of its table in their order.
 -- The contenders' priorities stand in row order; NB is the bit count, n the number of contenders.
-use mathlib.Core.Bool.{Bool, cond, not, _&&_}
+use mathlib.Core.Bool.{Bool, true, not, _&&_}
 use mathlib.Core.List.{List, [], _∷_, map}
 use Prim.Native.Nat.{ℕ, _^_}
 use lib.Dec.{leb, ltb}
@@ -8,28 +8,13 @@ use lib.ListN.{length, getD, take}
 use Rattle.names.specs.declared.Priority.{Priority}
 use Rattle.names.specs.Limits.{contenders, bits}
 use Rattle.laws.specs.declared.Found.{Found}
-use Rattle.laws.specs.declared.Found.the-variants.{At as Found·At, Nothing as Found·Nothing}
 use Rattle.laws.specs.Search.{first}
 use Rattle.repeats.specs.declared.Repeat.{Repeat}
-use Rattle.repeats.specs.declared.Repeat.the-variants.{At as Repeat·At, Nothing as Repeat·Nothing}
 use Rattle.repeats.specs.Repeats.{firstRepeat}
+use Rattle.judge.specs.declared.Checked.{Checked}
+use Rattle.judge.specs.Table.{Line, judge, unless, rowIn}
 use Rattle.tournament_state.specs.declared.Phase.{Phase}
 use Rattle.tournament_state.specs.declared.Phase.the-variants.{AtBit, Finished, NoWinner}
-use Rattle.tournament_state.specs.declared.Answer.{Answer}
-use Rattle.tournament_state.specs.declared.Answer.the-variants.{Done, Refused}
-
--- what an answer says: a number of document 01's table with its place, or that there is no refusal
-abbrev pub refused : ℕ → ℕ → Answer
-refused number place = Refused (record { number = number; place = place })
-
-abbrev pub unless : Bool → Answer → Answer
-unless right refusal = cond right Done refusal
-
--- a no stands; where there is none, the next is looked at
-infixr 20 _then_
-abbrev pub _then_ : Answer → Answer → Answer
-Done then next = next
-Refused refusal then next = Refused refusal
 
 -- a priority as a number, and the priority of an unused place
 abbrev pub number : Priority → ℕ
@@ -38,48 +23,47 @@ number p = p .0
 abbrev pub none : Priority
 none = record { 0 = 0 }
 
--- refused at 0 unless x is 1 to most
-abbrev pub oneTo : ℕ → ℕ → ℕ → Answer
-oneTo most x number = unless (leb 1 x && leb x most) (refused number 0)
+-- x is 1 to most
+abbrev pub oneTo : ℕ → ℕ → Bool
+oneTo most x = leb 1 x && leb x most
 
--- 7: a tournament with 0 or more than 128 contenders
-abbrev pub seven : ℕ → Answer
-seven n = oneTo contenders n 7
-
--- 8: a tournament's bit count is not 1 to 32, ..
-abbrev pub eightBits : ℕ → Answer
-eightBits NB = oneTo bits NB 8
-
--- .. or a priority does not fit in it (the lowest such row), ..
 abbrev pub fitsIn : ℕ → Priority → Bool
 fitsIn NB p = ltb (number p) (2 ^ NB)
 
-abbrev pub unfitAt : Found → Answer
-unfitAt (Found·At row) = refused 8 row
-unfitAt Found·Nothing = Done
+-- the lowest row whose priority does not fit in the bits
+unfoldable pub lowestUnfit : ℕ → List Priority → Found
+lowestUnfit NB ps = first (λ i. not (fitsIn NB (getD ps i none))) 0 (length ps)
 
-unfoldable pub eightPriorities : ℕ → List Priority → Answer
-eightPriorities NB ps = unfitAt (first (λ i. not (fitsIn NB (getD ps i none))) 0 (length ps))
+-- the bit number is one of the bits; the winner's row is a contender's
+abbrev pub phaseInside : ℕ → ℕ → Phase → Bool
+phaseInside NB n (AtBit k) = oneTo NB k
+phaseInside NB n (Finished row) = ltb (row .0) n
+phaseInside NB n NoWinner = true
 
--- .. or a state's bit number is outside the bit count, or its winner's row is not a contender's
-abbrev pub eightPhase : ℕ → ℕ → Phase → Answer
-eightPhase NB n (AtBit k) = oneTo NB k 8
-eightPhase NB n (Finished row) = unless (ltb (row .0) n) (refused 8 0)
-eightPhase NB n NoWinner = Done
+-- the lowest row whose priority an earlier row has
+abbrev pub lowestRepeat : List Priority → Repeat
+lowestRepeat ps = firstRepeat (map number ps)
 
--- 9: two contenders have one priority (the lowest row that repeats an earlier row)
-abbrev pub repeatedAt : Repeat → Answer
-repeatedAt (Repeat·At row) = refused 9 (row .0)
-repeatedAt Repeat·Nothing = Done
+-- a state: 7, the contenders; 8, the bit count, a priority, the bit number or the winner's row; 9, two have one priority
+abbrev pub stateLines : ℕ → ℕ → List Priority → Phase → List Line
+stateLines NB n places phase =
+    record { number = 7; place = unless (oneTo contenders n) }
+    ∷ record { number = 8; place = unless (oneTo bits NB) }
+    ∷ record { number = 8; place = lowestUnfit NB (take n places) }
+    ∷ record { number = 8; place = unless (phaseInside NB n phase) }
+    ∷ record { number = 9; place = rowIn (lowestRepeat (take n places)) }
+    ∷ []
 
-unfoldable pub nine : List Priority → Answer
-nine ps = repeatedAt (firstRepeat (map number ps))
-
--- a state: the lowest number that applies, and 8 in the order of the table
-unfoldable pub verdictOf : ℕ → ℕ → List Priority → Phase → Answer
-verdictOf NB n places phase =
-    seven n then eightBits NB then eightPriorities NB (take n places) then eightPhase NB n phase then nine (take n places)
+unfoldable pub verdictOf : ℕ → ℕ → List Priority → Phase → Checked
+verdictOf NB n places phase = judge (stateLines NB n places phase)
 
 -- two priorities alone, in rows 0 and 1
-unfoldable pub pairVerdictOf : ℕ → Priority → Priority → Answer
-pairVerdictOf NB a b = eightBits NB then eightPriorities NB (a ∷ b ∷ []) then nine (a ∷ b ∷ [])
+abbrev pub pairLines : ℕ → Priority → Priority → List Line
+pairLines NB a b =
+    record { number = 8; place = unless (oneTo bits NB) }
+    ∷ record { number = 8; place = lowestUnfit NB (a ∷ b ∷ []) }
+    ∷ record { number = 9; place = rowIn (lowestRepeat (a ∷ b ∷ [])) }
+    ∷ []
+
+unfoldable pub pairVerdictOf : ℕ → Priority → Priority → Checked
+pairVerdictOf NB a b = judge (pairLines NB a b)

@@ -1,20 +1,23 @@
 // The state of a tournament, and when the answer is no: refusals 7, 8 and 9 of document 01.
 //
 // `verdict` answers for every state that a caller makes up, and `pair_verdict` for two priorities alone;
-// their contracts determine the answers. No function here has a `requires`, and nothing is assumed. This crate
+// their contracts determine the answers. Neither has a `requires`, and nothing is assumed. This crate
 // must not know how a bit is played.
-use laws::smaller;
+use judge::Checked;
+use judge::refused;
+use laws::Found;
 use names::BITS;
 use names::CONTENDERS;
 use names::Priority;
-use names::Refusal;
 use names::Row;
 use repeats::Repeat;
+use repeats::first_repeat;
 ghost use mathlib.Core.Path.{_≡_};
 ghost use mathlib.Core.List.{map};
+ghost use Prim.Native.Nat.{_≤_};
 ghost use lib.ListN.{take};
-ghost use Rattle.tournament_state.specs.Refusals.{refused as Refusals·refused, _then_, oneTo, number, fitsIn};
-ghost use Rattle.tournament_state.specs.Refusals.{seven as Refusals·seven, eightBits, eightPriorities, eightPhase, nine as Refusals·nine};
+ghost use Rattle.names.specs.Limits.{contenders};
+ghost use Rattle.tournament_state.specs.Refusals.{number, oneTo, fitsIn, lowestUnfit, phaseInside, lowestRepeat};
 ghost use Rattle.tournament_state.specs.Refusals.{verdictOf, pairVerdictOf};
 
 // At a bit, with its number from 1 on, or finished, with the winner's row or with no winner.
@@ -33,50 +36,13 @@ pub struct Tournament {
     pub phase: Phase,
 }
 
-pub enum Answer {
-    Done,
-    Refused(Refusal),
-}
-
-fn refused(number: u32, place: usize) -> Answer
-    ensures { λ r. ⌜ r ≡ Refusals·refused number place ⌝ }
-{
-    Answer::Refused(Refusal { number, place })
-}
-
-// A no stands; where there is none, the next is looked at.
-fn first_no(answer: Answer, next: Answer) -> Answer
-    ensures { λ r. ⌜ r ≡ answer then next ⌝ }
-{
-    match answer {
-        Answer::Done => next,
-        Answer::Refused(refusal) => Answer::Refused(refusal),
-    }
-}
-
-fn one_to(most: usize, x: usize, number: u32) -> Answer
-    ensures { λ r. ⌜ r ≡ oneTo most x number ⌝ }
+fn one_to(most: usize, x: usize) -> bool
+    ensures { λ r. ⌜ r ≡ oneTo most x ⌝ }
 {
     if x < 1 {
-        return refused(number, 0);
+        return false;
     }
-    if most < x {
-        return refused(number, 0);
-    }
-    Answer::Done
-}
-
-// From here on a function for each rule of document 01's table, under its number.
-fn seven(count: usize) -> Answer
-    ensures { λ r. ⌜ r ≡ Refusals·seven count ⌝ }
-{
-    one_to(CONTENDERS, count, 7)
-}
-
-fn eight_bits(bits: u32) -> Answer
-    ensures { λ r. ⌜ r ≡ eightBits bits ⌝ }
-{
-    one_to(BITS as usize, bits as usize, 8)
+    x <= most
 }
 
 // Every priority fits in 32 bits.
@@ -89,32 +55,26 @@ fn fits_in(bits: u32, p: Priority) -> bool
     p.0 >> bits == 0
 }
 
-fn eight_priorities(bits: u32, priorities: [Priority; CONTENDERS], count: usize) -> Answer
-    ensures { λ r. ⌜ r ≡ eightPriorities bits (take count priorities) ⌝ }
+fn lowest_unfit(bits: u32, priorities: [Priority; CONTENDERS], count: usize) -> Found
+    requires { ⌜ count ≤ contenders ⌝ }
+    ensures { λ r. ⌜ r ≡ lowestUnfit bits (take count priorities) ⌝ }
 {
-    let n = smaller(count, CONTENDERS);
-    for i in 0..n {
+    for i in 0..count {
         let p = priorities[i];
         if !fits_in(bits, p) {
-            return refused(8, i);
+            return Found::At(i as u64);
         }
     }
-    Answer::Done
+    Found::Nothing
 }
 
-fn eight_phase(bits: u32, count: usize, phase: Phase) -> Answer
-    ensures { λ r. ⌜ r ≡ eightPhase bits count phase ⌝ }
+fn phase_inside(bits: u32, count: usize, phase: Phase) -> bool
+    ensures { λ r. ⌜ r ≡ phaseInside bits count phase ⌝ }
 {
     match phase {
-        Phase::AtBit(k) => one_to(bits as usize, k as usize, 8),
-        Phase::Finished(row) => {
-            if row.0 < count {
-                Answer::Done
-            } else {
-                refused(8, 0)
-            }
-        }
-        Phase::NoWinner => Answer::Done,
+        Phase::AtBit(k) => one_to(bits as usize, k as usize),
+        Phase::Finished(row) => row.0 < count,
+        Phase::NoWinner => true,
     }
 }
 
@@ -129,39 +89,44 @@ fn numbers(priorities: [Priority; CONTENDERS]) -> [u32; CONTENDERS]
     out
 }
 
-fn nine(priorities: [Priority; CONTENDERS], count: usize) -> Answer
-    ensures { λ r. ⌜ r ≡ Refusals·nine (take count priorities) ⌝ }
+fn lowest_repeat(priorities: [Priority; CONTENDERS], count: usize) -> Repeat
+    requires { ⌜ count ≤ contenders ⌝ }
+    ensures { λ r. ⌜ r ≡ lowestRepeat (take count priorities) ⌝ }
 {
-    let n = smaller(count, CONTENDERS);
     let values = numbers(priorities);
-    match repeats::first_repeat(&values[..n]) {
+    first_repeat(&values[..count])
+}
+
+// The lines of document 01's table in their order, whatever else is wrong.
+pub fn verdict(bits: u32, count: usize, priorities: [Priority; CONTENDERS], phase: Phase) -> Checked
+    ensures { λ r. ⌜ r ≡ verdictOf bits count priorities phase ⌝ }
+{
+    if !one_to(CONTENDERS, count) {
+        return refused(7, 0);
+    }
+    if !one_to(BITS as usize, bits as usize) {
+        return refused(8, 0);
+    }
+    match lowest_unfit(bits, priorities, count) {
+        Found::At(row) => return refused(8, row as usize),
+        Found::Nothing => {}
+    }
+    if !phase_inside(bits, count, phase) {
+        return refused(8, 0);
+    }
+    match lowest_repeat(priorities, count) {
         Repeat::At(row) => refused(9, row.0),
-        Repeat::Nothing => Answer::Done,
+        Repeat::Nothing => Checked::Fine,
     }
 }
 
-// The rules in their order, whatever else is wrong.
-pub fn verdict(bits: u32, count: usize, priorities: [Priority; CONTENDERS], phase: Phase) -> Answer
-    ensures { λ r. ⌜ r ≡ verdictOf bits count priorities phase ⌝ }
-{
-    let contenders = seven(count);
-    let width = eight_bits(bits);
-    let unfit = eight_priorities(bits, priorities, count);
-    let outside = eight_phase(bits, count, phase);
-    let repeated = nine(priorities, count);
-    let rest = first_no(unfit, first_no(outside, repeated));
-    first_no(contenders, first_no(width, rest))
-}
-
-// The same over rows 0 and 1 alone.
-pub fn pair_verdict(bits: u32, a: Priority, b: Priority) -> Answer
+// The same of two priorities alone, in rows 0 and 1: two contenders are never too few or too many, and a state with no winner
+// has no bit and no row to look at.
+pub fn pair_verdict(bits: u32, a: Priority, b: Priority) -> Checked
     ensures { λ r. ⌜ r ≡ pairVerdictOf bits a b ⌝ }
 {
     let mut pair = [Priority(0); CONTENDERS];
     pair[0] = a;
     pair[1] = b;
-    let width = eight_bits(bits);
-    let unfit = eight_priorities(bits, pair, 2);
-    let repeated = nine(pair, 2);
-    first_no(width, first_no(unfit, repeated))
+    verdict(bits, 2, pair, Phase::NoWinner)
 }

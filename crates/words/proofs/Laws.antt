@@ -8,8 +8,10 @@ use native.Mathlib.Decide.{decLe}
 use native.Mathlib.Numerals.{add-one}
 use native.Mathlib.Omega.{arith}
 use borrow.Author.Tests.{le-leb, lt-leb}
-use lib.ListN.{length, getD, set, take, drop, replicate, length-append, length-drop, length-replicate, drop-of-length-le, List·getD-append, List·getD-eq-default, take-append-drop}
-use lib.Seq.{length-take-le, take-all, take-suc, take-at, drop-cons, append-snoc, set-at, getD-drop, getD-append-add, drop-append-add, drop-drop, sets-eq}
+use lib.ListN.{length, getD, set, take, drop, replicate, length-append, length-drop, length-replicate, drop-of-length-le, List·getD-eq-default, take-append-drop}
+use lib.Seq.{length-take-le, take-all, take-suc, take-at, drop-cons, append-snoc, set-at, drop-append-add, drop-drop, sets-eq}
+use Rattle.laws.specs.Lists.{placed}
+use Rattle.laws.proofs.Placed.{drop-replicate}
 use Rattle.words.specs.Words.{joinedOf, wordsOf, laidOnto, bytesOf, put, putWords, Below}
 
 -- ---- lengths
@@ -66,27 +68,23 @@ module _ (ws out : List ℕ) where
             rw (d, drop-of-length-le out {i = length out} (omega arith), drop-of-length-le out {i = length ws} (omega arith)) refl
       ]
 
-zeros : (c i : ℕ) → _≡_ {A = ℕ} (getD (replicate c 0) i 0) 0
-zeros zero i = refl
-zeros (suc c) zero = refl
-zeros (suc c) (suc i) = zeros c i
+-- laid onto zeros, they are in places
+pub laid-on-zeros : (ws : List ℕ) (c : ℕ) → laidOnto ws (replicate c 0) ≡ placed c 0 ws
+unfolding laidOnto placed
+laid-on-zeros ws c = rw (length-replicate, drop-replicate {A = ℕ} (length ws) c 0) refl
 
--- laid onto zeros, where all have room, they read as they did: a word past the end is 0 in both
-pub laid-reads : (ws : List ℕ) (c k : ℕ) → length ws ≤ c → getD (laidOnto ws (replicate c 0)) k 0 ≡ getD ws k 0
-unfolding laidOnto
-laid-reads ws c k h =
-    let rest : List ℕ = drop (length ws) (replicate c 0) in
-    rw (length-replicate, take-all c ws h)
-    (elim (decLe (length ws) k) [
-      | yes g ↦
-          let e : length ws + (k - length ws) ≡ k = omega arith in
-          ap (λ j. getD (ws ++ rest) j 0) (sym e)
-          ∙ getD-append-add ws rest (k - length ws) 0
-          ∙ getD-drop (length ws) (replicate c 0) (k - length ws) 0
-          ∙ zeros c (length ws + (k - length ws))
-          ∙ sym (List·getD-eq-default ws 0 g)
-      | no g ↦ List·getD-append ws rest 0 k (lt-of-not-le g)
-    ])
+four-more : (k : ℕ) → 4 * suc k ≡ suc (suc (suc (suc (4 * k))))
+four-more k = omega arith
+
+-- the words without the first k
+pub drop-words : (k : ℕ) (bytes : List ℕ) → wordsOf (drop (4 * k) bytes) ≡ drop k (wordsOf bytes)
+unfolding wordsOf
+drop-words zero bytes = refl
+drop-words (suc k) (a ∷ b ∷ c ∷ d ∷ bytes) = rw (four-more k) (drop-words k bytes)
+drop-words (suc k) (a ∷ b ∷ c ∷ []) = rw (four-more k) refl
+drop-words (suc k) (a ∷ b ∷ []) = rw (four-more k) refl
+drop-words (suc k) (a ∷ []) = rw (four-more k) refl
+drop-words (suc k) [] = rw (four-more k) refl
 
 -- ---- a word to four bytes and back
 -- three carries: each quotient is what the next digit leaves

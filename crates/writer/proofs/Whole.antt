@@ -4,12 +4,12 @@ use mathlib.Core.Path.{_≡_, refl, sym, ap, _∙_}
 use mathlib.Core.List.{List, _++_}
 use Prim.Native.Nat.{ℕ, _+_, _*_, _≤_}
 use native.Mathlib.Omega.{arith}
-use lib.ListN.{length, take, drop, length-drop}
+use lib.ListN.{length, take, drop}
 use lib.Seq.{length-take-le}
 use Rattle.words.specs.Words.{bytesOf, put, putWords}
 use Rattle.words.proofs.Laws.{put-room, put-more, length-put}
-use Rattle.fields.specs.Layout as layout
-use Rattle.fields.specs.Words.{planIn}
+use Rattle.carried.specs.Layout as layout
+use Rattle.carried.specs.Carried.{planIn}
 use Rattle.file.specs.declared.Written.{Written}
 use Rattle.file.specs.File.{contents, fileOf}
 use Rattle.file.proofs.Bodies.{words-in}
@@ -17,24 +17,24 @@ use Rattle.file.proofs.Bodies.{words-in}
 module _ (buf ws : List ℕ) (n m : ℕ) (long : layout.gapAt n m ≤ length ws) (room : layout.size n m ≤ length buf) where
   -- the words of the bodies
   abbrev bodies : List ℕ
-  bodies = take (layout.timing + (layout.stream * n + m)) (drop layout.contents ws)
+  bodies = take (layout.gapAt n m) ws
 
-  bodies-long : length bodies ≡ layout.timing + (layout.stream * n + m)
-  bodies-long = length-take-le _ (drop layout.contents ws) (omega (arith, length-drop layout.contents ws))
+  bodies-long : length bodies ≡ layout.gapAt n m
+  bodies-long = length-take-le _ ws long
 
-  pub whole : {a b vs : List ℕ} → a ≡ putWords buf 0 (contents n m) → b ≡ putWords a (layout.word * layout.contents) vs → vs ≡ bodies
+  pub whole : {a b vs : List ℕ} → a ≡ putWords buf 0 (contents n m) → b ≡ putWords a (layout.byteOf 0) vs → vs ≡ bodies
       → b ≡ fileOf (planIn n m ws) ++ drop (layout.size n m) buf
   unfolding put
   whole {a} {b} ea eb e =
       let head = contents n m in
       let qa : a ≡ put buf 0 head = ea ∙ put-room buf 0 head (omega arith) in
       let a-long : length a ≡ length buf = ap length qa ∙ length-put buf 0 head (omega arith) in
-      let qb : b ≡ put a (layout.word * layout.contents) bodies =
-      eb ∙ ap (putWords a (layout.word * layout.contents)) e ∙ put-room a (layout.word * layout.contents) bodies (omega (arith, bodies-long)) in
+      let qb : b ≡ put a (layout.byteOf 0) bodies =
+      eb ∙ ap (putWords a (layout.byteOf 0)) e ∙ put-room a (layout.byteOf 0) bodies (omega (arith, bodies-long)) in
       let end : 0 + 4 * length (head ++ bodies) ≡ layout.size n m = omega (arith, bodies-long) in
-      qb ∙ ap (λ o. put o (layout.word * layout.contents) bodies) qa ∙ put-more buf 0 head (omega arith) bodies (layout.word * layout.contents) refl
+      qb ∙ ap (λ o. put o (layout.byteOf 0) bodies) qa ∙ put-more buf 0 head (omega arith) bodies (layout.byteOf 0) refl
       ∙ ap (λ k. bytesOf (head ++ bodies) ++ drop k buf) end
-      ∙ ap (λ l. bytesOf l ++ drop (layout.size n m) buf) (sym (words-in ws n m long))
+      ∙ ap (λ l. bytesOf l ++ drop (layout.size n m) buf) (sym (words-in n m ws long))
 
 -- the answer, and what the lent bytes end with
 pub both : {w v : Written × List ℕ} → w ≡ v → (v .0 ≡ w .0) × (v .1 ≡ w .1)

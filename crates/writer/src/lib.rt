@@ -3,17 +3,17 @@
 // `write_words` answers for every two counts, all words and every buffer, and `write` for every sheet, exactly as the definition
 // of the file says: the file stands at the buffer's start and the rest is as it was, or the whole buffer is as it was and the
 // answer says why. Nothing is assumed. This crate only goes from words to bytes: the values' own refusals are the crate checks'.
-use checks::Checked;
+use carried::CARRIED;
+use carried::CONTENTS;
+use carried::STREAM;
+use carried::TIMING;
+use carried::WORD;
+use carried::words_of;
 use checks::check_words;
-use fields::CONTENTS;
-use fields::STREAM;
-use fields::TIMING;
-use fields::WORD;
-use fields::WORDS;
-use fields::words_of;
 use file::Written;
 use file::contents;
 use file::size;
+use judge::Checked;
 use names::Refusal;
 use plan::Sheet;
 use words::put_words;
@@ -22,24 +22,27 @@ ghost use mathlib.Core.List.{_++_};
 ghost use Prim.Native.Nat.{_≤_};
 ghost use lib.ListN.{length, drop};
 ghost use Rattle.names.specs.Limits as limit;
-ghost use Rattle.fields.specs.Layout as layout;
-ghost use Rattle.fields.specs.Words.{planIn};
+ghost use Rattle.carried.specs.Layout as layout;
+ghost use Rattle.carried.specs.Carried.{planIn};
 ghost use Rattle.file.specs.File as spec;
 
 // The file of n streams and m gaps, where it has room. Its bodies are the words as they stand.
 fn put_file(buf: &mut [u8], words: &[u32], n: usize, m: usize)
-    requires { ⌜ (length (now words) ≡ layout.largest) × (n ≤ limit.streams) × (m ≤ limit.sources) × (layout.size n m ≤ length (now buf)) ⌝ }
+    requires { ⌜ length (now words) ≡ layout.largest ⌝ }
+    requires { ⌜ n ≤ limit.streams ⌝ }
+    requires { ⌜ m ≤ limit.sources ⌝ }
+    requires { ⌜ layout.size n m ≤ length (now buf) ⌝ }
     ensures { λ _. ⌜ now (buf .exit) ≡ spec.fileOf (planIn n m (now (words .entry))) ++ drop (layout.size n m) (now (buf .entry)) ⌝ }
 {
     let head = contents(n as u16, m as u16);
     put_words(buf, 0, &head);
-    let end = CONTENTS + TIMING + STREAM * n + m;
-    put_words(buf, WORD * CONTENTS, &words[CONTENTS..end]);
+    put_words(buf, WORD * CONTENTS, &words[0..TIMING + STREAM * n + m]);
 }
 
 // The file of the plan of n streams and m gaps in the words at the buffer's start, or the first refusal that applies.
-pub fn write_words(words: &[u32; WORDS], n: usize, m: usize, buf: &mut [u8]) -> Written
-    ensures { λ r. ⌜ (r ≡ spec.writeWith n m (planIn n m (now (words .entry))) (now (buf .entry)) .0) × (now (buf .exit) ≡ spec.writeWith n m (planIn n m (now (words .entry))) (now (buf .entry)) .1) ⌝ }
+pub fn write_words(words: &[u32; CARRIED], n: usize, m: usize, buf: &mut [u8]) -> Written
+    ensures { λ r. ⌜ r ≡ spec.writeWith n m (planIn n m (now (words .entry))) (now (buf .entry)) .0 ⌝ }
+    ensures { λ _. ⌜ now (buf .exit) ≡ spec.writeWith n m (planIn n m (now (words .entry))) (now (buf .entry)) .1 ⌝ }
 {
     match check_words(words, n, m) {
         Checked::Refused(r) => return Written::Refused(r),
@@ -58,7 +61,8 @@ pub fn write_words(words: &[u32; WORDS], n: usize, m: usize, buf: &mut [u8]) -> 
 
 // The same of a sheet's values.
 pub fn write(sheet: Sheet, buf: &mut [u8]) -> Written
-    ensures { λ r. ⌜ (r ≡ spec.writeOf sheet (now (buf .entry)) .0) × (now (buf .exit) ≡ spec.writeOf sheet (now (buf .entry)) .1) ⌝ }
+    ensures { λ r. ⌜ r ≡ spec.writeOf sheet (now (buf .entry)) .0 ⌝ }
+    ensures { λ _. ⌜ now (buf .exit) ≡ spec.writeOf sheet (now (buf .entry)) .1 ⌝ }
 {
     let words = words_of(sheet);
     write_words(&words, sheet.count, sheet.sources, buf)

@@ -1,6 +1,7 @@
 -- Each turn is one word nearer the last. Assumes nothing.
-use Prim.Native.Nat.{_-_}
+use Prim.Native.Nat.{_+_, _-_, _*_}
 use borrow.Author.Needs.{needs}
+use Rattle.names.specs.Limits.{streams}
 use Rattle.answer_cases.proofs.words.Statement.{statement}
 use Rattle.answer_cases.proofs.words.Tie as tie
 
@@ -8,7 +9,7 @@ abbrev Inv-loop : tie.InvT-loop
 Inv-loop out k₀ k = Unit {0}
 
 abbrev μ-loop : tie.MeasureT-loop
-μ-loop out k₀ k = 130 - k
+μ-loop out k₀ k = 2 * streams + 2 - k
 
 loop-holds : tie.Need-loop-holds Inv-loop μ-loop
 loop-holds c = search needs

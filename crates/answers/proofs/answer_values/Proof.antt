@@ -2,10 +2,9 @@
 use mathlib.Core.Path.{ap, _∙_}
 use denote.Ref.{now}
 use borrow.Author.Needs.{needs}
-use Rattle.fields.specs.Words.{planIn}
-use Rattle.rows.specs.Words.{answerWith}
-use Rattle.rows.proofs.Outcome.{same-answer}
-use Rattle.answers.specs.Words.{answerOf}
+use Rattle.carried.specs.Carried.{planIn}
+use Rattle.answers.specs.Answers.{answerWith, answerOf}
+use Rattle.answers.proofs.Outcome.{same-answer}
 use Rattle.answers.proofs.answer_values.Statement.{statement}
 use Rattle.answers.proofs.answer_values.Tie as tie
 

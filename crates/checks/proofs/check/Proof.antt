@@ -1,8 +1,9 @@
 -- A sheet is answered as its words are. Assumes nothing.
 use mathlib.Core.Path.{ap, _∙_}
 use borrow.Author.Needs.{needs}
-use Rattle.fields.specs.Words.{planIn}
-use Rattle.checks.specs.Checks.{judge, lines}
+use Rattle.carried.specs.Carried.{planIn}
+use Rattle.judge.specs.Table.{judge}
+use Rattle.checks.specs.Checks.{lines}
 use Rattle.checks.proofs.Words.{same-check}
 use Rattle.checks.proofs.check.Statement.{statement}
 use Rattle.checks.proofs.check.Tie as tie

@@ -11,7 +11,7 @@ use lib.Seq.{take-suc-set}
 use Rattle.names.specs.Limits as limit
 use Rattle.laws.specs.Lists.{rows}
 use Rattle.laws.proofs.Lists.{rows-more}
-use Rattle.fields.specs.Layout as layout
+use Rattle.carried.specs.Layout as layout
 use Rattle.checks.proofs.column.Statement.{statement}
 use Rattle.checks.proofs.column.Tie as tie
 
@@ -28,17 +28,14 @@ loop-holds : tie.Need-loop-holds Inv-loop μ-loop
 unfolding rows
 loop-holds c = (omega arith, refl, refl)
 
-add-out : tie.Need-add-out Inv-loop μ-loop
-add-out c = search needs
-
 mul-out : tie.Need-mul-out Inv-loop μ-loop
 mul-out c = search needs
 
+add-out : tie.Need-add-out Inv-loop μ-loop
+add-out c = search needs
+
 add-out-2 : tie.Need-add-out-2 Inv-loop μ-loop
 add-out-2 c = search needs
-
-add-out-3 : tie.Need-add-out-3 Inv-loop μ-loop
-add-out-3 c = search needs
 
 mul-out-2 : tie.Need-mul-out-2 Inv-loop μ-loop
 mul-out-2 c = search needs
@@ -81,10 +78,9 @@ column-spec =
     Inv-loop
     μ-loop
     loop-holds
-    add-out
     mul-out
+    add-out
     add-out-2
-    add-out-3
     mul-out-2
     shared-slice-read-out
     mul-out-3

@@ -1,61 +1,195 @@
--- Each return is the first of the conditions that is broken, after those that hold. Assumes nothing.
-use mathlib.Core.Path.{_≡_, sym, _∙_}
+-- Each return is the first of the conditions that is broken, after those that hold. The columns that are lent are those of the plans.
+-- Assumes nothing.
+use mathlib.Core.Path.{_≡_, sym, ap₂, _∙_}
+use Prim.Native.Nat.{ℕ, _≤_}
+use native.Mathlib.Omega.{arith}
 use borrow.Author.Needs.{needs}
-use Rattle.plan.specs.Plan.{planOf}
+use lib.ListN.{length}
+use Rattle.names.specs.Limits.{streams}
+use Rattle.plan.specs.Plan.{Plan, planOf}
+use Rattle.plan.proofs.Places.{streams-taken}
 use Rattle.compare.specs.declared.Change.the-variants.{Nothing}
-use Rattle.compare.proofs.First.{both-nothing}
-use Rattle.compare.proofs.InOrder.{ofV, by-v, by-u}
+use Rattle.compare.specs.Changes.{constants, ofStreams, ofOrder, changes}
+use Rattle.compare.specs.private.Columns.{labelOf, priorityOf, numberThen, orderBy}
+use Rattle.compare.proofs.First.{nothing-or, of-or}
+use Rattle.compare.proofs.Places.{Front, front}
+use Rattle.compare.proofs.Standing.{as-order}
 use Rattle.compare.proofs.changes.Statement.{statement}
 use Rattle.compare.proofs.changes.Tie as tie
 
-v-holds : (c : tie.After-enum-told) → let a = c .before .before .before .before .before .args in ofV (planOf (a .old)) (planOf (a .new)) ≡ Nothing
-v-holds c = sym (c .before .before .constants-of-v .ensures) ∙ c .enum-told .given .1
+-- ---- the constants hold, and the labels of the first plan are lent
+module _ (c : tie.After-labels-of) where
+  abbrev told : tie.After-enum-told
+  told = c .before .before .before
 
-constants-of-v-requires : tie.Need-constants-of-v-requires
-constants-of-v-requires c κs = search needs
+  abbrev start : tie.Start
+  start = told .before .before .before .before .before
 
-enum-known-r : tie.Need-enum-known-r
-enum-known-r c = search needs
+  abbrev old : Plan
+  old = planOf (start .args .old)
+
+  abbrev new : Plan
+  new = planOf (start .args .new)
+
+  abbrev n : ℕ
+  n = c .before .before .smaller .result
+
+  abbrev m : ℕ
+  m = c .before .smaller2 .result
+
+  m-is : m ≡ length (new .streams)
+  m-is = streams-taken (start .args .new) (_, start .good .1 .0 .1 .1) _ (c .before .smaller2 .ensures) .0
+
+  constants-hold : constants (old .timing) (new .timing) ≡ Nothing
+  constants-hold = sym (told .before .before .constants .ensures) ∙ told .enum-told .given .1
+
+  labels : Front labelOf old n (c .labels-of .result)
+  labels =
+      front labelOf old n
+      (streams-taken (start .args .old) (_, start .good .0 .1 .1) _ (c .before .before .smaller .ensures) .0)
+      (omega (arith, c .before .before .smaller .ensures))
+      (c .labels-of .ensures)
+
+-- ---- the streams hold, and the numbers that they had and have are lent
+module _ (c : tie.After-is) where
+  abbrev st : tie.After-streams
+  st = c .before .before .before .before
+
+  abbrev f : tie.After-labels-of
+  f = st .before .before
+
+  no-change : st .streams .result .change ≡ Nothing
+  no-change = c .before .before .enum-told2 .given .1
+
+  streams-hold : ofStreams (old f) (new f) ≡ Nothing
+  streams-hold = sym (st .streams .ensures .0) ∙ no-change
+
+  few : m f ≤ streams
+  few = omega (arith, f .before .smaller2 .ensures)
+
+  was : Front (numberThen (old f)) (new f) (m f) (st .streams .result .was)
+  was = front (numberThen (old f)) (new f) (m f) (m-is f) few (st .streams .ensures .1 .0 no-change)
+
+  is : Front priorityOf (new f) (m f) (st .streams .result .is)
+  is = front priorityOf (new f) (m f) (m-is f) few (st .streams .ensures .1 .1 no-change)
+
+by-columns : (c : tie.After-urgency) → let t = f (c .before .before .before) in c .urgency .result ≡ ofOrder (old t) (new t)
+by-columns c =
+    let t = c .before .before .before in
+    c .urgency .ensures
+    ∙ ap₂ (λ a b. orderBy a b (new (f t))) (was t .is) (is t .is)
+    ∙ as-order (old (f t)) (new (f t))
+
+constants-requires : tie.Need-constants-requires
+constants-requires c κs = search needs
+
+enum-known-why : tie.Need-enum-known-why
+enum-known-why c = search needs
 
 returns : tie.Need-returns
-returns c = by-v _ _ _ (sym (c .before .before .before .constants-of-v .ensures) ∙ c .before .r .given .1)
+unfolding changes
+returns c =
+    let k = c .before .before .before in
+    sym (of-or _ _ _ (sym (k .constants .ensures) ∙ c .before .why .given .1))
 
 enum-told : tie.Need-enum-told
 enum-told c = search needs
 
-constants-of-u-requires : tie.Need-constants-of-u-requires
-constants-of-u-requires c κs = search needs
+smaller-requires : tie.Need-smaller-requires
+smaller-requires c κs = search needs
 
-enum-known-r-2 : tie.Need-enum-known-r-2
-enum-known-r-2 c = search needs
+smaller-requires-2 : tie.Need-smaller-requires-2
+smaller-requires-2 c κs = search needs
+
+labels-of-requires : tie.Need-labels-of-requires
+labels-of-requires c κs = search needs
+
+array-share-prefix-labels : tie.Need-array-share-prefix-labels
+array-share-prefix-labels c = labels c .room
+
+slice-aggregate-streams : tie.Need-slice-aggregate-streams
+slice-aggregate-streams c = labels (c .before) .long
+
+streams-requires : tie.Need-streams-requires
+streams-requires c κs = labels (c .before) .is
+
+enum-known-change : tie.Need-enum-known-change
+enum-known-change c = search needs
 
 returns-2 : tie.Need-returns-2
+unfolding changes
 returns-2 c =
     let t = c .before .before .before in
-    by-u _ _ (v-holds (t .before)) _ (sym (t .constants-of-u .ensures) ∙ c .before .r2 .given .1)
+    sym (nothing-or _ _ (constants-hold (t .before .before)) ∙ of-or _ _ _ (sym (t .streams .ensures .0) ∙ c .before .change .given .1))
 
 enum-told-2 : tie.Need-enum-told-2
 enum-told-2 c = search needs
 
-streams-and-gaps-requires : tie.Need-streams-and-gaps-requires
-streams-and-gaps-requires c κs =
+array-share-prefix-was : tie.Need-array-share-prefix-was
+array-share-prefix-was c = was c .room
+
+slice-aggregate-urgency : tie.Need-slice-aggregate-urgency
+slice-aggregate-urgency c = was (c .before) .long
+
+array-share-prefix-is : tie.Need-array-share-prefix-is
+array-share-prefix-is c = is (c .before) .room
+
+slice-aggregate-urgency-2 : tie.Need-slice-aggregate-urgency-2
+slice-aggregate-urgency-2 c = is (c .before .before) .long
+
+urgency-requires : tie.Need-urgency-requires
+urgency-requires c κs =
     let t = c .before .before in
-    both-nothing _ _ (v-holds (t .before)) (sym (t .constants-of-u .ensures) ∙ c .enum-told2 .given .1)
+    (sym (was t .long) ∙ m-is (f t), sym (is t .long) ∙ m-is (f t))
+
+enum-known-why-2 : tie.Need-enum-known-why-2
+enum-known-why-2 c = search needs
 
 returns-3 : tie.Need-returns-3
-returns-3 c = c .streams-and-gaps .ensures
+unfolding changes
+returns-3 c =
+    let o = c .before .before .before in
+    let t = o .before .before .before in
+    sym (nothing-or _ _ (constants-hold (f t)) ∙ nothing-or _ _ (streams-hold t) ∙ of-or _ _ _ (sym (by-columns o) ∙ c .before .why2 .given .1))
+
+enum-told-3 : tie.Need-enum-told-3
+enum-told-3 c = search needs
+
+noise-requires : tie.Need-noise-requires
+noise-requires c κs = search needs
+
+returns-4 : tie.Need-returns-4
+unfolding changes
+returns-4 c =
+    let o = c .before .before .before in
+    let t = o .before .before .before in
+    c .noise .ensures
+    ∙ sym (nothing-or _ _ (constants-hold (f t)) ∙ nothing-or _ _ (streams-hold t) ∙ nothing-or _ _ (sym (by-columns o) ∙ c .before .enum-told3 .given .1))
 
 pub changes-spec : {M : Type 1} → statement M
 changes-spec =
     tie.close
     (tie.spec
-    constants-of-v-requires
-    enum-known-r
+    constants-requires
+    enum-known-why
     returns
     enum-told
-    constants-of-u-requires
-    enum-known-r-2
+    smaller-requires
+    smaller-requires-2
+    labels-of-requires
+    array-share-prefix-labels
+    slice-aggregate-streams
+    streams-requires
+    enum-known-change
     returns-2
     enum-told-2
-    streams-and-gaps-requires
-    returns-3)
+    array-share-prefix-was
+    slice-aggregate-urgency
+    array-share-prefix-is
+    slice-aggregate-urgency-2
+    urgency-requires
+    enum-known-why-2
+    returns-3
+    enum-told-3
+    noise-requires
+    returns-4)

@@ -1,4 +1,4 @@
--- The claims of Said are those of the answer that the table gives. Assumes nothing.
+-- The claims of SaysLighter are those of the answer that the table gives. Assumes nothing.
 use mathlib.Core.Path.{_≡_, ap₂, _∙_}
 use borrow.Author.Needs.{needs}
 use Rattle.plan.specs.declared.Sheet.{Sheet}
@@ -6,12 +6,12 @@ use Rattle.plan.specs.Plan.{planOf}
 use Rattle.compare.specs.declared.Compared.{Compared}
 use Rattle.compare.specs.Changes.{changes}
 use Rattle.compare.specs.Compared.{comparedAs, comparedOf}
-use Rattle.compare.specs.Claims.{Said}
-use Rattle.compare.proofs.Said.{said-of-sheets}
+use Rattle.compare.specs.Claims.{SaysLighter}
+use Rattle.compare.proofs.Says.{said-of-sheets}
 use Rattle.compare.proofs.lighter.Statement.{statement}
 use Rattle.compare.proofs.lighter.Tie as tie
 
-as-said : (old new : Sheet) (r : Compared) → r ≡ comparedOf old new → Said old new r
+as-said : (old new : Sheet) (r : Compared) → r ≡ comparedOf old new → SaysLighter old new r
 as-said old new r e = rw e (said-of-sheets old new)
 
 check-requires : tie.Need-check-requires

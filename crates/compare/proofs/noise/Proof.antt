@@ -11,22 +11,22 @@ use lib.ListN.{length, getD, take}
 use lib.Seq.{getD-take}
 use Rattle.names.specs.Limits.{sources}
 use Rattle.plan.specs.Plan.{planOf}
-use Rattle.fields.proofs.Places.{gaps-taken}
+use Rattle.plan.proofs.Places.{gaps-taken}
 use Rattle.compare.specs.declared.Change.{Change}
 use Rattle.compare.specs.declared.Change.the-variants.{Nothing}
 use Rattle.compare.specs.declared.Reason.the-variants.{MoreNoise}
-use Rattle.compare.specs.Changes.{unless, firstGiven, atMost, noise}
-use Rattle.compare.proofs.First.{given-none, given-more, given-here}
+use Rattle.compare.specs.Changes.{must, firstChange, atMost, noise}
+use Rattle.compare.proofs.First.{change-none, change-more, change-here}
 use Rattle.compare.proofs.noise.Statement.{statement}
 use Rattle.compare.proofs.noise.Tie as tie
 
 -- what is said of gap k, of the gaps alone
 abbrev noiseAt : List ℕ → List ℕ → ℕ → Change
-noiseAt gaps held k = unless (leb (atMost (getD gaps k 0) gaps) (atMost (getD gaps k 0) held)) (MoreNoise (getD gaps k 0))
+noiseAt gaps held k = must (leb (atMost (getD gaps k 0) gaps) (atMost (getD gaps k 0) held)) (MoreNoise (getD gaps k 0))
 
 abbrev Inv-loop : tie.InvT-loop
 Inv-loop m partners gaps held k₀ k =
-    (k ≤ m) × (m ≤ sources) × (partners ≤ sources) × (firstGiven (noiseAt (take m gaps) (take partners held)) k ≡ Nothing)
+    (k ≤ m) × (m ≤ sources) × (partners ≤ sources) × (firstChange (noiseAt (take m gaps) (take partners held)) k ≡ Nothing)
 
 abbrev μ-loop : tie.MeasureT-loop
 μ-loop m partners gaps held k₀ k = m - k
@@ -40,26 +40,26 @@ gaps-are c =
 
 -- what is said of all gaps, by the plans
 by-plans : (c : tie.After-smaller2 Inv-loop μ-loop) → let a = c .before .before .args in
-    firstGiven (noiseAt (take (c .before .smaller .result) (a .new .gaps)) (take (c .smaller2 .result) (a .old .gaps))) (c .before .smaller .result)
-    ≡ firstGiven (λ k. noise (planOf (a .old)) (planOf (a .new)) (getD (planOf (a .new) .gaps) k 0)) (length (planOf (a .new) .gaps))
+    firstChange (noiseAt (take (c .before .smaller .result) (a .new .gaps)) (take (c .smaller2 .result) (a .old .gaps))) (c .before .smaller .result)
+    ≡ firstChange (λ k. noise (planOf (a .old)) (planOf (a .new)) (getD (planOf (a .new) .gaps) k 0)) (length (planOf (a .new) .gaps))
 by-plans c =
     let b = c .before .before in
     let (new, old) = gaps-are c in
-    ap (firstGiven _) (gaps-taken (b .args .new) (_, b .good .1 .0 .1 .1) _ (c .before .smaller .ensures) .0)
-    ∙ ap₂ (λ is was. firstGiven (noiseAt is was) (length (planOf (b .args .new) .gaps))) new old
+    ap (firstChange _) (gaps-taken (b .args .new) (_, b .good .1 .0 .1 .1) _ (c .before .smaller .ensures) .0)
+    ∙ ap₂ (λ is was. firstChange (noiseAt is was) (length (planOf (b .args .new) .gaps))) new old
 
 -- what was said of gap k
 said : (c : tie.After-at-most2 Inv-loop μ-loop) (t : Bool) → leb (c .before .at-most .result) (c .at-most2 .result) ≡ t
     → let l = c .before .before .before in let b = l .before .before .before in let a = b .before .before .args in
     noiseAt (take (b .before .smaller .result) (a .new .gaps)) (take (b .smaller2 .result) (a .old .gaps)) (l .loop .k)
-    ≡ unless t (MoreNoise (getD (a .new .gaps) (l .loop .k) 0))
+    ≡ must t (MoreNoise (getD (a .new .gaps) (l .loop .k) 0))
 said c t e =
     let l = c .before .before .before in
     let b = l .before .before .before in
     let a = b .before .before .args in
-    ap (λ x. unless (leb (atMost x (take (b .before .smaller .result) (a .new .gaps))) (atMost x (take (b .smaller2 .result) (a .old .gaps)))) (MoreNoise x))
+    ap (λ x. must (leb (atMost x (take (b .before .smaller .result) (a .new .gaps))) (atMost x (take (b .smaller2 .result) (a .old .gaps)))) (MoreNoise x))
     (getD-take (b .before .smaller .result) (a .new .gaps) (l .loop .k) 0 (omega arith))
-    ∙ ap (λ v. unless v (MoreNoise (getD (a .new .gaps) (l .loop .k) 0))) (ap₂ leb (sym (c .before .at-most .ensures)) (sym (c .at-most2 .ensures)) ∙ e)
+    ∙ ap (λ v. must v (MoreNoise (getD (a .new .gaps) (l .loop .k) 0))) (ap₂ leb (sym (c .before .at-most .ensures)) (sym (c .at-most2 .ensures)) ∙ e)
 
 smaller-requires : tie.Need-smaller-requires Inv-loop μ-loop
 smaller-requires c κs = search needs
@@ -70,7 +70,7 @@ smaller-requires-2 c κs = search needs
 loop-holds : tie.Need-loop-holds Inv-loop μ-loop
 loop-holds c =
     let b = c .before .before in
-    (omega arith, omega (arith, b .before .smaller .ensures), omega (arith, b .smaller2 .ensures), given-none _)
+    (omega arith, omega (arith, b .before .smaller .ensures), omega (arith, b .smaller2 .ensures), change-none _)
 
 mul-gap : tie.Need-mul-gap Inv-loop μ-loop
 mul-gap c = search needs
@@ -89,7 +89,7 @@ returns c =
     let l = c .before .before .before .before in
     let b = l .before .before .before in
     let a = b .before .before .args in
-    sym (given-here (noiseAt (take (b .before .smaller .result) (a .new .gaps)) (take (b .smaller2 .result) (a .old .gaps))) (b .before .smaller .result) (l .loop .k) _
+    sym (change-here (noiseAt (take (b .before .smaller .result) (a .new .gaps)) (take (b .smaller2 .result) (a .old .gaps))) (b .before .smaller .result) (l .loop .k) _
     (omega arith) (l .loop .inv .3) (said (c .before) false (lt-leb _ _ (c .if1 .taken))))
     ∙ by-plans b
 
@@ -102,14 +102,14 @@ loop-less c = search needs
 loop-again : tie.Need-loop-again Inv-loop μ-loop
 loop-again c =
     let l = c .before .before .before .before in
-    (omega arith, l .loop .inv .1, l .loop .inv .2, given-more _ (l .loop .k) (l .loop .inv .3) (said (c .before) true (le-leb _ _ (c .if1 .left))))
+    (omega arith, l .loop .inv .1, l .loop .inv .2, change-more _ (l .loop .k) (l .loop .inv .3) (said (c .before) true (le-leb _ _ (c .if1 .left))))
 
 returns-2 : tie.Need-returns-2 Inv-loop μ-loop
 returns-2 c =
     let l = c .before in
     let b = l .before .before .before in
     let e : l .loop .k ≡ b .before .smaller .result = omega arith in
-    sym (l .loop .inv .3) ∙ ap (firstGiven _) e ∙ by-plans b
+    sym (l .loop .inv .3) ∙ ap (firstChange _) e ∙ by-plans b
 
 pub noise-spec : {M : Type 1} → statement M
 noise-spec =

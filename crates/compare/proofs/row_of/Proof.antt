@@ -1,5 +1,5 @@
 -- No row before r is under the label. Assumes nothing.
-use mathlib.Core.Path.{sym}
+use mathlib.Core.Path.{sym, ap}
 use mathlib.Core.Bool.{Bool}
 use mathlib.Core.List.{List}
 use Prim.Native.Nat.{ℕ, _-_, _≤_}
@@ -9,7 +9,8 @@ use borrow.Author.Tests.{eq-eqb, ne-eqb}
 use lib.Dec.{eqb}
 use lib.ListN.{length, getD}
 use Rattle.names.specs.declared.Label.{Label}
-use Rattle.repeats.proofs.Rows.{NoneBelow, none-yet, none-more, found-at, found-none}
+use Rattle.laws.proofs.Rows.{NoneBelow, none-yet, none-more, found-at, found-none}
+use Rattle.compare.specs.private.Columns.{orEnd}
 use Rattle.compare.proofs.row_of.Statement.{statement}
 use Rattle.compare.proofs.row_of.Tie as tie
 
@@ -35,7 +36,7 @@ returns : tie.Need-returns Inv-loop μ-loop
 returns c =
     let l = c .before .before .before .before in
     let a = l .before .args in
-    sym (found-at (under (a .labels .now) (a .label)) (length (a .labels .now)) (l .loop .r) (l .loop .inv .1) (search needs) (eq-eqb _ _ (c .if1 .taken)))
+    sym (ap (orEnd (length (a .labels .now))) (found-at (under (a .labels .now) (a .label)) (length (a .labels .now)) (l .loop .r) (l .loop .inv .1) (search needs) (eq-eqb _ _ (c .if1 .taken))))
 
 add-r : tie.Need-add-r Inv-loop μ-loop
 add-r c = search needs
@@ -52,7 +53,7 @@ returns-2 : tie.Need-returns-2 Inv-loop μ-loop
 returns-2 c =
     let l = c .before .loop in
     let a = c .before .before .args in
-    sym (found-none (under (a .labels .now) (a .label)) (length (a .labels .now)) (l .r) (l .inv .1) (search needs))
+    sym (ap (orEnd (length (a .labels .now))) (found-none (under (a .labels .now) (a .label)) (length (a .labels .now)) (l .r) (l .inv .1) (search needs)))
 
 pub row-of-spec : {M : Type 1} → statement M
 row-of-spec =

@@ -1,23 +1,24 @@
--- No row before k is changed. Assumes nothing.
-use mathlib.Core.Path.{_≡_, sym, ap, _∙_}
+-- No row before k is changed, and its numbers are in their places. Assumes nothing.
+use mathlib.Core.Path.{_≡_, refl, sym, ap, _∙_}
 use Prim.Native.Nat.{ℕ, _-_, _≤_, _<_}
 use native.Mathlib.Omega.{arith}
 use borrow.Author.Needs.{needs}
-use lib.ListN.{length, getD}
+use lib.ListN.{length, getD, length-map}
 use Rattle.names.specs.Limits.{streams}
 use Rattle.laws.specs.declared.Found.{Found}
-use Rattle.laws.specs.declared.Found.the-variants.{At, Nothing as Found·Nothing}
+use Rattle.laws.specs.declared.Found.the-variants.{At as Found·At, Nothing as Found·Nothing}
 use Rattle.plan.specs.declared.Sheet.{Sheet}
 use Rattle.plan.specs.declared.Stream.{Stream}
-use Rattle.plan.specs.Plan.{planOf, blank}
-use Rattle.fields.proofs.Places.{streams-taken, row-in-place}
+use Rattle.plan.specs.Plan.{Plan, planOf, blank}
+use Rattle.plan.proofs.Places.{streams-taken, row-in-place}
 use Rattle.promise.specs.Lighter.{at}
 use Rattle.compare.specs.declared.Change.{Change}
-use Rattle.compare.specs.declared.Change.the-variants.{Nothing}
-use Rattle.compare.specs.Changes.{firstGiven, rowOf, eased, inRow, stream}
-use Rattle.compare.specs.Private.{rowBy}
-use Rattle.compare.proofs.First.{given-none, given-more, given-here}
-use Rattle.compare.proofs.Places.{row-by, found-place}
+use Rattle.compare.specs.declared.Change.the-variants.{Of, Nothing}
+use Rattle.compare.specs.declared.Reason.{Reason}
+use Rattle.compare.specs.Changes.{firstChange, rowOf, eased, inRow, stream, numberIn, number, ofStreams}
+use Rattle.compare.specs.private.Columns.{labelOf, priorityOf, numberThen, column, rowBy}
+use Rattle.compare.proofs.First.{of-not-nothing, change-none, change-more, change-here}
+use Rattle.compare.proofs.Places.{columnTo, column-more, column-all, row-found, row-not-found, found-place}
 use Rattle.compare.proofs.streams.Statement.{statement}
 use Rattle.compare.proofs.streams.Tie as tie
 
@@ -25,13 +26,18 @@ abbrev rowChange : Sheet → Sheet → ℕ → Change
 rowChange old new k = stream (planOf old) (at (planOf new) k)
 
 abbrev Inv-loop : tie.InvT-loop
-Inv-loop labels old new n k₀ k =
-    (k ≤ n) × (n ≡ length (planOf new .streams)) × (firstGiven (rowChange old new) k ≡ Nothing)
+Inv-loop labels old new n was₀ is₀ k₀ was is k =
+    (k ≤ n)
+    × (n ≤ streams)
+    × (n ≡ length (planOf new .streams))
+    × (firstChange (rowChange old new) k ≡ Nothing)
+    × (was ≡ columnTo k (numberThen (planOf old)) (planOf new))
+    × (is ≡ columnTo k priorityOf (planOf new))
 
 abbrev μ-loop : tie.MeasureT-loop
-μ-loop labels old new n k₀ k = n - k
+μ-loop labels old new n was₀ is₀ k₀ was is k = n - k
 
--- the row that was found under the label of row k, ..
+-- the row that was looked for under the label of row k, ..
 module _ (c : tie.After-row-of Inv-loop μ-loop) where
   abbrev turn : tie.At-loop Inv-loop μ-loop
   turn = c .before .before .before .before
@@ -39,31 +45,46 @@ module _ (c : tie.After-row-of Inv-loop μ-loop) where
   abbrev start : tie.Start Inv-loop μ-loop
   start = turn .before .before .before
 
+  abbrev old : Plan
+  old = planOf (start .args .t1)
+
   abbrev s : Stream
   s = getD (start .args .t2 .streams) (turn .loop .k) blank
 
-  found : rowOf (planOf (start .args .t1)) (s .label) ≡ c .row-of .result
-  found = sym (row-by (planOf (start .args .t1)) (s .label)) ∙ ap (λ l. rowBy l (s .label)) (sym (start .pre)) ∙ sym (c .row-of .ensures)
+  abbrev change : Change
+  change = rowChange (start .args .t1) (start .args .t2) (turn .loop .k)
 
-  beside : (f : Found) → c .row-of .result ≡ f → rowChange (start .args .t1) (start .args .t2) (turn .loop .k) ≡ inRow (planOf (start .args .t1)) s f
-  beside f e =
-      ap (stream (planOf (start .args .t1))) (row-in-place (start .args .t2) (turn .loop .k) (omega arith))
-      ∙ ap (inRow (planOf (start .args .t1)) s) (found ∙ e)
+  by-labels : c .row-of .result .0 ≡ rowBy (column labelOf old) (s .label)
+  by-labels = c .row-of .ensures ∙ ap (λ l. rowBy l (s .label)) (start .pre)
 
--- .. its place, ..
-place : (c : tie.After-known-told Inv-loop μ-loop) → let r = c .before .r .given .0 .0 in let old = start (c .before .before .before) .args .t1 in
-    (r < streams) × (at (planOf old) r ≡ getD (old .streams) r blank)
-place c =
-    let f = c .before .before .before in
-    found-place (start f .args .t1) (_, start f .good .0 .1 .1) (s f .label) _ (found f ∙ c .before .r .given .1)
+  rows-are : length (start .args .labels .now) ≡ length (old .streams)
+  rows-are = ap length (start .pre) ∙ length-map (old .streams) labelOf
+
+  beside : (f : Found) → rowOf old (s .label) ≡ f → change ≡ inRow old s f
+  beside f e = ap (stream old) (row-in-place (start .args .t2) (turn .loop .k) (omega arith)) ∙ ap (inRow old s) e
+
+  here : {r : Reason} → change ≡ Of r → Of r ≡ ofStreams old (planOf (start .args .t2))
+  here e = sym (change-here (rowChange (start .args .t1) (start .args .t2)) _ (turn .loop .k) _ (omega arith) (turn .loop .inv .3) e)
+
+-- .. stands in the first plan, ..
+module _ (c : tie.Else1 Inv-loop μ-loop) where
+  abbrev r : ℕ
+  r = c .before .row-of .result .0
+
+  found : rowOf (old (c .before)) (s (c .before) .label) ≡ Found·At r
+  found = row-found (old (c .before)) _ _ (by-labels (c .before)) (λ e. c .if1 .left (e ∙ sym (rows-are (c .before))))
+
+  place : (r < streams) × (at (old (c .before)) r ≡ getD (start (c .before) .args .t1 .streams) r blank)
+  place = let a = start (c .before) in found-place (a .args .t1) (_, a .good .0 .1 .1) _ _ found
+
+  number-is : getD (start (c .before) .args .t1 .streams) r blank .priority .0 ≡ number (old (c .before)) (s (c .before) .label)
+  number-is = sym (ap (numberIn (old (c .before))) found ∙ ap priorityOf (place .1))
 
 -- .. and what was said of both
-said : (c : tie.After-eased Inv-loop μ-loop) → let f = c .before .before .before .before .before in
-    rowChange (start f .args .t1) (start f .args .t2) (turn f .loop .k) ≡ c .eased .result
+said : (c : tie.After-eased Inv-loop μ-loop) → change (c .before .before .before) ≡ c .eased .result
 said c =
-    let p = c .before .before in
-    let f = p .before .before .before in
-    beside f (At _) (p .before .r .given .1) ∙ ap (λ n. eased n (s f)) (place p .1) ∙ sym (c .eased .ensures)
+    let e = c .before .before in
+    beside (e .before) _ (found e) ∙ ap (λ n. eased n (s (e .before))) (place e .1) ∙ sym (c .eased .ensures)
 
 smaller-requires : tie.Need-smaller-requires Inv-loop μ-loop
 smaller-requires c κs = search needs
@@ -71,7 +92,7 @@ smaller-requires c κs = search needs
 loop-holds : tie.Need-loop-holds Inv-loop μ-loop
 loop-holds c =
     let b = c .before .before in
-    (omega arith, streams-taken (b .args .t2) (_, b .good .1 .0 .1 .1) _ (c .smaller .ensures) .0, given-none _)
+    (omega arith, omega (arith, c .smaller .ensures), streams-taken (b .args .t2) (_, b .good .1 .0 .1 .1) _ (c .smaller .ensures) .0, change-none _, refl, refl)
 
 mul-s : tie.Need-mul-s Inv-loop μ-loop
 mul-s c = search needs
@@ -82,8 +103,12 @@ element-copy-out-s c = search needs
 row-of-requires : tie.Need-row-of-requires Inv-loop μ-loop
 row-of-requires c κs = search needs
 
-enum-known-r : tie.Need-enum-known-r Inv-loop μ-loop
-enum-known-r c = search needs
+returns : tie.Need-returns Inv-loop μ-loop
+returns c =
+    let f = c .before in
+    let none = row-not-found (old f) (s f .label) _ (by-labels f) (c .if1 .taken ∙ rows-are f) in
+    let e = here f (beside f Found·Nothing none) in
+    (e, (λ d. absurd (of-not-nothing d), λ d. absurd (of-not-nothing d)))
 
 mul-namesake : tie.Need-mul-namesake Inv-loop μ-loop
 mul-namesake c = let h = place c .0 in search needs
@@ -94,27 +119,29 @@ element-copy-out-namesake c = place c .0
 eased-requires : tie.Need-eased-requires Inv-loop μ-loop
 eased-requires c κs = search needs
 
-enum-known-r-2 : tie.Need-enum-known-r-2 Inv-loop μ-loop
-enum-known-r-2 c = search needs
+enum-known-why : tie.Need-enum-known-why Inv-loop μ-loop
+enum-known-why c = search needs
 
-returns : tie.Need-returns Inv-loop μ-loop
-returns c =
+returns-2 : tie.Need-returns-2 Inv-loop μ-loop
+returns-2 c =
     let t = c .before .before .before in
-    let f = t .before .before .before .before .before in
-    let l = turn f .loop in
-    sym (given-here (rowChange (start f .args .t1) (start f .args .t2)) _ (l .k) _ (omega arith) (l .inv .2) (said t ∙ c .before .r2 .given .1))
+    let e = here (t .before .before .before) (said t ∙ c .before .why .given .1) in
+    (e, (λ d. absurd (of-not-nothing d), λ d. absurd (of-not-nothing d)))
 
 enum-told : tie.Need-enum-told Inv-loop μ-loop
 enum-told c = search needs
 
-enum-told-2 : tie.Need-enum-told-2 Inv-loop μ-loop
-enum-told-2 c = search needs
+mul-was : tie.Need-mul-was Inv-loop μ-loop
+mul-was c = search needs
 
-returns-2 : tie.Need-returns-2 Inv-loop μ-loop
-returns-2 c =
-    let f = c .before .before in
-    let l = turn f .loop in
-    sym (given-here (rowChange (start f .args .t1) (start f .args .t2)) _ (l .k) _ (omega arith) (l .inv .2) (beside f Found·Nothing (c .enum-told2 .given .1)))
+array-write-was : tie.Need-array-write-was Inv-loop μ-loop
+array-write-was c = search needs
+
+mul-is : tie.Need-mul-is Inv-loop μ-loop
+mul-is c = search needs
+
+array-write-is : tie.Need-array-write-is Inv-loop μ-loop
+array-write-is c = search needs
 
 add-k : tie.Need-add-k Inv-loop μ-loop
 add-k c = search needs
@@ -125,15 +152,25 @@ loop-less c = search needs
 loop-again : tie.Need-loop-again Inv-loop μ-loop
 loop-again c =
     let t = c .before .before in
-    let l = turn (t .before .before .before .before .before) .loop in
-    (omega arith, l .inv .1, given-more _ (l .k) (l .inv .2) (said t ∙ c .enum-told .given .1))
+    let f = t .before .before .before in
+    let l = turn f .loop in (
+      omega arith,
+      l .inv .1,
+      l .inv .2,
+      change-more _ (l .k) (l .inv .3) (said t ∙ c .enum-told .given .1),
+      column-more (numberThen (old f)) (start f .args .t2) (l .k) (omega arith) (omega arith) (l .inv .4) (number-is (t .before .before)),
+      column-more priorityOf (start f .args .t2) (l .k) (omega arith) (omega arith) (l .inv .5) refl,
+    )
 
 returns-3 : tie.Need-returns-3 Inv-loop μ-loop
 returns-3 c =
     let l = c .before .loop in
     let a = c .before .before .before .before .args in
-    let e : l .k ≡ length (planOf (a .t2) .streams) = omega arith in
-    sym (ap (firstGiven (rowChange (a .t1) (a .t2))) (sym e) ∙ l .inv .2)
+    let p = planOf (a .t2) in
+    let e : l .k ≡ length (p .streams) = omega arith in (
+      sym (ap (firstChange (rowChange (a .t1) (a .t2))) (sym e) ∙ l .inv .3),
+      (λ d. column-all (numberThen (planOf (a .t1))) p (l .k) e (omega arith) (l .inv .4), λ d. column-all priorityOf p (l .k) e (omega arith) (l .inv .5)),
+    )
 
 pub streams-spec : {M : Type 1} → statement M
 streams-spec =
@@ -146,15 +183,17 @@ streams-spec =
     mul-s
     element-copy-out-s
     row-of-requires
-    enum-known-r
+    returns
     mul-namesake
     element-copy-out-namesake
     eased-requires
-    enum-known-r-2
-    returns
-    enum-told
-    enum-told-2
+    enum-known-why
     returns-2
+    enum-told
+    mul-was
+    array-write-was
+    mul-is
+    array-write-is
     add-k
     loop-less
     loop-again

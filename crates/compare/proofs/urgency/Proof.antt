@@ -7,18 +7,18 @@ use borrow.Author.Needs.{needs}
 use lib.ListN.{length}
 use Rattle.names.specs.Limits.{streams}
 use Rattle.plan.specs.Plan.{planOf}
-use Rattle.fields.proofs.Places.{streams-taken, row-in-place}
+use Rattle.plan.proofs.Places.{streams-taken, row-in-place}
 use Rattle.promise.specs.Lighter.{at}
 use Rattle.compare.specs.declared.Change.the-variants.{Of, Nothing}
 use Rattle.compare.specs.declared.Reason.the-variants.{LessUrgent}
-use Rattle.compare.specs.Changes.{unless, firstGiven}
-use Rattle.compare.specs.Private.{overtakenBy, urgencyBy}
-use Rattle.compare.proofs.First.{given-none, given-more, given-here}
+use Rattle.compare.specs.Changes.{must, firstChange}
+use Rattle.compare.specs.private.Columns.{overtakenBy, urgencyBy}
+use Rattle.compare.proofs.First.{change-none, change-more, change-here}
 use Rattle.compare.proofs.urgency.Statement.{statement}
 use Rattle.compare.proofs.urgency.Tie as tie
 
 abbrev Inv-loop : tie.InvT-loop
-Inv-loop was is new k₀ k-end k = (k ≤ k-end) × (firstGiven (urgencyBy was is (planOf new)) k ≡ Nothing)
+Inv-loop was is new k₀ k-end k = (k ≤ k-end) × (firstChange (urgencyBy was is (planOf new)) k ≡ Nothing)
 
 abbrev μ-loop : tie.MeasureT-loop
 μ-loop was is new k₀ k-end k = k-end - k
@@ -26,12 +26,12 @@ abbrev μ-loop : tie.MeasureT-loop
 -- what was said of row k
 said : (c : tie.After-overtaken Inv-loop μ-loop) (t : Bool) → c .overtaken .result ≡ t
     → let l = c .before .before .before .before in let a = l .before .before .before .args in
-    unless (not t) (LessUrgent (at (planOf (a .t1)) (l .loop .k) .label)) ≡ urgencyBy (a .was .now) (a .is .now) (planOf (a .t1)) (l .loop .k)
+    must (not t) (LessUrgent (at (planOf (a .t1)) (l .loop .k) .label)) ≡ urgencyBy (a .was .now) (a .is .now) (planOf (a .t1)) (l .loop .k)
 said c t e =
     let l = c .before .before .before .before in
     let a = l .before .before .before .args in
     let o : t ≡ overtakenBy (a .was .now) (a .is .now) (l .loop .k) = rw e at (c .overtaken .ensures) in
-    ap (λ b. unless (not b) (LessUrgent (at (planOf (a .t1)) (l .loop .k) .label))) o
+    ap (λ b. must (not b) (LessUrgent (at (planOf (a .t1)) (l .loop .k) .label))) o
 
 -- row k is one of the places of the sheet
 place : (c : tie.Then1 Inv-loop μ-loop) → c .before .before .before .before .before .loop .k < streams
@@ -40,19 +40,19 @@ place c =
     omega (arith, b .pre .1, streams-taken (b .args .t1) (_, b .good .0 .1 .1) _ refl .0)
 
 loop-holds : tie.Need-loop-holds Inv-loop μ-loop
-loop-holds c = (omega arith, given-none _)
+loop-holds c = (omega arith, change-none _)
 
-mul-overtaken : tie.Need-mul-overtaken Inv-loop μ-loop
-mul-overtaken c = search needs
+mul-number : tie.Need-mul-number Inv-loop μ-loop
+mul-number c = search needs
 
-shared-slice-read-overtaken : tie.Need-shared-slice-read-overtaken Inv-loop μ-loop
-shared-slice-read-overtaken c = search needs
+shared-slice-read-number : tie.Need-shared-slice-read-number Inv-loop μ-loop
+shared-slice-read-number c = search needs
 
-mul-overtaken-2 : tie.Need-mul-overtaken-2 Inv-loop μ-loop
-mul-overtaken-2 c = search needs
+mul-held : tie.Need-mul-held Inv-loop μ-loop
+mul-held c = search needs
 
-shared-slice-read-overtaken-2 : tie.Need-shared-slice-read-overtaken-2 Inv-loop μ-loop
-shared-slice-read-overtaken-2 c = search needs
+shared-slice-read-held : tie.Need-shared-slice-read-held Inv-loop μ-loop
+shared-slice-read-held c = search needs
 
 overtaken-requires : tie.Need-overtaken-requires Inv-loop μ-loop
 overtaken-requires c κs = search needs
@@ -69,7 +69,7 @@ returns c =
     let l = t .before .before .before .before in
     let a = l .before .before .before .args in
     ap (λ s. Of (LessUrgent (s .label))) (sym (row-in-place (a .t1) (l .loop .k) (omega (arith, l .before .before .before .pre .1))))
-    ∙ sym (given-here (urgencyBy (a .was .now) (a .is .now) (planOf (a .t1))) _ (l .loop .k) _ (omega (arith, l .before .before .before .pre .1)) (l .loop .inv .1) (sym (said t true (c .before .before .if1 .taken))))
+    ∙ sym (change-here (urgencyBy (a .was .now) (a .is .now) (planOf (a .t1))) _ (l .loop .k) _ (omega (arith, l .before .before .before .pre .1)) (l .loop .inv .1) (sym (said t true (c .before .before .if1 .taken))))
 
 add-k : tie.Need-add-k Inv-loop μ-loop
 add-k c = search needs
@@ -80,14 +80,14 @@ loop-less c = search needs
 loop-again : tie.Need-loop-again Inv-loop μ-loop
 loop-again c =
     let l = c .before .before .before .before .before .loop in
-    (omega arith, given-more _ (l .k) (l .inv .1) (sym (said (c .before) false (c .if1 .left))))
+    (omega arith, change-more _ (l .k) (l .inv .1) (sym (said (c .before) false (c .if1 .left))))
 
 returns-2 : tie.Need-returns-2 Inv-loop μ-loop
 returns-2 c =
     let l = c .before .loop in
     let b = c .before .before .before .before in
     let e : l .k ≡ length (planOf (b .args .t1) .streams) = omega (arith, b .pre .1) in
-    sym (l .inv .1) ∙ ap (firstGiven (urgencyBy (b .args .was .now) (b .args .is .now) (planOf (b .args .t1)))) e
+    sym (l .inv .1) ∙ ap (firstChange (urgencyBy (b .args .was .now) (b .args .is .now) (planOf (b .args .t1)))) e
 
 pub urgency-spec : {M : Type 1} → statement M
 urgency-spec =
@@ -96,10 +96,10 @@ urgency-spec =
     Inv-loop
     μ-loop
     loop-holds
-    mul-overtaken
-    shared-slice-read-overtaken
-    mul-overtaken-2
-    shared-slice-read-overtaken-2
+    mul-number
+    shared-slice-read-number
+    mul-held
+    shared-slice-read-held
     overtaken-requires
     mul-s
     element-copy-out-s

@@ -1,4 +1,4 @@
--- The claims of SaidOfFiles are those of the answer that the table gives. Assumes nothing.
+-- The claims of SaysLighterOfFiles are those of the answer that the table gives. Assumes nothing.
 use mathlib.Core.Path.{_≡_, ap₂, _∙_}
 use mathlib.Core.List.{List}
 use Prim.Native.Nat.{ℕ}
@@ -9,12 +9,12 @@ use Rattle.compare.specs.declared.Compared.{Compared}
 use Rattle.compare.specs.Changes.{changes}
 use Rattle.compare.specs.Compared.{comparedAs}
 use Rattle.compare_files.specs.Files.{comparedFiles}
-use Rattle.compare_files.specs.Claims.{SaidOfFiles}
+use Rattle.compare_files.specs.Claims.{SaysLighterOfFiles}
 use Rattle.compare_files.proofs.Kept.{said-of-files}
 use Rattle.compare_files.proofs.lighter_files.Statement.{statement}
 use Rattle.compare_files.proofs.lighter_files.Tie as tie
 
-as-said : (old new : List ℕ) (r : Compared) → r ≡ comparedFiles old new → SaidOfFiles old new r
+as-said : (old new : List ℕ) (r : Compared) → r ≡ comparedFiles old new → SaysLighterOfFiles old new r
 as-said old new r e = rw e (said-of-files old new)
 
 -- the answer to two readings

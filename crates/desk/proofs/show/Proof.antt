@@ -2,7 +2,7 @@
 use mathlib.Core.Path.{sym, ap, _∙_}
 use denote.Ref.{now}
 use Rattle.text.specs.Put.{put}
-use Rattle.desk.proofs.Shown.{shown-is, rows-shown}
+use Rattle.desk.proofs.Shown.{shown-is, answers-shown}
 use borrow.Author.Needs.{needs}
 use Rattle.desk.proofs.show.Statement.{statement}
 use Rattle.desk.proofs.show.Tie as tie
@@ -19,8 +19,14 @@ refused-requires c κs = search needs
 enum-told : tie.Need-enum-told
 enum-told c = search needs
 
-answer-all-requires : tie.Need-answer-all-requires
-answer-all-requires c κs = search needs
+slice-aggregate-answer-values : tie.Need-slice-aggregate-answer-values
+slice-aggregate-answer-values c = search needs
+
+answer-values-requires : tie.Need-answer-values-requires
+answer-values-requires c κs = search needs
+
+slice-aggregate-listing : tie.Need-slice-aggregate-listing
+slice-aggregate-listing c = search needs
 
 listing-requires : tie.Need-listing-requires
 listing-requires c κs = search needs
@@ -43,11 +49,11 @@ same-length-2 c = search needs
 returns-2 : tie.Need-returns-2
 returns-2 c =
     let l = c .before .before in
-    let a = l .before .before .before in
-    let t = a .before in
+    let v = l .before .before .before .before in
+    let t = v .before .before in
     let f = t .before .before .before in
     let s = f .before .before .before in
-    let e = rows-shown (now (s .args .bytes)) (f .read .result) (f .read .ensures) (a .answer-all .result) (t .enum-told .given .1) (a .answer-all .ensures)
+    let e = answers-shown (now (s .args .bytes)) (f .read .result) (f .read .ensures) _ (t .enum-told .given .1) (v .answer-values .ensures .1)
     ∙ sym (shown-is (now (s .args .bytes)) (f .read .result) (f .read .ensures) _ (t .enum-told .given .1)) in
     (l .listing .ensures .0 ∙ ap (λ t. put (now (s .args .out)) 0 t .0) e, l .listing .ensures .1 ∙ ap (λ t. put (now (s .args .out)) 0 t .1) e)
 
@@ -59,7 +65,9 @@ show-spec =
     enum-known-answer
     refused-requires
     enum-told
-    answer-all-requires
+    slice-aggregate-answer-values
+    answer-values-requires
+    slice-aggregate-listing
     listing-requires
     same-length
     returns

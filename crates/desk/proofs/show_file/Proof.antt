@@ -2,7 +2,7 @@
 use mathlib.Core.Path.{sym, ap₂, _∙_}
 use denote.Ref.{now}
 use Rattle.text.specs.Put.{put}
-use Rattle.desk.proofs.Again.{written-shown, no-room-shown, refusal-shown}
+use Rattle.desk.proofs.Again.{shows}
 use borrow.Author.Needs.{needs}
 use Rattle.desk.proofs.show_file.Statement.{statement}
 use Rattle.desk.proofs.show_file.Tie as tie
@@ -23,7 +23,7 @@ returns : tie.Need-returns
 returns c =
     let k = c .before .before .before .before .before .before .before in
     let a = k .before .before .before .before .args in
-    let p = no-room-shown (now (a .bytes)) (now (a .out)) _ (sym (k .rewrite .ensures .0) ∙ c .before .before .before .r .given .1) (c .if1 .taken) in
+    let p = shows (now (a .bytes)) (now (a .out)) _ (sym (k .rewrite .ensures .0) ∙ c .before .before .before .r .given .1) .0 (c .if1 .taken) in
     (p .0, k .rewrite .ensures .1 ∙ p .1)
 
 refused-requires : tie.Need-refused-requires
@@ -36,7 +36,7 @@ returns-2 : tie.Need-returns-2
 returns-2 c =
     let k = c .before .before .before .before .before in
     let a = k .before .before .before .before .args in
-    let p = written-shown (now (a .bytes)) (now (a .out)) _ (sym (k .rewrite .ensures .0) ∙ c .before .n .given .1) in
+    let p = shows (now (a .bytes)) (now (a .out)) _ (sym (k .rewrite .ensures .0) ∙ c .before .n .given .1) in
     (p .0, k .rewrite .ensures .1 ∙ p .1)
 
 same-length-3 : tie.Need-same-length-3
@@ -48,7 +48,7 @@ returns-3 c =
     let e = f .before .before in
     let k = e .before .before .before .before .before .before .before in
     let a = k .before .before .before .before .args in
-    let (s, b) = refusal-shown (now (a .bytes)) (now (a .out)) _ (sym (k .rewrite .ensures .0) ∙ e .before .before .before .r .given .1) (e .if1 .left) in
+    let (s, b) = shows (now (a .bytes)) (now (a .out)) _ (sym (k .rewrite .ensures .0) ∙ e .before .before .before .r .given .1) .1 (e .if1 .left) in
     let d = k .rewrite .ensures .1 ∙ b in
     (f .refused .ensures .0 ∙ ap₂ (λ l t. put l 0 t .0) d (sym s), f .refused .ensures .1 ∙ ap₂ (λ l t. put l 0 t .1) d (sym s))
 

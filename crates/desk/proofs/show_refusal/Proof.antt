@@ -1,7 +1,7 @@
 -- A file is refused as it was read, and else it is fine. Assumes nothing.
 use mathlib.Core.Path.{_≡_, sym, ap, _∙_}
 use denote.Ref.{now}
-use Rattle.checks.specs.declared.Checked.{Checked}
+use Rattle.judge.specs.declared.Checked.{Checked}
 use Rattle.text.specs.Put.{put}
 use Rattle.desk.specs.Desk.{refusalAs, shownRefusal}
 use borrow.Author.Needs.{needs}

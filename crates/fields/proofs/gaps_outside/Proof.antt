@@ -7,11 +7,11 @@ use denote.Ref.{now}
 use lib.ListN.{length, take, drop, replicate}
 use lib.Seq.{length-take-le}
 use Rattle.names.specs.Limits.{sources, ticks}
-use Rattle.fields.specs.Layout as layout
+use Rattle.carried.specs.Layout as layout
 use Rattle.fields.specs.Fields.{gapField, lowest}
-use Rattle.fields.specs.Private.{fieldsOf}
+use Rattle.fields.specs.private.Bands.{fieldsOf}
 use Rattle.fields.proofs.Lowest.{alike}
-use Rattle.fields.proofs.Words.{gaps-back}
+use Rattle.carried.proofs.Plans.{gaps-back}
 use borrow.Author.Needs.{needs}
 use Rattle.fields.proofs.gaps_outside.Statement.{statement}
 use Rattle.fields.proofs.gaps_outside.Tie as tie
@@ -19,14 +19,11 @@ use Rattle.fields.proofs.gaps_outside.Tie as tie
 cast-most : tie.Need-cast-most
 cast-most c = search needs
 
-add-at : tie.Need-add-at
-add-at c = search needs
-
 mul-at : tie.Need-mul-at
 mul-at c = search needs
 
-add-at-2 : tie.Need-add-at-2
-add-at-2 c = search needs
+add-at : tie.Need-add-at
+add-at c = search needs
 
 add-words-outside : tie.Need-add-words-outside
 add-words-outside c = search needs
@@ -61,7 +58,7 @@ words-outside-requires c κs =
     let g = c .before .before .words-outside-arg .given in
     let l = length-take-le (a .m) (replicate {A = ℕ} sources 1) (omega arith) in
     let h = length-take-le (a .m) (replicate {A = ℕ} sources ticks) (omega arith) in
-    (omega (arith, g, l), omega (arith, g, h), omega (arith, g))
+    (omega (arith, g, l), (omega (arith, g, h), omega (arith, g)))
 
 returns : tie.Need-returns
 returns c =
@@ -80,9 +77,8 @@ gaps-outside-spec =
     tie.close
     (tie.spec
     cast-most
-    add-at
     mul-at
-    add-at-2
+    add-at
     add-words-outside
     mul-words-outside
     sub-words-outside

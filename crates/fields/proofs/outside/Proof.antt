@@ -11,9 +11,9 @@ use Rattle.laws.specs.Lists.{rows}
 use Rattle.laws.proofs.Lists.{length-rows}
 use Rattle.laws.specs.declared.Found.the-variants.{Nothing}
 use Rattle.plan.specs.Plan.{Plan}
-use Rattle.fields.specs.Layout as layout
+use Rattle.carried.specs.Layout as layout
 use Rattle.fields.specs.Fields.{timingFields, streamFields, gapField, lowest}
-use Rattle.fields.specs.Words.{timingIn, streamIn, planIn}
+use Rattle.carried.specs.Carried.{timingIn, streamIn, planIn}
 use Rattle.fields.proofs.Lowest.{timing-here, streams-here, gaps-left}
 use Rattle.fields.proofs.Inside.{inside-if-within, nothing-if-inside}
 use Rattle.fields.proofs.outside.Statement.{statement}
@@ -23,7 +23,7 @@ use Rattle.fields.proofs.outside.Tie as tie
 abbrev asked : tie.Start → Plan
 asked b = planIn (min (b .args .n) streams) (min (b .args .m) sources) (now (b .args .words))
 
-timing-inside : (c : tie.After-enum-told) → lowest layout.contents (timingFields (timingIn (now (c .before .before .before .before .before .args .words)) layout.contents)) ≡ Nothing
+timing-inside : (c : tie.After-enum-told) → lowest 0 (timingFields (timingIn (now (c .before .before .before .before .before .args .words)))) ≡ Nothing
 timing-inside c = sym (c .before .before .timing-outside .ensures) ∙ c .enum-told .given .1
 
 -- the streams of the plan are those that were looked at
@@ -33,7 +33,7 @@ unfolding planIn
 streams-are c =
     let s = c .before .before .before .before .before .before .before in
     let ws = now (s .before .args .words) in
-    ap (λ k. lowest (layout.streamAt 0) (flatMap (streamFields (timingIn ws layout.contents .nb)) (rows k (λ r. streamIn ws (layout.streamAt r))))) (sym (s .smaller .ensures)) ∙ sym (c .streams-outside .ensures)
+    ap (λ k. lowest (layout.streamAt 0) (flatMap (streamFields (timingIn ws .nb)) (rows k (λ r. streamIn ws (layout.streamAt r))))) (sym (s .smaller .ensures)) ∙ sym (c .streams-outside .ensures)
 
 smaller-requires : tie.Need-smaller-requires
 smaller-requires c κs = search needs
@@ -53,9 +53,6 @@ returns c =
 enum-told : tie.Need-enum-told
 enum-told c = search needs
 
-add-nb : tie.Need-add-nb
-add-nb c = search needs
-
 sub-nb : tie.Need-sub-nb
 sub-nb c = search needs
 
@@ -69,8 +66,8 @@ streams-outside-requires : tie.Need-streams-outside-requires
 streams-outside-requires c κs =
     let t = c .before .before in
     let b = t .before .before .before .before in
-    let timing = timingFields (timingIn (now (b .before .args .words)) layout.contents) in
-    (search needs, omega (arith, b .smaller .ensures), inside-if-within _ .0 (nothing-if-inside layout.contents timing .0 (timing-inside t) 8 (omega arith)) .1)
+    let timing = timingFields (timingIn (now (b .before .args .words))) in
+    (search needs, (omega (arith, b .smaller .ensures), inside-if-within _ .0 (nothing-if-inside 0 timing .0 (timing-inside t) 8 (omega arith)) .1))
 
 enum-known-p-2 : tie.Need-enum-known-p-2
 enum-known-p-2 c = search needs
@@ -114,7 +111,6 @@ outside-spec =
     enum-known-p
     returns
     enum-told
-    add-nb
     sub-nb
     mul-nb
     element-copy-out-nb

@@ -10,11 +10,11 @@ use Rattle.laws.proofs.Lists.{rows-front, length-rows}
 use Rattle.names.specs.Limits.{payload, ticks}
 use Rattle.plan.specs.declared.Stream.{Stream}
 use Rattle.plan.specs.Plan.{blank}
-use Rattle.fields.specs.Layout as layout
+use Rattle.carried.specs.Layout as layout
 use Rattle.fields.specs.Fields.{streamFields, lowest}
-use Rattle.fields.specs.Words.{streamIn}
-use Rattle.fields.specs.Private.{fieldsOf}
-use Rattle.fields.proofs.Words.{six-back}
+use Rattle.carried.specs.Carried.{streamIn}
+use Rattle.fields.specs.private.Bands.{fieldsOf}
+use Rattle.carried.proofs.Plans.{six-back}
 use Rattle.fields.proofs.Lowest.{stream-here, stream-not-here, streams-done}
 use borrow.Author.Needs.{needs}
 use Rattle.fields.proofs.streams_outside.Statement.{statement}
@@ -53,14 +53,11 @@ largest-priority-requires c κs = search needs
 loop-holds : tie.Need-loop-holds Inv-loop μ-loop
 loop-holds c = (omega arith, refl)
 
-add-at : tie.Need-add-at Inv-loop μ-loop
-add-at c = search needs
-
 mul-at : tie.Need-mul-at Inv-loop μ-loop
 mul-at c = search needs
 
-add-at-2 : tie.Need-add-at-2 Inv-loop μ-loop
-add-at-2 c = search needs
+add-at : tie.Need-add-at Inv-loop μ-loop
+add-at c = search needs
 
 add-words-outside : tie.Need-add-words-outside Inv-loop μ-loop
 add-words-outside c = search needs
@@ -136,9 +133,8 @@ streams-outside-spec =
     cast-any
     largest-priority-requires
     loop-holds
-    add-at
     mul-at
-    add-at-2
+    add-at
     add-words-outside
     mul-words-outside
     sub-words-outside

@@ -2,14 +2,11 @@
 use mathlib.Core.Path.{refl, _∙_}
 use native.Mathlib.Omega.{arith}
 use denote.Ref.{now}
-use Rattle.fields.specs.Private.{fieldsOf}
-use Rattle.fields.proofs.Words.{timing-back}
+use Rattle.fields.specs.private.Bands.{fieldsOf}
+use Rattle.carried.proofs.Plans.{timing-back}
 use borrow.Author.Needs.{needs}
 use Rattle.fields.proofs.timing_outside.Statement.{statement}
 use Rattle.fields.proofs.timing_outside.Tie as tie
-
-add-words-outside : tie.Need-add-words-outside
-add-words-outside c = search needs
 
 sub-words-outside : tie.Need-sub-words-outside
 sub-words-outside c = search needs
@@ -39,7 +36,6 @@ pub timing-outside-spec : {M : Type 1} → statement M
 timing-outside-spec =
     tie.close
     (tie.spec
-    add-words-outside
     sub-words-outside
     part-words-outside-start
     part-words-outside-end

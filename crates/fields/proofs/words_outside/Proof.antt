@@ -7,7 +7,7 @@ use borrow.Author.Needs.{needs}
 use denote.Ref.{now}
 use lib.ListN.{length}
 use Rattle.fields.specs.Fields.{lowest}
-use Rattle.fields.specs.Private.{fieldsOf}
+use Rattle.fields.specs.private.Bands.{fieldsOf}
 use Rattle.fields.proofs.Lowest.{within, too-small, too-large, rest, here, not-here, nowhere}
 use Rattle.fields.proofs.words_outside.Statement.{statement}
 use Rattle.fields.proofs.words_outside.Tie as tie
@@ -34,19 +34,15 @@ mul-if1-2 c = search needs
 shared-slice-read-if1-2 : tie.Need-shared-slice-read-if1-2 Inv-loop μ-loop
 shared-slice-read-if1-2 c = search needs
 
-add-at-word : tie.Need-add-at-word Inv-loop μ-loop
-add-at-word c = search needs
-
-at-word-requires : tie.Need-at-word-requires Inv-loop μ-loop
-at-word-requires c κs = search needs
+add-t14 : tie.Need-add-t14 Inv-loop μ-loop
+add-t14 c = search needs
 
 returns : tie.Need-returns Inv-loop μ-loop
 returns c =
-    let p = c .before .before .before .before .before in
-    let a = p .before .before .before .before .args in
+    let p = c .before .before .before .before in
+    let a = p .before .args in
     let i = p .loop .i in
-    c .at-word .ensures
-    ∙ sym (here (now (a .words)) (now (a .least)) (now (a .most)) (a .k) i (omega arith) (omega arith) (omega arith) (p .loop .inv .2) (too-small _ _ _ (c .before .if1 .taken)))
+    sym (here (now (a .words)) (now (a .least)) (now (a .most)) (a .k) i (omega arith) (omega arith) (omega arith) (p .loop .inv .2) (too-small _ _ _ (c .if1 .taken)))
 
 mul-if2 : tie.Need-mul-if2 Inv-loop μ-loop
 mul-if2 c = search needs
@@ -60,19 +56,15 @@ mul-if2-2 c = search needs
 shared-slice-read-if2-2 : tie.Need-shared-slice-read-if2-2 Inv-loop μ-loop
 shared-slice-read-if2-2 c = search needs
 
-add-at-word-2 : tie.Need-add-at-word-2 Inv-loop μ-loop
-add-at-word-2 c = search needs
-
-at-word-requires-2 : tie.Need-at-word-requires-2 Inv-loop μ-loop
-at-word-requires-2 c κs = search needs
+add-t18 : tie.Need-add-t18 Inv-loop μ-loop
+add-t18 c = search needs
 
 returns-2 : tie.Need-returns-2 Inv-loop μ-loop
 returns-2 c =
-    let p = c .before .before .before .before .before .before .before .before in
-    let a = p .before .before .before .before .args in
+    let p = c .before .before .before .before .before .before .before in
+    let a = p .before .args in
     let i = p .loop .i in
-    c .at-word2 .ensures
-    ∙ sym (here (now (a .words)) (now (a .least)) (now (a .most)) (a .k) i (omega arith) (omega arith) (omega arith) (p .loop .inv .2) (too-large _ _ _ (c .before .if2 .taken)))
+    sym (here (now (a .words)) (now (a .least)) (now (a .most)) (a .k) i (omega arith) (omega arith) (omega arith) (p .loop .inv .2) (too-large _ _ _ (c .if2 .taken)))
 
 add-i : tie.Need-add-i Inv-loop μ-loop
 add-i c = search needs
@@ -83,7 +75,7 @@ loop-less c = search needs
 loop-again : tie.Need-loop-again Inv-loop μ-loop
 loop-again c =
     let p = c .before .before .before .before .before .before .before in
-    let a = p .before .before .before .before .args in
+    let a = p .before .args in
     let i = p .loop .i in (
       omega arith,
       refl,
@@ -93,7 +85,7 @@ loop-again c =
 returns-3 : tie.Need-returns-3 Inv-loop μ-loop
 returns-3 c =
     let l = c .before .loop in
-    let a = c .before .before .before .before .before .args in
+    let a = c .before .before .args in
     sym (l .inv .2 ∙ nowhere (now (a .words)) (now (a .least)) (now (a .most)) (a .k + l .i) (l .i) (omega arith))
 
 pub words-outside-spec : {M : Type 1} → statement M
@@ -107,15 +99,13 @@ words-outside-spec =
     shared-slice-read-if1
     mul-if1-2
     shared-slice-read-if1-2
-    add-at-word
-    at-word-requires
+    add-t14
     returns
     mul-if2
     shared-slice-read-if2
     mul-if2-2
     shared-slice-read-if2-2
-    add-at-word-2
-    at-word-requires-2
+    add-t18
     returns-2
     add-i
     loop-less

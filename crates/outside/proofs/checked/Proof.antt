@@ -1,4 +1,4 @@
--- Each return is an answer by its number. Assumes nothing.
+-- Each return is a verdict by its number. Assumes nothing.
 use mathlib.Core.Path.{sym, ap, _∙_}
 use borrow.Author.Needs.{needs}
 use Rattle.outside.specs.Outside as number
@@ -11,8 +11,8 @@ enum-told c = search needs
 done-requires : tie.Need-done-requires
 done-requires c κs = search needs
 
-enum-known-answer : tie.Need-enum-known-answer
-enum-known-answer c = search needs
+enum-known-verdict : tie.Need-enum-known-verdict
+enum-known-verdict c = search needs
 
 refused-requires : tie.Need-refused-requires
 refused-requires c κs = search needs
@@ -21,8 +21,8 @@ returns : tie.Need-returns
 returns c = c .done .ensures ∙ ap number.checked (sym (c .before .enum-told .given .1))
 
 returns-2 : tie.Need-returns-2
-returns-2 c = c .refused .ensures ∙ ap number.checked (sym (c .before .before .answer .given .1))
+returns-2 c = c .refused .ensures ∙ ap number.checked (sym (c .before .before .verdict .given .1))
 
 pub checked-spec : {M : Type 1} → statement M
 checked-spec =
-    tie.close (tie.spec enum-told done-requires enum-known-answer refused-requires returns returns-2)
+    tie.close (tie.spec enum-told done-requires enum-known-verdict refused-requires returns returns-2)

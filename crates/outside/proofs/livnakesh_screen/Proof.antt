@@ -38,23 +38,23 @@ use denote.Triple.Walked.{says, Stays, stay-none-slice, gave-slice, walkOf, Walk
 use denote.Exit.{yes}
 use Rattle.plan.specs.declared.Stream.{Stream}
 use Rattle.plan.specs.declared.Timing.{Timing}
-use Rattle.checks.specs.declared.Checked.{Checked}
-use Rattle.file.specs.File.{timingIn}
-use Rattle.answers.specs.Words.{answerOf}
+use Rattle.judge.specs.declared.Checked.{Checked}
+use Rattle.carried.specs.Carried.{timingIn}
+use Rattle.answers.specs.Answers.{answerOf}
 use Rattle.screen.specs.Screen.{sheetFor}
 use Rattle.outside.specs.declared.Said.{Said}
 use Rattle.outside.specs.Outside as number
 use Rattle.plan.proofs.Stream as S
 use Rattle.plan.proofs.Timing as Z
 use Rattle.plan.proofs.Timing.Laws as Z′
-use Rattle.checks.proofs.Checked as N
-use Rattle.checks.proofs.Checked.Laws as N′
+use Rattle.judge.proofs.Checked as N
+use Rattle.judge.proofs.Checked.Laws as N′
 use Rattle.outside.proofs.Said as B
 use Rattle.outside.proofs.Said.Laws as B′
-use Rattle.values.proofs.timing_from as timing-from
-use Rattle.values.proofs.timing_from.Symbol as timing-from-def
-use Rattle.values.proofs.timing_from.Symbol.{name as #values·timing-from}
-use Rattle.values.proofs.timing_from.Met as timing-from-thm
+use Rattle.carried.proofs.timing_from as timing-from
+use Rattle.carried.proofs.timing_from.Symbol as timing-from-def
+use Rattle.carried.proofs.timing_from.Symbol.{name as #carried·timing-from}
+use Rattle.carried.proofs.timing_from.Met as timing-from-thm
 use Rattle.screen.proofs.screen as screen
 use Rattle.screen.proofs.screen.Symbol as screen-def
 use Rattle.screen.proofs.screen.Symbol.{name as #screen·screen}
@@ -171,8 +171,8 @@ module _ {M : Type 1} (𝓤 : URA M) (H : Heap 𝓤) (A : Atoms 𝓤) (W : Given
       use2 W (raw (TimingFrom 𝓤 H A mem run .pre to-timing))
       (qed W (tok₁ ∷ ‵ (owns (ShrSlice (named 0) κ₁ u32 ∷ []) (t, tt) (vt ∷ [], tt)) ∷ []) ∵ join ! $ frame ! $ done !) $ done !
 
-  timing-said : (r : Timing) → ent 𝓤 (ensured 𝓤 H A timing-from.ended (timing-from.clauses 𝓤 H A mem run) (κ₁, tt) (t, tt) tt r) (fact 𝓤 (r ≡ timingIn (t .now) 0))
-  timing-said r = exE 𝓤 _ (λ ws. snd∗ 𝓤 (sem 𝓤 H A (lasts timing-from.ended (κ₁, tt) (t, tt) ws)) (fact 𝓤 (r ≡ timingIn (t .now) 0)))
+  timing-said : (r : Timing) → ent 𝓤 (ensured 𝓤 H A timing-from.ended (timing-from.clauses 𝓤 H A mem run) (κ₁, tt) (t, tt) tt r) (fact 𝓤 (r ≡ timingIn (t .now)))
+  timing-said r = exE 𝓤 _ (λ ws. snd∗ 𝓤 (sem 𝓤 H A (lasts timing-from.ended (κ₁, tt) (t, tt) ws)) (fact 𝓤 (r ≡ timingIn (t .now))))
 
   -- ---- the call of `screen`, at the timing z with the machine value u
   abbrev to-screen : Timing → Val → Screen 𝓤 H A mem run .Ghost
@@ -196,8 +196,8 @@ module _ {M : Type 1} (𝓤 : URA M) (H : Heap 𝓤) (A : Atoms 𝓤) (W : Given
       -- [pre; OwnG; OwnT; OwnS]
       move ! (2 ∷ 1 ∷ []) $ join ! $ move ! (2 ∷ 0 ∷ []) $ join ! $ move ! (1 ∷ 0 ∷ []) $ done !
 
-  abbrev Screened : Timing → Checked → List ℕ → Type 0
-  Screened z c zs = (c ≡ answerOf (sheetFor (s .now) z (g .now)) (x .now) .0) × (zs ≡ answerOf (sheetFor (s .now) z (g .now)) (x .now) .1)
+  abbrev ScreenedAt : Timing → Checked → List ℕ → Type 0
+  ScreenedAt z c zs = (c ≡ answerOf (sheetFor (s .now) z (g .now)) (x .now) .0) × (zs ≡ answerOf (sheetFor (s .now) z (g .now)) (x .now) .1)
 
   -- ---- the call of `checked`, at the answer c with the machine value w
   abbrev to-numbers : Checked → Val → Numbered 𝓤 H A mem run .Ghost
@@ -211,9 +211,9 @@ module _ {M : Type 1} (𝓤 : URA M) (H : Heap 𝓤) (A : Atoms 𝓤) (W : Given
 
   -- ---- the exit
   abbrev Told : Said → List ℕ → Type 0
-  Told r zs = let o = number.screenOf (s .now) (t .now) (g .now) (x .now) in (r ≡ number.checked (o .0)) × (zs ≡ o .1)
+  Told r zs = number.Screened (s .now) (t .now) (g .now) (x .now) r zs
 
-  told : (z : Timing) (c : Checked) (r : Said) (zs : List ℕ) → z ≡ timingIn (t .now) 0 → Screened z c zs → r ≡ number.checked c → Told r zs
+  told : (z : Timing) (c : Checked) (r : Said) (zs : List ℕ) → z ≡ timingIn (t .now) → ScreenedAt z c zs → r ≡ number.checked c → Told r zs
   told z c r zs ez e er =
       let o = ap (λ z. answerOf (sheetFor (s .now) z (g .now)) (x .now)) ez in
       (er ∙ ap number.checked (e .0 ∙ ap (λ p. p .0) o), e .1 ∙ ap (λ p. p .1) o)
@@ -234,7 +234,7 @@ module _ {M : Type 1} (𝓤 : URA M) (H : Heap 𝓤) (A : Atoms 𝓤) (W : Given
       move ! (5 ∷ 3 ∷ []) $ fjoin ! $ move ! (2 ∷ 0 ∷ []) $ fjoin ! $ move ! (1 ∷ 0 ∷ []) $ fjoin ! $ move ! (1 ∷ 0 ∷ []) $ fjoin ! $ done !
 
   module _ (C : Calls 𝓤 H) (Λ : Loops 𝓤 H) (fm : FmC 𝓤 H (W .laws) C)
-      (known-timing : Triple 𝓤 (C #values·timing-from) (TimingFrom 𝓤 H A mem run)) (known-screen : Triple 𝓤 (C #screen·screen) (Screen 𝓤 H A mem run))
+      (known-timing : Triple 𝓤 (C #carried·timing-from) (TimingFrom 𝓤 H A mem run)) (known-screen : Triple 𝓤 (C #screen·screen) (Screen 𝓤 H A mem run))
       (known-numbers : Triple 𝓤 (C #outside·checked) (Numbered 𝓤 H A mem run)) where
     walk : Is (ShrSlice (named 0) κ₀ R) s (vs ∷ []) → Is (ShrSlice (named 1) κ₁ u32) t (vt ∷ []) → Is (ShrSlice (named 2) κ₂ u32) g (vg ∷ []) → Is (MutSlice (named 3) κ₃ u64) x (vx ∷ [])
         → length (x .now) < 2 ^ 64
@@ -252,7 +252,7 @@ module _ {M : Type 1} (𝓤 : URA M) (H : Heap 𝓤) (A : Atoms 𝓤) (W : Given
         use1 W (later (some (λ (r : Timing). (tok₁ ⊛ ‵ (D .own r (u ∷ [])))
         ⊛ raw (ensured 𝓤 H A timing-from.ended (timing-from.clauses 𝓤 H A mem run) (κ₁, tt) (t, tt) tt r)))) (id⊢ 𝓤 _) $
         await ! tt $ pick ! (λ z.
-        split ! $ move ! (1 ∷ []) $ use1 W (raw (fact 𝓤 (z ≡ timingIn (t .now) 0))) (timing-said z) $ heard ! (z ≡ timingIn (t .now) 0) (λ ez. split ! $ move ! (1 ∷ []) $
+        split ! $ move ! (1 ∷ []) $ use1 W (raw (fact 𝓤 (z ≡ timingIn (t .now)))) (timing-said z) $ heard ! (z ≡ timingIn (t .now)) (λ ez. split ! $ move ! (1 ∷ []) $
         -- [the timing; κ₁'s token; what is kept; _8; …; _7; …; _6; …; _5; …; _4; …; _3; …; _2; …; _1; …; _0; …]
         peeks ! D (Is D) (shows 𝓤 H A D) z (u ∷ []) (λ isz.
         land ! (from ! (stop !)) (init ! 7 refl (LL.lawful Z.the-type Z′.the-laws 𝓤 H A W .typed z _ isz .0)) $
@@ -267,8 +267,8 @@ module _ {M : Type 1} (𝓤 : URA M) (H : Heap 𝓤) (A : Atoms 𝓤) (W : Given
         use1 W (later (some (λ (c : Checked). (toks₀₂₃ ⊛ ‵ (N.the-row .own c (w ∷ [])))
         ⊛ raw (ensured 𝓤 H A screen.ended (screen.clauses 𝓤 H A mem run) (κ₀, (κ₂, (κ₃, tt))) (s, (z, (g, (x, tt)))) tt c)))) (id⊢ 𝓤 _) $ await ! tt $ pick ! (λ c.
         split ! $ move ! (1 ∷ []) $ use1 W (some (λ (zs : Unit {0} × (Unit {0} × (Unit {0} × (List ℕ × Unit {0})))).
-        ‵ (lasts screen.ended (κ₀, (κ₂, (κ₃, tt))) (s, (z, (g, (x, tt)))) zs) ⊛ raw (fact 𝓤 (Screened z c (zs .1 .1 .1 .0))))) (id⊢ 𝓤 _) $ pick ! (λ zs.
-        split ! $ move ! (1 ∷ []) $ heard ! (Screened z c (zs .1 .1 .1 .0)) (λ e.
+        ‵ (lasts screen.ended (κ₀, (κ₂, (κ₃, tt))) (s, (z, (g, (x, tt)))) zs) ⊛ raw (fact 𝓤 (ScreenedAt z c (zs .1 .1 .1 .0))))) (id⊢ 𝓤 _) $ pick ! (λ zs.
+        split ! $ move ! (1 ∷ []) $ heard ! (ScreenedAt z c (zs .1 .1 .1 .0)) (λ e.
         fsplit ! $ move ! (1 ∷ []) $ fsplit ! $ move ! (1 ∷ []) $ fsplit ! $ move ! (1 ∷ []) $ fsplit ! $ fsplit ! $ move ! (1 ∷ []) $ feqL ! (λ len.
         -- [the last list; …; …; …; …; the tokens and the answer; what is kept; κ₁'s token; _8; …]
         move ! (5 ∷ []) $ split ! $ move ! (1 ∷ []) $ peeks ! N.the-row (Is N.the-row) (shows 𝓤 H A N.the-row) c (w ∷ []) (λ isc.
@@ -288,7 +288,7 @@ module _ {M : Type 1} (𝓤 : URA M) (H : Heap 𝓤) (A : Atoms 𝓤) (W : Given
         keep ! (0 ∷ 1 ∷ 2 ∷ 7 ∷ 8 ∷ []) $ by ! (exits r v (zs .1 .1 .1 .0) (told z c r (zs .1 .1 .1 .0) ez e er) len))))))))))))))))))))))))
 
 module _ {M : Type 1} (𝓤 : URA M) (H : Heap 𝓤) (A : Atoms 𝓤) (W : Given 𝓤 H A) (mem : Memory → SProp 𝓤) (run : Routine → Fun 𝓤) (𝓣 : Tables 𝓤 H)
-    (known-timing : Triple 𝓤 (𝓣 .C #values·timing-from) (TimingFrom 𝓤 H A mem run)) (known-screen : Triple 𝓤 (𝓣 .C #screen·screen) (Screen 𝓤 H A mem run))
+    (known-timing : Triple 𝓤 (𝓣 .C #carried·timing-from) (TimingFrom 𝓤 H A mem run)) (known-screen : Triple 𝓤 (𝓣 .C #screen·screen) (Screen 𝓤 H A mem run))
     (known-numbers : Triple 𝓤 (𝓣 .C #outside·checked) (Numbered 𝓤 H A mem run)) where
   walks : Walks 𝓤 H A here.ended stayed (WpFn 𝓤 H (𝓣 .C) (𝓣 .Λ) code.function) (here.clauses 𝓤 H A mem run)
   walks = walked 𝓤 H A here.ended stayed (here.clauses 𝓤 H A mem run) (WpFn 𝓤 H (𝓣 .C) (𝓣 .Λ) code.function)
@@ -316,6 +316,6 @@ livnakesh-screen-spec 𝓤 H 𝓜 𝓖 𝓡 =
     entered 𝓤 H (tripleOf 𝓤 H (𝓖 .A) here.signature (here.spec 𝓤 H (𝓖 .A) (𝓜 .mem) (𝓡 .run)))
     (tables 𝓤 H 𝓜 𝓡 code.env .C) (tables 𝓤 H 𝓜 𝓡 code.env .Λ) #outside·livnakesh-screen code.function (code.unfolded 𝓤 H 𝓜 𝓡)
     (meets 𝓤 H (𝓖 .A) (givenOf 𝓤 H 𝓜 𝓖) (𝓜 .mem) (𝓡 .run) (tablesOf 𝓤 H 𝓜 (tables 𝓤 H 𝓜 𝓡 code.env))
-    (cited 𝓤 H (TimingFrom 𝓤 H (𝓖 .A) (𝓜 .mem) (𝓡 .run)) 𝓜 𝓡 code.env #values·timing-from timing-from-def.routine code.calls-values·timing-from (timing-from-thm.met 𝓤 H 𝓜 𝓖 𝓡))
+    (cited 𝓤 H (TimingFrom 𝓤 H (𝓖 .A) (𝓜 .mem) (𝓡 .run)) 𝓜 𝓡 code.env #carried·timing-from timing-from-def.routine code.calls-carried·timing-from (timing-from-thm.met 𝓤 H 𝓜 𝓖 𝓡))
     (cited 𝓤 H (Screen 𝓤 H (𝓖 .A) (𝓜 .mem) (𝓡 .run)) 𝓜 𝓡 code.env #screen·screen screen-def.routine code.calls-screen·screen (screen-thm.met 𝓤 H 𝓜 𝓖 𝓡))
     (cited 𝓤 H (Numbered 𝓤 H (𝓖 .A) (𝓜 .mem) (𝓡 .run)) 𝓜 𝓡 code.env #outside·checked checked-def.routine code.calls-outside·checked (checked-thm.met 𝓤 H 𝓜 𝓖 𝓡)))

@@ -3,9 +3,8 @@ use mathlib.Core.Path.{sym, ap, _∙_}
 use borrow.Author.Needs.{needs}
 use denote.Ref.{now}
 use Rattle.tournament_state.specs.declared.Tournament.{Tournament}
-use Rattle.tournament_state.specs.Refusals.{refused}
 use Rattle.outside.specs.Outside.{steppedBy, stepBytes}
-use Rattle.outside.proofs.Fewer.{step-fewer, step-enough}
+use Rattle.outside.proofs.Fewer.{six, step-fewer, step-enough}
 use Rattle.outside.proofs.livnakesh_step.Statement.{statement}
 use Rattle.outside.proofs.livnakesh_step.Tie as tie
 
@@ -23,7 +22,7 @@ returns c =
     let f = c .before .before in
     let a = f .before .before .before .before .args in
     let e = sym (step-fewer (a .bits) (a .phase) (a .at) (now (a .priorities)) (now (a .marks)) (c .before .if1 .taken)) in (
-      c .at-phase .ensures ∙ ap (λ (t : Tournament). steppedBy (record { tournament = t; answer = refused 6 0 })) (f .state-from .ensures) ∙ ap steppedBy e,
+      c .at-phase .ensures ∙ ap (λ (t : Tournament). steppedBy (six t)) (f .state-from .ensures) ∙ ap steppedBy e,
       ap (λ o. stepBytes o (now (a .marks))) e,
     )
 

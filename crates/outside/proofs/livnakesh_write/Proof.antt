@@ -1,22 +1,21 @@
--- The lent words are written where a file has them, and that is the writing of their sheet. Assumes nothing.
+-- The lent words are carried, and so their plan is written. Assumes nothing.
 use mathlib.Core.Path.{_≡_, sym, ap, _∙_}
 use borrow.Author.Needs.{needs}
 use denote.Ref.{now}
-use Rattle.fields.specs.Words.{planIn}
-use Rattle.file.specs.File.{writeWith, writeOf}
-use Rattle.values.specs.Values.{sheetFrom}
-use Rattle.values.proofs.Words.{same-writing}
+use Rattle.carried.specs.Carried.{planIn}
+use Rattle.file.specs.File.{writeWith}
+use Rattle.file.proofs.Writing.{values-written}
 use Rattle.outside.specs.Outside.{written}
 use Rattle.outside.proofs.livnakesh_write.Statement.{statement}
 use Rattle.outside.proofs.livnakesh_write.Tie as tie
 
--- what was written is the sheet of the lent words
+-- what was written is the plan in the lent words
 wrote : (w : tie.After-write-words) → let a = w .before .before .before .before .before .before .args in
-    let o = writeOf (sheetFrom (a .n) (a .m) (now (a .values))) (now (a .out)) in (w .write-words .result ≡ o .0) × (w .write-words .last .1 .1 .1 .0 ≡ o .1)
+    let o = writeWith (a .n) (a .m) (planIn (a .n) (a .m) (now (a .values))) (now (a .out)) in (w .write-words .result ≡ o .0) × (w .write-words .last .1 .1 .1 .0 ≡ o .1)
 wrote w =
     let f = w .before .before .before in
     let a = f .before .before .before .args in
-    let e = ap (λ ws. writeWith (a .n) (a .m) (planIn (a .n) (a .m) ws) (now (a .out))) (f .words-from .ensures) ∙ same-writing (a .n) (a .m) (now (a .values)) (now (a .out)) in
+    let e = ap (λ ws. writeWith (a .n) (a .m) (planIn (a .n) (a .m) ws) (now (a .out))) (f .words-from .ensures) ∙ values-written (a .n) (a .m) (now (a .values)) (now (a .out)) in
     (w .write-words .ensures .0 ∙ ap (λ p. p .0) e, w .write-words .ensures .1 ∙ ap (λ p. p .1) e)
 
 words-from-requires : tie.Need-words-from-requires

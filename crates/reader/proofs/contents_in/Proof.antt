@@ -7,7 +7,7 @@ use borrow.Author.Needs.{needs}
 use denote.Ref.{now}
 use lib.ListN.{length, take, drop}
 use lib.Seq.{getD-take, length-take-le}
-use Rattle.fields.specs.Layout as layout
+use Rattle.carried.specs.Layout as layout
 use Rattle.words.specs.Words.{wordsOf}
 use Rattle.words.proofs.Laws.{length-words}
 use Rattle.file.specs.File.{same, contents}

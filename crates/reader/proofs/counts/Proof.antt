@@ -11,32 +11,27 @@ use denote.Ref.{now}
 use lib.ListN.{length, take}
 use Rattle.names.specs.Limits.{streams, sources}
 use Rattle.words.specs.Words.{wordsOf}
-use Rattle.fields.specs.Layout as layout
-use Rattle.file.specs.File.{bytes, streamsIn, gapsIn, same, contents, sizeRight, contentsRight, rangesRight, countsOf}
-use Rattle.file.proofs.Reading.{refusedCounts, said-size, said-contents, said-ranges, said-counts, in-range}
+use Rattle.judge.specs.declared.Checked.the-variants.{Fine}
+use Rattle.judge.specs.Table.{judge}
+use Rattle.carried.specs.Layout as layout
+use Rattle.checks.specs.Checks.{rangeLines}
+use Rattle.checks.proofs.Counts.{fine-range}
+use Rattle.file.specs.File.{countIn, sourcesIn, same, contents, sizeRight, contentsRight, countsOf}
+use Rattle.file.proofs.Reading.{refusedCounts, said-size, said-contents, said-ranges, said-counts}
 use Rattle.reader.proofs.counts.Statement.{statement}
 use Rattle.reader.proofs.counts.Tie as tie
 
 module _ (bs : List ℕ) where
-  too-short : length bs < layout.word * layout.contents → sizeRight bs ≡ false
-  too-short h = simp (lt-leb (layout.word * layout.contents) (length bs) h)
+  too-short : length bs < layout.byteOf 0 → sizeRight bs ≡ false
+  too-short h = simp (lt-leb (layout.byteOf 0) (length bs) h)
 
   too-long : layout.size streams sources < length bs → sizeRight bs ≡ false
   too-long h = simp (lt-leb (length bs) (layout.size streams sources) h, and-false)
 
-  right-size : layout.word * layout.contents ≤ length bs → length bs ≤ layout.size streams sources → sizeRight bs ≡ true
-  right-size h k = simp (le-leb (layout.word * layout.contents) (length bs) h, le-leb (length bs) (layout.size streams sources) k)
+  right-size : layout.byteOf 0 ≤ length bs → length bs ≤ layout.size streams sources → sizeRight bs ≡ true
+  right-size h k = simp (le-leb (layout.byteOf 0) (length bs) h, le-leb (length bs) (layout.size streams sources) k)
 
   module _ (n m : ℕ) where
-    too-few : n < 1 → rangesRight n m ≡ false
-    too-few h = simp (lt-leb 1 n h)
-
-    too-many : streams < n → rangesRight n m ≡ false
-    too-many h = simp (lt-leb n streams h, and-false)
-
-    too-noisy : sources < m → rangesRight n m ≡ false
-    too-noisy h = simp (lt-leb m sources h, and-false)
-
     wrong-words : same (take layout.contents (wordsOf bs)) (contents n m) ≡ false → contentsRight n m bs ≡ false
     wrong-words e = rw e refl
 
@@ -55,30 +50,34 @@ abbrev bs-at : tie.After-word-at2 → List ℕ
 bs-at w = now (w .before .before .before .before .before .before .args .bytes)
 
 abbrev n-at : tie.After-word-at2 → ℕ
-n-at w = w .before .word-at .result / bytes layout.stream
+n-at w = w .before .word-at .result / (layout.word * layout.stream)
 
 abbrev m-at : tie.After-word-at2 → ℕ
 m-at w = w .word-at2 .result / layout.word
 
 -- they are those that the contents state
-n-is : (w : tie.After-word-at2) → streamsIn (wordsOf (bs-at w)) ≡ n-at w
-n-is w = ap (λ x. x / bytes layout.stream) (sym (w .before .word-at .ensures))
+n-is : (w : tie.After-word-at2) → countIn (wordsOf (bs-at w)) ≡ n-at w
+n-is w = ap (λ x. x / (layout.word * layout.stream)) (sym (w .before .word-at .ensures))
 
-m-is : (w : tie.After-word-at2) → gapsIn (wordsOf (bs-at w)) ≡ m-at w
+m-is : (w : tie.After-word-at2) → sourcesIn (wordsOf (bs-at w)) ≡ m-at w
 m-is w = ap (λ x. x / layout.word) (sym (w .word-at2 .ensures))
-
-ranges-refused : (w : tie.After-word-at2) → rangesRight (n-at w) (m-at w) ≡ false → countsOf (bs-at w) ≡ refusedCounts 2
-ranges-refused w = said-ranges (bs-at w) (n-at w) (m-at w) (n-is w) (m-is w) (one (w .before .before))
 
 contents-refused : (w : tie.After-word-at2) → contentsRight (n-at w) (m-at w) (bs-at w) ≡ false → countsOf (bs-at w) ≡ refusedCounts 2
 contents-refused w = said-contents (bs-at w) (n-at w) (m-at w) (n-is w) (m-is w) (one (w .before .before))
 
 -- the contents are those of its n and m, and it ends where they say
-two : (c : tie.Else7) → let w = c .before .before .before .before .before .before .before in contentsRight (n-at w) (m-at w) (bs-at w) ≡ true
+two : (c : tie.Else4) → let w = c .before .before .before .before .before .before .before in contentsRight (n-at w) (m-at w) (bs-at w) ≡ true
 two c =
     let k = c .before .before .before in
     let w = k .before .before .before .before in
-    right-contents (bs-at w) (n-at w) (m-at w) (sym (k .contents-in .ensures) ∙ not-false (k .contents-in .result) (c .before .before .if6 .left)) (c .if7 .left ∙ c .before .size2 .ensures)
+    right-contents (bs-at w) (n-at w) (m-at w) (sym (k .contents-in .ensures) ∙ not-false (k .contents-in .result) (c .before .before .if3 .left)) (c .if4 .left ∙ c .before .size2 .ensures)
+
+-- n and m are in their ranges
+three : (t : tie.After-enum-told) → let w = t .before .before .before in judge (rangeLines (n-at w) (m-at w)) ≡ Fine
+three t = sym (t .before .before .check-counts .ensures) ∙ t .enum-told .given .1
+
+few : (t : tie.After-enum-told) → let w = t .before .before .before in (1 ≤ n-at w) × (n-at w ≤ streams) × (m-at w ≤ sources)
+few t = let w = t .before .before .before in fine-range (n-at w) (m-at w) (three t)
 
 mul-if1 : tie.Need-mul-if1
 mul-if1 c = search needs
@@ -126,66 +125,57 @@ word-at-requires-2 c κs = search needs
 cast-m : tie.Need-cast-m
 cast-m c = search needs
 
-refused-counts-requires-3 : tie.Need-refused-counts-requires-3
-refused-counts-requires-3 c κs = search needs
+check-counts-requires : tie.Need-check-counts-requires
+check-counts-requires c κs = search needs
+
+enum-known-r : tie.Need-enum-known-r
+enum-known-r c = search needs
 
 returns-3 : tie.Need-returns-3
 returns-3 c =
-    let w = c .before .before in
-    c .refused-counts3 .ensures ∙ sym (ranges-refused w (too-few (bs-at w) (n-at w) (m-at w) (omega arith)))
+    let p = c .before .before .before in
+    let w = p .before in
+    sym (said-ranges (bs-at w) (n-at w) (m-at w) (n-is w) (m-is w) (one (w .before .before)) _ (sym (p .check-counts .ensures) ∙ c .before .r .given .1))
 
-refused-counts-requires-4 : tie.Need-refused-counts-requires-4
-refused-counts-requires-4 c κs = search needs
+enum-told : tie.Need-enum-told
+enum-told c = search needs
+
+contents-in-requires : tie.Need-contents-in-requires
+contents-in-requires c κs = let (some, n, m) = few c in (n, (m, search needs))
+
+refused-counts-requires-3 : tie.Need-refused-counts-requires-3
+refused-counts-requires-3 c κs = search needs
 
 returns-4 : tie.Need-returns-4
 returns-4 c =
-    let w = c .before .before .before in
-    c .refused-counts4 .ensures ∙ sym (ranges-refused w (too-many (bs-at w) (n-at w) (m-at w) (omega arith)))
-
-refused-counts-requires-5 : tie.Need-refused-counts-requires-5
-refused-counts-requires-5 c κs = search needs
-
-returns-5 : tie.Need-returns-5
-returns-5 c =
-    let w = c .before .before .before .before in
-    c .refused-counts5 .ensures ∙ sym (ranges-refused w (too-noisy (bs-at w) (n-at w) (m-at w) (omega arith)))
-
-contents-in-requires : tie.Need-contents-in-requires
-contents-in-requires c κs = search needs
-
-refused-counts-requires-6 : tie.Need-refused-counts-requires-6
-refused-counts-requires-6 c κs = search needs
-
-returns-6 : tie.Need-returns-6
-returns-6 c =
     let k = c .before .before in
     let w = k .before .before .before .before in
-    let differ = sym (k .contents-in .ensures) ∙ not-true (k .contents-in .result) (c .before .if6 .taken) in
-    c .refused-counts6 .ensures ∙ sym (contents-refused w (wrong-words (bs-at w) (n-at w) (m-at w) differ))
+    let differ = sym (k .contents-in .ensures) ∙ not-true (k .contents-in .result) (c .before .if3 .taken) in
+    c .refused-counts3 .ensures ∙ sym (contents-refused w (wrong-words (bs-at w) (n-at w) (m-at w) differ))
 
 cast-size-3 : tie.Need-cast-size-3
-cast-size-3 c = search needs
+cast-size-3 c = omega (arith, few (c .before .before) .1)
 
 cast-size-4 : tie.Need-cast-size-4
-cast-size-4 c = search needs
+cast-size-4 c = omega (arith, few (c .before .before) .2)
 
 size-requires-2 : tie.Need-size-requires-2
 size-requires-2 c κs = search needs
 
-refused-counts-requires-7 : tie.Need-refused-counts-requires-7
-refused-counts-requires-7 c κs = search needs
+refused-counts-requires-4 : tie.Need-refused-counts-requires-4
+refused-counts-requires-4 c κs = search needs
 
-returns-7 : tie.Need-returns-7
-returns-7 c =
-    let z = c .before .before in
-    let w = z .before .before .before .before .before .before in
-    c .refused-counts7 .ensures
-    ∙ sym (contents-refused w (wrong-end (bs-at w) (n-at w) (m-at w) (λ q. c .before .if7 .taken (q ∙ sym (z .size2 .ensures)))))
+returns-5 : tie.Need-returns-5
+returns-5 c =
+    let w = c .before .before .before .before .before .before .before .before in
+    c .refused-counts4 .ensures
+    ∙ sym (contents-refused w (wrong-end (bs-at w) (n-at w) (m-at w) (λ e. c .before .if4 .taken (e ∙ sym (c .before .before .size2 .ensures)))))
 
-returns-8 : tie.Need-returns-8
-returns-8 c =
-    let w = c .before .before .before .before .before .before .before in
-    sym (said-counts (bs-at w) (n-at w) (m-at w) (n-is w) (m-is w) (one (w .before .before)) (two c) (in-range (n-at w) (m-at w) (omega arith) (omega arith) (omega arith)))
+returns-6 : tie.Need-returns-6
+returns-6 c =
+    let t = c .before .before .before .before in
+    let w = t .before .before .before in
+    sym (said-counts (bs-at w) (n-at w) (m-at w) (n-is w) (m-is w) (one (w .before .before)) (two c) (three t))
 
 pub counts-spec : {M : Type 1} → statement M
 counts-spec =
@@ -205,18 +195,16 @@ counts-spec =
     div-n
     word-at-requires-2
     cast-m
-    refused-counts-requires-3
+    check-counts-requires
+    enum-known-r
     returns-3
-    refused-counts-requires-4
-    returns-4
-    refused-counts-requires-5
-    returns-5
+    enum-told
     contents-in-requires
-    refused-counts-requires-6
-    returns-6
+    refused-counts-requires-3
+    returns-4
     cast-size-3
     cast-size-4
     size-requires-2
-    refused-counts-requires-7
-    returns-7
-    returns-8)
+    refused-counts-requires-4
+    returns-5
+    returns-6)

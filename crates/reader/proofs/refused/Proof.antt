@@ -1,14 +1,16 @@
--- The sheet is the one that a refused file has. Assumes nothing.
-use mathlib.Core.Path.{refl}
+-- On the sheet of no streams and no gaps in words that are all 0 all is zero. Assumes nothing.
+use mathlib.Core.Path.{refl, ap, _∙_}
 use borrow.Author.Needs.{needs}
+use Rattle.judge.specs.declared.Checked.the-variants.{Refused}
+use Rattle.carried.proofs.Plans.{no-sheet}
 use Rattle.reader.proofs.refused.Statement.{statement}
 use Rattle.reader.proofs.refused.Tie as tie
 
-no-sheet-requires : tie.Need-no-sheet-requires
-no-sheet-requires c κs = search needs
+sheet-in-requires : tie.Need-sheet-in-requires
+sheet-in-requires c κs = search needs
 
 returns : tie.Need-returns
-returns c = rw (c .no-sheet .ensures) refl
+returns c = ap (λ s. record { answer = Refused (c .before .before .args .r); sheet = s }) (c .sheet-in .ensures ∙ no-sheet refl)
 
 pub refused-spec : {M : Type 1} → statement M
-refused-spec = tie.close (tie.spec no-sheet-requires returns)
+refused-spec = tie.close (tie.spec sheet-in-requires returns)

@@ -7,7 +7,7 @@ use native.Mathlib.Omega.{arith}
 use borrow.Author.Needs.{needs}
 use lib.ListN.{length}
 use Rattle.repeats.specs.Repeats.{repeatsAt, rowOf, firstRepeat}
-use Rattle.repeats.proofs.Rows.{NoneBelow, none-yet, none-more, found-at, found-none, some-none}
+use Rattle.laws.proofs.Rows.{NoneBelow, none-yet, none-more, found-at, found-none, some-none}
 use Rattle.repeats.proofs.first_repeat.Statement.{statement}
 use Rattle.repeats.proofs.first_repeat.Tie as tie
 

@@ -10,8 +10,8 @@ use borrow.Author.Needs.{needs}
 use borrow.Author.Tests.{eq-eqb, ne-eqb}
 use lib.Dec.{eqb}
 use lib.ListN.{getD}
-use Rattle.repeats.specs.Rows.{some}
-use Rattle.repeats.proofs.Rows.{flag-none, flag-up, flag-kept}
+use Rattle.laws.specs.Rows.{some}
+use Rattle.laws.proofs.Rows.{flag-none, flag-up, flag-kept}
 use Rattle.repeats.proofs.stand_before.Statement.{statement}
 use Rattle.repeats.proofs.stand_before.Tie as tie
 

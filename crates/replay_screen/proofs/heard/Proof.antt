@@ -1,6 +1,6 @@
 -- What is heard, as yes or no. Assumes nothing.
 use mathlib.Core.Path.{sym, ap, _∙_}
-use Rattle.replay_screen.specs.Private.{isHeard}
+use Rattle.replay_screen.specs.private.Begun.{isHeard}
 use borrow.Author.Needs.{needs}
 use Rattle.replay_screen.proofs.heard.Statement.{statement}
 use Rattle.replay_screen.proofs.heard.Tie as tie

@@ -4,7 +4,7 @@ use mathlib.Core.Bool.{cond}
 use mathlib.Core.List.{[]}
 use native.Mathlib.Omega.{arith}
 use Rattle.text.proofs.Laying.{is, none}
-use Rattle.replay_screen.specs.Words as word
+use Rattle.replay_screen.specs.Phrases as word
 use borrow.Author.Needs.{needs}
 use Rattle.replay_screen.proofs.lay_none.Statement.{statement}
 use Rattle.replay_screen.proofs.lay_none.Tie as tie

@@ -24,10 +24,10 @@ returns c =
     let n = c .before .before in
     let t = n .before .before .before .before in
     let i = t .before .before .before in
-    is (ap (λ b. rowText b (i .before .before .args .row)) (sym (i .if1 .taken))) (then (t .lay-text .ensures) (last (n .lay-number .ensures)) (omega arith))
+    is (ap (λ b. rowText b (i .before .before .args .row .0)) (sym (i .if1 .taken))) (then (t .lay-text .ensures) (last (n .lay-number .ensures)) (omega arith))
 
 returns-2 : tie.Need-returns-2
-returns-2 c = is (ap (λ b. rowText b (c .before .before .args .row)) (sym (c .if1 .left))) (none _ _ (omega arith))
+returns-2 c = is (ap (λ b. rowText b (c .before .before .args .row .0)) (sym (c .if1 .left))) (none _ _ (omega arith))
 
 pub lay-row-spec : {M : Type 1} → statement M
 lay-row-spec =

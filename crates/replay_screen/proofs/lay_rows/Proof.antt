@@ -9,7 +9,7 @@ use Rattle.names.specs.Limits.{contenders}
 use Rattle.laws.specs.Lists.{rows, those}
 use Rattle.text.specs.Put.{Lays}
 use Rattle.text.proofs.Laying.{is, then, last, none, same}
-use Rattle.replay_screen.specs.Words as word
+use Rattle.replay_screen.specs.Phrases as word
 use Rattle.replay_screen.specs.Shown.{marked, spaced}
 use Rattle.replay_screen.proofs.Rows.{markedTo, some?, spaced-more, some-more, all-rows}
 use borrow.Author.Needs.{needs}

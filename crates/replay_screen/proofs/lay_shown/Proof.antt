@@ -1,6 +1,6 @@
 -- The line of the refusal, or all lines of the tournament that was begun. Assumes nothing.
 use Rattle.text.proofs.Laying.{is}
-use Rattle.replay_screen.proofs.Play.{begun-of, shown-done, shown-refused}
+use Rattle.replay_screen.proofs.Play.{begun-of, shown-fine, shown-refused}
 use borrow.Author.Needs.{needs}
 use Rattle.replay_screen.proofs.lay_shown.Statement.{statement}
 use Rattle.replay_screen.proofs.lay_shown.Tie as tie
@@ -16,8 +16,8 @@ lay-played-requires c κs =
     let s = c .before .before .before in
     begun-of _ _ _ _ (s .start .ensures) (search needs) (c .before .enum-told .given .1)
 
-enum-known-answer : tie.Need-enum-known-answer
-enum-known-answer c = search needs
+enum-known-checked : tie.Need-enum-known-checked
+enum-known-checked c = search needs
 
 lay-refusal-requires : tie.Need-lay-refusal-requires
 lay-refusal-requires c κs = search needs
@@ -29,7 +29,7 @@ returns : tie.Need-returns
 returns c =
     let p = c .before .before in
     let t = p .before .before in
-    is (shown-done _ _ _ _ (t .before .before .start .ensures) (t .enum-told .given .1)) (p .lay-played .ensures)
+    is (shown-fine _ _ _ _ (t .before .before .start .ensures) (t .enum-told .given .1)) (p .lay-played .ensures)
 
 same-length-2 : tie.Need-same-length-2
 same-length-2 c = search needs
@@ -38,7 +38,7 @@ returns-2 : tie.Need-returns-2
 returns-2 c =
     let r = c .before .before in
     let a = r .before .before .before in
-    is (shown-refused _ _ _ _ (a .before .before .start .ensures) _ (a .answer .given .1)) (r .lay-refusal .ensures)
+    is (shown-refused _ _ _ _ (a .before .before .start .ensures) _ (a .checked .given .1)) (r .lay-refusal .ensures)
 
 pub lay-shown-spec : {M : Type 1} → statement M
 lay-shown-spec =
@@ -47,7 +47,7 @@ lay-shown-spec =
     start-requires
     enum-told
     lay-played-requires
-    enum-known-answer
+    enum-known-checked
     lay-refusal-requires
     same-length
     returns

@@ -1,7 +1,7 @@
 -- The first word is the bit count. Assumes nothing.
 use mathlib.Core.Path.{refl}
 use borrow.Author.Tests.{eq-eqb, ne-eqb}
-use Rattle.replay_words.specs.Private.{bitsWith}
+use Rattle.replay_words.specs.private.Reading.{bitsWith}
 use borrow.Author.Needs.{needs}
 use Rattle.replay_words.proofs.bits_with.Statement.{statement}
 use Rattle.replay_words.proofs.bits_with.Tie as tie

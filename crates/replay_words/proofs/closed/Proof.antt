@@ -1,6 +1,6 @@
 -- Each part of what is read, with one word more. Assumes nothing.
 use mathlib.Core.Path.{refl}
-use Rattle.replay_words.specs.Private.{closed}
+use Rattle.replay_words.specs.private.Reading.{closed}
 use borrow.Author.Needs.{needs}
 use Rattle.replay_words.proofs.closed.Statement.{statement}
 use Rattle.replay_words.proofs.closed.Tie as tie

@@ -1,5 +1,5 @@
 -- A word that has begun is over. Assumes nothing.
-use Rattle.replay_words.specs.Private.{closed}
+use Rattle.replay_words.specs.private.Reading.{closed}
 use borrow.Author.Needs.{needs}
 use Rattle.replay_words.proofs.closed_if.Statement.{statement}
 use Rattle.replay_words.proofs.closed_if.Tie as tie

@@ -6,7 +6,7 @@ use Prim.Native.Nat.{ℕ, _-_, _≤_}
 use native.Mathlib.Omega.{arith}
 use lib.Dec.{leb}
 use lib.ListN.{length, getD, take}
-use Rattle.repeats.proofs.Rows.{NoneBelow, none-yet, none-more, found-at, found-none}
+use Rattle.laws.proofs.Rows.{NoneBelow, none-yet, none-more, found-at, found-none}
 use Rattle.replay_words.specs.Parts.{hasWord, endsWith, endsAfter, over, orAll, firstEnd}
 use Rattle.replay_words.proofs.Parts.{has-more, ends-more, ends-few}
 use borrow.Author.Needs.{needs}

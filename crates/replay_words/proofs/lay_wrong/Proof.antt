@@ -1,7 +1,7 @@
 -- The parts of the line in their order. Assumes nothing.
 use native.Mathlib.Omega.{arith}
 use Rattle.text.proofs.Laying.{then, last}
-use Rattle.replay_words.specs.Words.{wrongLine}
+use Rattle.replay_words.specs.Handwritten.{wrongLine}
 use borrow.Author.Needs.{needs}
 use Rattle.replay_words.proofs.lay_wrong.Statement.{statement}
 use Rattle.replay_words.proofs.lay_wrong.Tie as tie

@@ -2,7 +2,7 @@
 use mathlib.Core.Path.{refl}
 use borrow.Author.Tests.{le-leb, lt-leb}
 use Rattle.names.specs.Limits.{ticks}
-use Rattle.replay_words.specs.Private.{orZero}
+use Rattle.replay_words.specs.private.Reading.{orZero}
 use borrow.Author.Needs.{needs}
 use Rattle.replay_words.proofs.or_zero.Statement.{statement}
 use Rattle.replay_words.proofs.or_zero.Tie as tie

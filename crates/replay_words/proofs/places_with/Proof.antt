@@ -3,7 +3,7 @@ use mathlib.Core.Path.{refl, sym}
 use native.Mathlib.Omega.{arith}
 use borrow.Author.Tests.{eq-eqb, ne-eqb}
 use lib.Seq.{set-out}
-use Rattle.replay_words.specs.Private.{placesWith}
+use Rattle.replay_words.specs.private.Reading.{placesWith}
 use borrow.Author.Needs.{needs}
 use Rattle.replay_words.proofs.places_with.Statement.{statement}
 use Rattle.replay_words.proofs.places_with.Tie as tie

@@ -1,7 +1,7 @@
 -- A byte parts words, or goes on with one. Assumes nothing.
 use mathlib.Core.Path.{refl}
 use borrow.Author.Tests.{le-leb, lt-leb}
-use Rattle.replay_words.specs.Private.{withByte}
+use Rattle.replay_words.specs.private.Reading.{withByte}
 use borrow.Author.Needs.{needs}
 use Rattle.replay_words.proofs.with_byte.Statement.{statement}
 use Rattle.replay_words.proofs.with_byte.Tie as tie

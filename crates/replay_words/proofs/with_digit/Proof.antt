@@ -3,7 +3,7 @@ use mathlib.Core.Path.{refl}
 use Prim.Native.Nat.{_+_, _-_, _*_}
 use borrow.Author.Tests.{le-leb, lt-leb}
 use Rattle.names.specs.Limits.{ticks}
-use Rattle.replay_words.specs.Private.{withDigit}
+use Rattle.replay_words.specs.private.Reading.{withDigit}
 use borrow.Author.Needs.{needs}
 use Rattle.replay_words.proofs.with_digit.Statement.{statement}
 use Rattle.replay_words.proofs.with_digit.Tie as tie

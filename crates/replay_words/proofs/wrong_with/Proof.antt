@@ -2,7 +2,7 @@
 use mathlib.Core.Path.{refl}
 use borrow.Author.Tests.{le-leb, lt-leb, eq-eqb, ne-eqb}
 use Rattle.names.specs.Limits.{ticks}
-use Rattle.replay_words.specs.Private.{wrongWith}
+use Rattle.replay_words.specs.private.Reading.{wrongWith}
 use borrow.Author.Needs.{needs}
 use Rattle.replay_words.proofs.wrong_with.Statement.{statement}
 use Rattle.replay_words.proofs.wrong_with.Tie as tie

@@ -5,13 +5,12 @@ use Prim.Native.Nat.{ℕ}
 use denote.Ref.{now}
 use lib.ListN.{replicate}
 use Rattle.names.specs.declared.Refusal.{Refusal}
-use Rattle.words.specs.Words.{wordsOf, laidOnto}
-use Rattle.fields.specs.Layout as layout
-use Rattle.fields.specs.Words.{planIn}
+use Rattle.carried.specs.Layout as layout
+use Rattle.carried.specs.Carried.{planIn}
 use Rattle.file.specs.declared.Counts.the-variants.{Of, Refused as Counts·Refused}
 use Rattle.file.specs.declared.Written.{Written}
 use Rattle.file.specs.declared.Written.the-variants.{Refused as Written·Refused}
-use Rattle.file.specs.File.{countsOf, writeWith, writeOf}
+use Rattle.file.specs.File.{countsOf, carriedOf, writeWith, writeOf}
 use Rattle.file.proofs.Carried.{not-counted, by-words}
 use Rattle.file.proofs.Writing.{write-refused}
 use Rattle.rewriter.specs.Rewriter.{rewriteAs, rewriteOf}
@@ -27,12 +26,12 @@ module _ (bytes buf : List ℕ) where
   unfolding rewriteOf writeOf
   not-read r e = not-counted (λ c s. rewriteAs c s buf) no (λ n m p. writeWith n m p buf) (λ s. refl) (λ r s. refl) (λ n m p. write-refused n m p buf) bytes r e
 
-  read : (n m : ℕ) → countsOf bytes ≡ Of n m → {ws : List ℕ} → ws ≡ laidOnto (wordsOf bytes) (replicate layout.largest 0) → rewriteOf bytes buf ≡ writeWith n m (planIn n m ws) buf
+  read : (n m : ℕ) → countsOf bytes ≡ Of n m → {ws : List ℕ} → ws ≡ carriedOf bytes (replicate layout.largest 0) → rewriteOf bytes buf ≡ writeWith n m (planIn n m ws) buf
   unfolding rewriteOf writeOf
   read n m e d = by-words (λ c s. rewriteAs c s buf) no (λ n m p. writeWith n m p buf) (λ s. refl) (λ r s. refl) (λ n m p. write-refused n m p buf) bytes n m e d
 
-counts-requires : tie.Need-counts-requires
-counts-requires c κs = search needs
+carry-requires : tie.Need-carry-requires
+carry-requires c κs = search needs
 
 enum-known-r : tie.Need-enum-known-r
 enum-known-r c = search needs
@@ -40,20 +39,14 @@ enum-known-r c = search needs
 enum-known-n : tie.Need-enum-known-n
 enum-known-n c = search needs
 
-slice-aggregate-words-into : tie.Need-slice-aggregate-words-into
-slice-aggregate-words-into c = search needs
-
-words-into-requires : tie.Need-words-into-requires
-words-into-requires c κs = search needs
-
 write-words-requires : tie.Need-write-words-requires
 write-words-requires c κs = search needs
 
 returns : tie.Need-returns
 returns c =
     let k = c .before .before .before in
-    let a = k .before .before .before .args in
-    let e = sym (not-read (now (a .file)) (now (a .out)) _ (sym (k .counts .ensures) ∙ c .before .r .given .1)) in
+    let a = k .before .before .before .before .args in
+    let e = sym (not-read (now (a .file)) (now (a .out)) _ (sym (k .carry .ensures .0) ∙ c .before .r .given .1)) in
     (ap (λ w. w .0) e, ap (λ w. w .1) e)
 
 same-length : tie.Need-same-length
@@ -62,22 +55,19 @@ same-length c = search needs
 returns-2 : tie.Need-returns-2
 returns-2 c =
     let w = c .before .before in
-    let i = w .before .before .before .before in
-    let n = i .before .before .before in
+    let n = w .before .before .before .before in
     let k = n .before .before in
-    let a = k .before .before .before .args in
-    let e = sym (read (now (a .file)) (now (a .out)) _ _ (sym (k .counts .ensures) ∙ n .n .given .1) (i .words-into .ensures)) in
+    let a = k .before .before .before .before .args in
+    let e = sym (read (now (a .file)) (now (a .out)) _ _ (sym (k .carry .ensures .0) ∙ n .n .given .1) (k .carry .ensures .1)) in
     (w .write-words .ensures .0 ∙ ap (λ p. p .0) e, w .write-words .ensures .1 ∙ ap (λ p. p .1) e)
 
 pub rewrite-spec : {M : Type 1} → statement M
 rewrite-spec =
     tie.close
     (tie.spec
-    counts-requires
+    carry-requires
     enum-known-r
     enum-known-n
-    slice-aggregate-words-into
-    words-into-requires
     write-words-requires
     returns
     same-length

@@ -7,15 +7,15 @@ use denote.Ref.{now}
 use borrow.Author.Needs.{needs}
 use Rattle.plan.specs.declared.Sheet.{Sheet}
 use Rattle.plan.specs.declared.Timing.{Timing}
-use Rattle.answers.specs.Words.{answerOf}
-use Rattle.screen.specs.declared.Lot.{Lot}
+use Rattle.answers.specs.Answers.{answerOf}
+use Rattle.screen.specs.declared.Taken.{Taken}
 use Rattle.laws.specs.Lists.{placed}
-use Rattle.screen.specs.Private.{sheetOf}
+use Rattle.screen.specs.private.Gathering.{sheetOf}
 use Rattle.screen.proofs.answered.Statement.{statement}
 use Rattle.screen.proofs.answered.Tie as tie
 
 -- the sheet that is made, with gaps that were copied
-made : (l : Lot) (t : Timing) (gaps copies : List ℕ) → copies ≡ placed 8 0 gaps
+made : (l : Taken) (t : Timing) (gaps copies : List ℕ) → copies ≡ placed 8 0 gaps
     → _≡_ {A = Sheet} (record { timing = t; streams = l .rows; count = l .count; gaps = copies; sources = length gaps }) (sheetOf l t gaps)
 unfolding sheetOf
 made l t gaps copies e = ap (λ g. record { timing = t; streams = l .rows; count = l .count; gaps = g; sources = length gaps }) e

@@ -43,15 +43,16 @@ use denote.Triple.Table.{entered, cited}
 use denote.Triple.Clauses.{ensured, lasts}
 use denote.Triple.Walked.{says, Stays, stay-none-slice, walkOf, Walks, ends-at, walked, goes-none-slice, walk-meets}
 use denote.Exit.{yes}
+use Rattle.names.specs.Limits.{streams}
 use Rattle.plan.specs.declared.Stream.{Stream}
-use Rattle.screen.specs.declared.Lot.{Lot}
+use Rattle.screen.specs.declared.Taken.{Taken}
 use Rattle.plan.specs.Plan.{blank}
-use Rattle.screen.specs.Private.{lotOf}
+use Rattle.screen.specs.private.Gathering.{takenOf}
 use Rattle.laws.proofs.Placed.{placedTo, placed-more, placed-all}
 use Rattle.plan.proofs.Stream as S
 use Rattle.plan.proofs.Stream.Laws as S′
-use Rattle.screen.proofs.Lot as T
-use Rattle.screen.proofs.Lot.Laws as T′
+use Rattle.screen.proofs.Taken as T
+use Rattle.screen.proofs.Taken.Laws as T′
 use Rattle.screen.proofs.empty as empty
 use Rattle.screen.proofs.empty.Symbol as empty-def
 use Rattle.screen.proofs.empty.Symbol.{name as #screen·empty}
@@ -89,28 +90,28 @@ more = seq (call #screen·stream-at (copy (place 1 []) ∷ copy (place 5 []) ∷
     (seq (call #screen·put (copy (place 4 []) ∷ copy (place 5 []) ∷ copy (place 7 []) ∷ []) (place 4 []))
     (assign (place 5 []) (op2 (add unsigned) (copy (place 5 [])) (int w64 1))))
 
-abbrev emptyLot : ℕ → Lot
-emptyLot n = record { rows = replicate 64 blank; count = n }
+abbrev emptyLot : ℕ → Taken
+emptyLot n = record { rows = replicate streams blank; count = n }
 
-abbrev putAt : Lot → ℕ → Stream → Lot
+abbrev putAt : Taken → ℕ → Stream → Taken
 putAt l i s = record { rows = set (l .rows) i s; count = l .count }
 
 -- the lot once the first i streams are in it
-unfoldable lotTo : List Stream → ℕ → Lot
-lotTo xs i = record { rows = placedTo 64 blank xs i; count = length xs }
+unfoldable lotTo : List Stream → ℕ → Taken
+lotTo xs i = record { rows = placedTo streams blank xs i; count = length xs }
 
 lot-none : (xs : List Stream) → emptyLot (length xs) ≡ lotTo xs 0
 unfolding lotTo
 lot-none xs = refl
 
-lot-more : (xs : List Stream) (i : ℕ) (st : Stream) (l : Lot) → i < 64 → i < length xs → st ≡ getD xs i blank → l ≡ putAt (lotTo xs i) i st → l ≡ lotTo xs (i + 1)
+lot-more : (xs : List Stream) (i : ℕ) (st : Stream) (l : Taken) → i < streams → i < length xs → st ≡ getD xs i blank → l ≡ putAt (lotTo xs i) i st → l ≡ lotTo xs (i + 1)
 unfolding lotTo
 lot-more xs i st l h k e e′ =
-    e′ ∙ ap (λ s. putAt (lotTo xs i) i s) e ∙ ap (λ ys. record { rows = ys; count = length xs }) (placed-more 64 blank xs i _ h k refl)
+    e′ ∙ ap (λ s. putAt (lotTo xs i) i s) e ∙ ap (λ ys. record { rows = ys; count = length xs }) (placed-more streams blank xs i _ h k refl)
 
-lot-all : (xs : List Stream) → lotTo xs (min (length xs) 64) ≡ lotOf xs
-unfolding lotTo lotOf
-lot-all xs = ap (λ ys. record { rows = ys; count = length xs }) (placed-all 64 blank xs)
+lot-all : (xs : List Stream) → lotTo xs (min (length xs) streams) ≡ takenOf xs
+unfolding lotTo takenOf
+lot-all xs = ap (λ ys. record { rows = ys; count = length xs }) (placed-all streams blank xs)
 
 module _ {M : Type 1} (𝓤 : URA M) (H : Heap 𝓤) (A : Atoms 𝓤) (mem : Memory → SProp 𝓤) (run : Routine → Fun 𝓤) where
   -- the contracts that the proof cites
@@ -136,7 +137,7 @@ module _ {M : Type 1} (𝓤 : URA M) (H : Heap 𝓤) (A : Atoms 𝓤) (W : Given
 
   -- how many are copied
   abbrev m : ℕ
-  m = min n 64
+  m = min n streams
 
   abbrev v : Val
   v = sliceVal (s .ptr) n
@@ -152,15 +153,15 @@ module _ {M : Type 1} (𝓤 : URA M) (H : Heap 𝓤) (A : Atoms 𝓤) (W : Given
 
   -- ---- the calls: what each is passed, what it asks, and what is known of its result
   abbrev to-smaller : Smaller 𝓤 H A mem run .Ghost
-  to-smaller = ((tt, tt, tt, (n, (64, tt)), (vint w64 n ∷ [], (vint w64 64 ∷ [], tt))), tt)
+  to-smaller = ((tt, tt, tt, (n, (streams, tt)), (vint w64 n ∷ [], (vint w64 streams ∷ [], tt))), tt)
 
   goes-smaller : ent 𝓤 (sem 𝓤 H A (usize .own n (vint w64 n ∷ []))) (Smaller 𝓤 H A mem run .pre to-smaller)
   goes-smaller =
-      qed W (‵ (usize .own n (vint w64 n ∷ [])) ∷ []) ∵ nothing ! $ owned ! usize (Is usize) (uint-makes 𝓤 H A W w64) 64 (vint w64 64 ∷ []) (refl, lit< tt) $ fjoin ! $ move ! (1 ∷ 0 ∷ []) $ fjoin ! $
+      qed W (‵ (usize .own n (vint w64 n ∷ [])) ∷ []) ∵ nothing ! $ owned ! usize (Is usize) (uint-makes 𝓤 H A W w64) streams (vint w64 streams ∷ []) (refl, lit< tt) $ fjoin ! $ move ! (1 ∷ 0 ∷ []) $ fjoin ! $
       nothing ! $ join ! $ frame ! $ done !
 
-  smaller-said : (r : ℕ) → ent 𝓤 (ensured 𝓤 H A smaller.ended (smaller.clauses 𝓤 H A mem run) tt (n, (64, tt)) tt r) (fact 𝓤 (r ≡ m))
-  smaller-said r = exE 𝓤 _ (λ ws. snd∗ 𝓤 (sem 𝓤 H A (lasts smaller.ended tt (n, (64, tt)) ws)) (fact 𝓤 (r ≡ m)))
+  smaller-said : (r : ℕ) → ent 𝓤 (ensured 𝓤 H A smaller.ended (smaller.clauses 𝓤 H A mem run) tt (n, (streams, tt)) tt r) (fact 𝓤 (r ≡ m))
+  smaller-said r = exE 𝓤 _ (λ ws. snd∗ 𝓤 (sem 𝓤 H A (lasts smaller.ended tt (n, (streams, tt)) ws)) (fact 𝓤 (r ≡ m)))
 
   abbrev to-empty : Empty 𝓤 H A mem run .Ghost
   to-empty = ((tt, tt, tt, (n, tt), (vint w64 n ∷ [], tt)), tt)
@@ -168,7 +169,7 @@ module _ {M : Type 1} (𝓤 : URA M) (H : Heap 𝓤) (A : Atoms 𝓤) (W : Given
   goes-empty : ent 𝓤 (sem 𝓤 H A (usize .own n (vint w64 n ∷ []))) (Empty 𝓤 H A mem run .pre to-empty)
   goes-empty = qed W (‵ (usize .own n (vint w64 n ∷ [])) ∷ []) ∵ nothing ! $ move ! (1 ∷ 0 ∷ []) $ fjoin ! $ nothing ! $ join ! $ frame ! $ done !
 
-  empty-said : (r : Lot) → ent 𝓤 (ensured 𝓤 H A empty.ended (empty.clauses 𝓤 H A mem run) tt (n, tt) tt r) (fact 𝓤 (r ≡ emptyLot n))
+  empty-said : (r : Taken) → ent 𝓤 (ensured 𝓤 H A empty.ended (empty.clauses 𝓤 H A mem run) tt (n, tt) tt r) (fact 𝓤 (r ≡ emptyLot n))
   empty-said r = exE 𝓤 _ (λ ws. snd∗ 𝓤 (sem 𝓤 H A (lasts empty.ended tt (n, tt) ws)) (fact 𝓤 (r ≡ emptyLot n)))
 
   abbrev to-at : ℕ → StreamAt 𝓤 H A mem run .Ghost
@@ -186,18 +187,18 @@ module _ {M : Type 1} (𝓤 : URA M) (H : Heap 𝓤) (A : Atoms 𝓤) (W : Given
   at-said : (i : ℕ) (r : Stream) → ent 𝓤 (ensured 𝓤 H A stream-at.ended (stream-at.clauses 𝓤 H A mem run) (κ, tt) (s, (i, tt)) tt r) (fact 𝓤 (r ≡ getD xs i blank))
   at-said i r = exE 𝓤 _ (λ ws. snd∗ 𝓤 (sem 𝓤 H A (lasts stream-at.ended (κ, tt) (s, (i, tt)) ws)) (fact 𝓤 (r ≡ getD xs i blank)))
 
-  abbrev to-put : Lot → Val → ℕ → Stream → Val → Put 𝓤 H A mem run .Ghost
+  abbrev to-put : Taken → Val → ℕ → Stream → Val → Put 𝓤 H A mem run .Ghost
   to-put l u i st w = ((tt, tt, tt, (l, (i, (st, tt))), (u ∷ [], (vint w64 i ∷ [], (w ∷ [], tt)))), tt)
 
-  goes-put : (l : Lot) (u : Val) (i : ℕ) (st : Stream) (w : Val) → Is L l (u ∷ []) → i < 2 ^ 64 → i < 64 → ent 𝓤 (sem 𝓤 H A (R .own st (w ∷ []))) (Put 𝓤 H A mem run .pre (to-put l u i st w))
+  goes-put : (l : Taken) (u : Val) (i : ℕ) (st : Stream) (w : Val) → Is L l (u ∷ []) → i < 2 ^ 64 → i < streams → ent 𝓤 (sem 𝓤 H A (R .own st (w ∷ []))) (Put 𝓤 H A mem run .pre (to-put l u i st w))
   goes-put l u i st w is fits few =
       qed W (‵ (R .own st (w ∷ [])) ∷ []) ∵ nothing ! $ move ! (1 ∷ 0 ∷ []) $ fjoin ! $ owned ! usize (Is usize) (uint-makes 𝓤 H A W w64) i (vint w64 i ∷ []) (refl, fits) $ fjoin ! $
       owned ! L (Is L) (LL.makes T.the-type T′.the-plain 𝓤 H A) l (u ∷ []) is $ fjoin ! $ nothing ! $ says ! few $ frame ! $ done !
 
-  put-said : (l : Lot) (i : ℕ) (st : Stream) (r : Lot) → ent 𝓤 (ensured 𝓤 H A put.ended (put.clauses 𝓤 H A mem run) tt (l, (i, (st, tt))) tt r) (fact 𝓤 (r ≡ putAt l i st))
+  put-said : (l : Taken) (i : ℕ) (st : Stream) (r : Taken) → ent 𝓤 (ensured 𝓤 H A put.ended (put.clauses 𝓤 H A mem run) tt (l, (i, (st, tt))) tt r) (fact 𝓤 (r ≡ putAt l i st))
   put-said l i st r = exE 𝓤 _ (λ ws. snd∗ 𝓤 (sem 𝓤 H A (lasts put.ended tt (l, (i, (st, tt))) ws)) (fact 𝓤 (r ≡ putAt l i st)))
 
-  exits : (l : Lot) (u : Val) → Is L l (u ∷ []) → l ≡ lotOf xs → ent 𝓤 (⋆ 𝓤 H A (tok ∷ ‵ Own ∷ [])) (Post u)
+  exits : (l : Taken) (u : Val) → Is L l (u ∷ []) → l ≡ takenOf xs → ent 𝓤 (⋆ 𝓤 H A (tok ∷ ‵ Own ∷ [])) (Post u)
   exits l u is e =
       qed W (tok ∷ ‵ Own ∷ []) ∵ owned ! L (Is L) (LL.makes T.the-type T′.the-plain 𝓤 H A) l (u ∷ []) is $
       suffices ! _ (ends-at 𝓤 H A gathered.ended stayed (gathered.clauses 𝓤 H A mem run) W (((κ, tt), (q, tt), tt, (s, tt), (v ∷ [], tt)), tt) u l (tt, tt) (tt, tt)) $ says ! e $
@@ -249,19 +250,19 @@ module _ {M : Type 1} (𝓤 : URA M) (H : Heap 𝓤) (A : Atoms 𝓤) (W : Given
 
       -- i is a row of the list, and of the lot
       within : T (ltb i m) → i < n
-      within less = lt-of-lt-of-le (ltb→lt i m less) (min-le-left n 64)
+      within less = lt-of-lt-of-le (ltb→lt i m less) (min-le-left n streams)
 
-      few : T (ltb i m) → i < 64
-      few less = lt-of-lt-of-le (ltb→lt i m less) (min-le-right n 64)
+      few : T (ltb i m) → i < streams
+      few less = lt-of-lt-of-le (ltb→lt i m less) (min-le-right n streams)
 
       fits : i < 2 ^ 64
-      fits = lt-of-le-of-lt (le-trans (t .1) (min-le-left n 64)) gn
+      fits = lt-of-le-of-lt (le-trans (t .1) (min-le-left n streams)) gn
 
       next-fits : T (ltb i m) → i + 1 < 2 ^ 64
       next-fits less = lt-of-le-of-lt (add-one-le (within less)) gn
 
-      abbrev next : T (ltb i m) → (u′ : Val) (r : Lot) → r ≡ lotTo xs (i + 1) → Is L r (u′ ∷ []) → State
-      next less u′ r e is = (i + 1, add-one-le (ltb→lt i m less), u′, subst (λ (l : Lot). Is L l (u′ ∷ [])) e is)
+      abbrev next : T (ltb i m) → (u′ : Val) (r : Taken) → r ≡ lotTo xs (i + 1) → Is L r (u′ ∷ []) → State
+      next less u′ r e is = (i + 1, add-one-le (ltb→lt i m less), u′, subst (λ (l : Taken). Is L l (u′ ∷ [])) e is)
 
       turns : Sq W (At t) (runs C Λ En text.turn-1 (anyQ (Turned t)))
       unfolding afterTurn
@@ -281,7 +282,7 @@ module _ {M : Type 1} (𝓤 : URA M) (H : Heap 𝓤) (A : Atoms 𝓤) (W : Given
           use1 W (raw (Put 𝓤 H A mem run .pre (to-put (lotTo xs i) u i st w))) (goes-put (lotTo xs i) u i st w (t .3) fits (few less)) $
           calls-at ! fm (Put 𝓤 H A mem run) known-put (to-put (lotTo xs i) u i st w)
           (and-then ! (load ! (from ! (stop !)) (look ! 9 refl)) (and-then ! (load ! (from ! (stop !)) (look ! 7 refl)) (and-then ! (load ! (from ! (stop !)) (look ! 3 refl)) (no-more !)))) (λ u′.
-          use1 W (later (some (λ (r : Lot). (‵ ftrue ⊛ ‵ (L .own r (u′ ∷ []))) ⊛ raw (ensured 𝓤 H A put.ended (put.clauses 𝓤 H A mem run) tt (lotTo xs i, (i, (st, tt))) tt r)))) (id⊢ 𝓤 _) $ await ! tt $ pick ! (λ r.
+          use1 W (later (some (λ (r : Taken). (‵ ftrue ⊛ ‵ (L .own r (u′ ∷ []))) ⊛ raw (ensured 𝓤 H A put.ended (put.clauses 𝓤 H A mem run) tt (lotTo xs i, (i, (st, tt))) tt r)))) (id⊢ 𝓤 _) $ await ! tt $ pick ! (λ r.
           split ! $ move ! (1 ∷ []) $ use1 W (raw (fact 𝓤 (r ≡ putAt (lotTo xs i) i st))) (put-said (lotTo xs i) i st r) $ heard ! (r ≡ putAt (lotTo xs i) i st) (λ e′. split ! $ drop ! $
           peeks ! L (Is L) (shows 𝓤 H A L) r (u′ ∷ []) (λ is′.
           land ! (from ! (stop !)) (store ! 9 refl (LL.lawful T.the-type T′.the-laws 𝓤 H A W .typed r _ is′ .0)) $
@@ -309,13 +310,13 @@ module _ {M : Type 1} (𝓤 : URA M) (H : Heap 𝓤) (A : Atoms 𝓤) (W : Given
       assigns ! (of-opd ! (load ! (from ! (fld ! refl (stop !))) (look-in ! 12 (sub ! 1 refl (whole !))))) (from ! (stop !)) (init ! 10 refl (tt, record { fits = gn })) $
       owned ! usize (Is usize) (uint-makes 𝓤 H A W w64) n (vint w64 n ∷ []) (refl, gn) $ use1 W (raw (Smaller 𝓤 H A mem run .pre to-smaller)) goes-smaller $
       calls-at ! fm (Smaller 𝓤 H A mem run) known-smaller to-smaller (and-then ! (load ! (from ! (stop !)) (look ! 11 refl)) (and-then ! (lit ! tt) (no-more !))) (λ w.
-      use1 W (later (some (λ (r : ℕ). (‵ ftrue ⊛ ‵ (usize .own r (w ∷ []))) ⊛ raw (ensured 𝓤 H A smaller.ended (smaller.clauses 𝓤 H A mem run) tt (n, (64, tt)) tt r)))) (id⊢ 𝓤 _) $ await ! tt $ pick ! (λ k.
+      use1 W (later (some (λ (r : ℕ). (‵ ftrue ⊛ ‵ (usize .own r (w ∷ []))) ⊛ raw (ensured 𝓤 H A smaller.ended (smaller.clauses 𝓤 H A mem run) tt (n, (streams, tt)) tt r)))) (id⊢ 𝓤 _) $ await ! tt $ pick ! (λ k.
       split ! $ move ! (1 ∷ []) $ use1 W (raw (fact 𝓤 (k ≡ m))) (smaller-said k) $ heard ! (k ≡ m) (λ ek. split ! $ drop ! $ rewrite ! 0 (λ (j : ℕ). ‵ (usize .own j (w ∷ []))) ek refl $
       peeks ! usize (Is usize) (shows 𝓤 H A usize) m (w ∷ []) (λ isk.
       land ! (from ! (stop !)) (init ! 9 refl (uint-lawful 𝓤 H A W w64 .typed m _ isk .0)) $ drop ! $ rewrite ! 8 (λ (z : Val). ‵ (fat fullShare word l₃ 0 z)) (ap only (isk .0)) refl $
       owned ! usize (Is usize) (uint-makes 𝓤 H A W w64) n (vint w64 n ∷ []) (refl, gn) $ use1 W (raw (Empty 𝓤 H A mem run .pre to-empty)) goes-empty $
       calls-at ! fm (Empty 𝓤 H A mem run) known-empty to-empty (and-then ! (load ! (from ! (stop !)) (look ! 11 refl)) (no-more !)) (λ u.
-      use1 W (later (some (λ (r : Lot). (‵ ftrue ⊛ ‵ (L .own r (u ∷ []))) ⊛ raw (ensured 𝓤 H A empty.ended (empty.clauses 𝓤 H A mem run) tt (n, tt) tt r)))) (id⊢ 𝓤 _) $ await ! tt $ pick ! (λ r.
+      use1 W (later (some (λ (r : Taken). (‵ ftrue ⊛ ‵ (L .own r (u ∷ []))) ⊛ raw (ensured 𝓤 H A empty.ended (empty.clauses 𝓤 H A mem run) tt (n, tt) tt r)))) (id⊢ 𝓤 _) $ await ! tt $ pick ! (λ r.
       split ! $ move ! (1 ∷ []) $ use1 W (raw (fact 𝓤 (r ≡ emptyLot n))) (empty-said r) $ heard ! (r ≡ emptyLot n) (λ e. split ! $ drop ! $
       peeks ! L (Is L) (shows 𝓤 H A L) r (u ∷ []) (λ is.
       land ! (from ! (stop !)) (init ! 7 refl (LL.lawful T.the-type T′.the-laws 𝓤 H A W .typed r _ is .0)) $
@@ -323,7 +324,7 @@ module _ {M : Type 1} (𝓤 : URA M) (H : Heap 𝓤) (A : Atoms 𝓤) (W : Given
       -- [what the lot owns; _7; …; _0; …; the token; what streams owns]
       drop ! $ move ! (17 ∷ []) $ fsplit ! $ keep ! (2 ∷ 3 ∷ 4 ∷ 5 ∷ 6 ∷ 7 ∷ 8 ∷ 9 ∷ 10 ∷ 11 ∷ 12 ∷ 13 ∷ 14 ∷ 15 ∷ 16 ∷ 17 ∷ 18 ∷ 0 ∷ []) $
       loop-on 𝓣 fm known-put known-at l₀ l₁ l₂ l₃ l₄ l₅ l₆ l₇
-      (0, zero-le, u, subst (λ (l : Lot). Is L l (u ∷ [])) (e ∙ lot-none xs) is)))))))))))))))))
+      (0, zero-le, u, subst (λ (l : Taken). Is L l (u ∷ [])) (e ∙ lot-none xs) is)))))))))))))))))
 
 module _ {M : Type 1} (𝓤 : URA M) (H : Heap 𝓤) (A : Atoms 𝓤) (W : Given 𝓤 H A) (mem : Memory → SProp 𝓤) (run : Routine → Fun 𝓤) (𝓣 : Tables 𝓤 H)
     (known-smaller : Triple 𝓤 (𝓣 .C #laws·smaller) (Smaller 𝓤 H A mem run)) (known-empty : Triple 𝓤 (𝓣 .C #screen·empty) (Empty 𝓤 H A mem run))

@@ -39,18 +39,18 @@ use denote.Exit.{yes}
 use Rattle.plan.specs.declared.Stream.{Stream}
 use Rattle.plan.specs.declared.Timing.{Timing}
 use Rattle.plan.specs.declared.Sheet.{Sheet}
-use Rattle.screen.specs.declared.Lot.{Lot}
-use Rattle.checks.specs.declared.Checked.{Checked}
-use Rattle.answers.specs.Words.{answerOf}
+use Rattle.screen.specs.declared.Taken.{Taken}
+use Rattle.judge.specs.declared.Checked.{Checked}
+use Rattle.answers.specs.Answers.{answerOf}
 use Rattle.screen.specs.Screen.{sheetFor}
-use Rattle.screen.specs.Private.{lotOf, sheetOf}
+use Rattle.screen.specs.private.Gathering.{takenOf, sheetOf}
 use Rattle.plan.proofs.Stream as S
-use Rattle.screen.proofs.Lot as T
-use Rattle.screen.proofs.Lot.Laws as T′
+use Rattle.screen.proofs.Taken as T
+use Rattle.screen.proofs.Taken.Laws as T′
 use Rattle.plan.proofs.Timing as Z
 use Rattle.plan.proofs.Timing.Laws as Z′
-use Rattle.checks.proofs.Checked as N
-use Rattle.checks.proofs.Checked.Laws as N′
+use Rattle.judge.proofs.Checked as N
+use Rattle.judge.proofs.Checked.Laws as N′
 use Rattle.screen.proofs.gathered as gathered
 use Rattle.screen.proofs.gathered.Symbol as gathered-def
 use Rattle.screen.proofs.gathered.Symbol.{name as #screen·gathered}
@@ -73,8 +73,8 @@ L = T.the-row
 abbrev D : RattleType
 D = Z.the-row
 
-sheet-is : (xs : List Stream) (t : Timing) (gaps : List ℕ) (l : Lot) → l ≡ lotOf xs → sheetOf l t gaps ≡ sheetFor xs t gaps
-unfolding sheetOf sheetFor lotOf
+sheet-is : (xs : List Stream) (t : Timing) (gaps : List ℕ) (l : Taken) → l ≡ takenOf xs → sheetOf l t gaps ≡ sheetFor xs t gaps
+unfolding sheetOf sheetFor takenOf
 sheet-is xs t gaps l e = ap (λ l. sheetOf l t gaps) e
 
 abbrev stayed : Stays (screen.ended .signature .params) (screen.ended .kept)
@@ -157,14 +157,14 @@ module _ {M : Type 1} (𝓤 : URA M) (H : Heap 𝓤) (A : Atoms 𝓤) (W : Given
       -- [pre; OwnX; OwnG; OwnS; κ₂; κ₁]
       move ! (2 ∷ 1 ∷ []) $ join ! $ move ! (3 ∷ 0 ∷ []) $ join ! $ move ! (3 ∷ 0 ∷ []) $ join ! $ move ! (2 ∷ 0 ∷ []) $ join ! $ move ! (1 ∷ 0 ∷ []) $ done !
 
-  gathered-said : (r : Lot) → ent 𝓤 (ensured 𝓤 H A gathered.ended (gathered.clauses 𝓤 H A mem run) (κ₀, tt) (s, tt) tt r) (fact 𝓤 (r ≡ lotOf (s .now)))
-  gathered-said r = exE 𝓤 _ (λ ws. snd∗ 𝓤 (sem 𝓤 H A (lasts gathered.ended (κ₀, tt) (s, tt) ws)) (fact 𝓤 (r ≡ lotOf (s .now))))
+  gathered-said : (r : Taken) → ent 𝓤 (ensured 𝓤 H A gathered.ended (gathered.clauses 𝓤 H A mem run) (κ₀, tt) (s, tt) tt r) (fact 𝓤 (r ≡ takenOf (s .now)))
+  gathered-said r = exE 𝓤 _ (λ ws. snd∗ 𝓤 (sem 𝓤 H A (lasts gathered.ended (κ₀, tt) (s, tt) ws)) (fact 𝓤 (r ≡ takenOf (s .now))))
 
   -- ---- the call of `answered`, at the lot l with the machine value u
-  abbrev to-answered : Lot → Val → Answered 𝓤 H A mem run .Ghost
+  abbrev to-answered : Taken → Val → Answered 𝓤 H A mem run .Ghost
   to-answered l u = (((κ₁, (κ₂, tt)), (q₁, (q₂, tt)), tt, (l, (t, (g, (x, tt)))), (u ∷ [], (vt ∷ [], (vg ∷ [], (vx ∷ [], tt))))), tt)
 
-  goes-answered : (l : Lot) (u : Val) → ent 𝓤 (⋆ 𝓤 H A (‵ (L .own l (u ∷ [])) ∷ kept ∷ []))
+  goes-answered : (l : Taken) (u : Val) → ent 𝓤 (⋆ 𝓤 H A (‵ (L .own l (u ∷ [])) ∷ kept ∷ []))
       (⋆ 𝓤 H A (raw (Answered 𝓤 H A mem run .pre (to-answered l u)) ∷ kept′ ∷ []))
   goes-answered l u =
       qed W (‵ (L .own l (u ∷ [])) ∷ kept ∷ []) ∵ move ! (1 ∷ []) $ split ! $ move ! (1 ∷ []) $ split ! $ move ! (1 ∷ []) $ split ! $ move ! (1 ∷ []) $ split ! $
@@ -200,8 +200,8 @@ module _ {M : Type 1} (𝓤 : URA M) (H : Heap 𝓤) (A : Atoms 𝓤) (W : Given
         -- [_7; …; _6; …; _5; …; _4; …; _3; …; _2; …; _1; …; _0; …; the tokens; what the parameters own]
         move ! (16 ∷ 17 ∷ []) $ use2 W (raw (Gathered 𝓤 H A mem run .pre to-gathered) ⊛ kept) goes-gathered $ split ! $
         calls-at ! fm (Gathered 𝓤 H A mem run) known-gathered to-gathered (and-then ! (load ! (from ! (stop !)) (look ! 14 refl)) (no-more !)) (λ u.
-        use1 W (later (some (λ (r : Lot). (tok₀ ⊛ ‵ (L .own r (u ∷ []))) ⊛ raw (ensured 𝓤 H A gathered.ended (gathered.clauses 𝓤 H A mem run) (κ₀, tt) (s, tt) tt r)))) (id⊢ 𝓤 _) $ await ! tt $ pick ! (λ l.
-        split ! $ move ! (1 ∷ []) $ use1 W (raw (fact 𝓤 (l ≡ lotOf (s .now)))) (gathered-said l) $ heard ! (l ≡ lotOf (s .now)) (λ el. split ! $ move ! (1 ∷ []) $
+        use1 W (later (some (λ (r : Taken). (tok₀ ⊛ ‵ (L .own r (u ∷ []))) ⊛ raw (ensured 𝓤 H A gathered.ended (gathered.clauses 𝓤 H A mem run) (κ₀, tt) (s, tt) tt r)))) (id⊢ 𝓤 _) $ await ! tt $ pick ! (λ l.
+        split ! $ move ! (1 ∷ []) $ use1 W (raw (fact 𝓤 (l ≡ takenOf (s .now)))) (gathered-said l) $ heard ! (l ≡ takenOf (s .now)) (λ el. split ! $ move ! (1 ∷ []) $
         -- [the lot; κ₀'s token; what is kept; _7; …; _6; …; _5; …; _4; …; _3; …; _2; …; _1; …; _0; …]
         peeks ! L (Is L) (shows 𝓤 H A L) l (u ∷ []) (λ isl.
         land ! (from ! (stop !)) (init ! 7 refl (LL.lawful T.the-type T′.the-laws 𝓤 H A W .typed l _ isl .0)) $

@@ -1,16 +1,18 @@
 -- After i turns the first i lent bytes have the first i marks, and the others are as found. Assumes nothing.
 use mathlib.Core.Path.{_≡_, refl, _∙_}
+use mathlib.Core.Bool.{false}
 use Prim.Native.Nat.{_-_, _≤_}
 use native.Mathlib.Omega.{arith}
 use borrow.Author.Needs.{needs}
-use lib.ListN.{length, length-set}
+use lib.ListN.{length, getD, length-set}
 use denote.Ref.{now}
-use Rattle.states.proofs.Placed.{writtenTo, written-more, written-all}
+use Rattle.states.specs.States.{byte}
+use Rattle.states.proofs.Placed.{laidTo, laid-none, laid-more, written-all}
 use Rattle.states.proofs.marks_into.Statement.{statement}
 use Rattle.states.proofs.marks_into.Tie as tie
 
 abbrev Inv-loop : tie.InvT-loop
-Inv-loop out₀ marks n i₀ out i = (i ≤ n) × (out ≡ writtenTo marks out₀ i) × (length out ≡ length out₀)
+Inv-loop out₀ marks n i₀ out i = (i ≤ n) × (out ≡ laidTo (λ k. byte (getD marks k false)) out₀ i) × (length out ≡ length out₀)
 
 abbrev μ-loop : tie.MeasureT-loop
 μ-loop out₀ marks n i₀ out i = n - i
@@ -19,7 +21,7 @@ smaller-requires : tie.Need-smaller-requires Inv-loop μ-loop
 smaller-requires c κs = search needs
 
 loop-holds : tie.Need-loop-holds Inv-loop μ-loop
-loop-holds c = (omega arith, refl, refl)
+loop-holds c = (omega arith, laid-none _ _, refl)
 
 array-read-byte : tie.Need-array-read-byte Inv-loop μ-loop
 array-read-byte c = search needs
@@ -42,7 +44,7 @@ loop-again c =
     let a = c .before .before .before in
     let s = a .before .before .args in (
       omega arith,
-      written-more (s .t1) (now (s .out)) (l .i) _ (l .out) (search needs) (omega (arith, a .smaller .ensures)) (l .inv .1) (c .byte .ensures),
+      laid-more _ (now (s .out)) (l .i) _ (l .out) (omega (arith, a .smaller .ensures)) (l .inv .1) (c .byte .ensures),
       simp length-set (l .inv .2),
     )
 

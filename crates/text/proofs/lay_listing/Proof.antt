@@ -1,15 +1,19 @@
 -- The header, and then each turn lays one row's line.
 use mathlib.Core.Path.{_≡_, sym, ap, _∙_}
 use mathlib.Core.List.{_++_}
-use Prim.Native.Nat.{_-_, _≤_, min}
+use Prim.Native.Nat.{_-_, _≤_, _<_, min}
 use native.Mathlib.Omega.{arith}
 use borrow.Author.Needs.{needs}
-use lib.ListN.{length, take, length-map}
+use lib.ListN.{length, take, getD, length-map}
+use denote.Ref.{now}
 use Rattle.names.specs.Limits.{streams}
-use Rattle.laws.proofs.Lists.{take-min}
+use Rattle.laws.proofs.Lists.{take-min, rows-at, length-rows}
+use Rattle.bound.specs.declared.Answer.{Answer}
+use Rattle.bound.specs.declared.Verdict.the-variants.{None}
+use Rattle.row_words.specs.RowWords.{answerAt, answersIn}
 use Rattle.plan.specs.Plan.{blank}
 use Rattle.plan.proofs.Stream as stream
-use Rattle.text.specs.Listing.{header, rows, listingOf}
+use Rattle.text.specs.Listing.{header, row, rowLines, listingOf}
 use Rattle.text.specs.Put.{Lays}
 use Rattle.text.proofs.Laying.{none, then, last, is, same}
 use Rattle.text.proofs.Rows.{rows-more, rows-all}
@@ -17,11 +21,11 @@ use Rattle.text.proofs.lay_listing.Statement.{statement}
 use Rattle.text.proofs.lay_listing.Tie as tie
 
 abbrev Inv-loop : tie.InvT-loop
-Inv-loop out₀ at sheet answers n next₀ k₀ out next k =
-    (k ≤ n) × Lays out₀ next₀ (rows (take k (sheet .streams)) (take k answers)) next out
+Inv-loop out₀ at words sheet n next₀ k₀ out next k =
+    (k ≤ n) × Lays out₀ next₀ (rowLines (take k (sheet .streams)) (take k (answersIn (sheet .count) words))) next out
 
 abbrev μ-loop : tie.MeasureT-loop
-μ-loop out₀ at sheet answers n next₀ k₀ out next k = n - k
+μ-loop out₀ at words sheet n next₀ k₀ out next k = n - k
 
 -- how many places a sheet has
 places : (c : tie.Start Inv-loop μ-loop) → length (c .args .t3 .streams) ≡ streams
@@ -34,7 +38,7 @@ lay-header-requires : tie.Need-lay-header-requires Inv-loop μ-loop
 lay-header-requires c κs = search needs
 
 loop-holds : tie.Need-loop-holds Inv-loop μ-loop
-unfolding rows
+unfolding rowLines
 loop-holds c = (omega arith, none _ _ (omega arith))
 
 mul-stream : tie.Need-mul-stream Inv-loop μ-loop
@@ -43,11 +47,8 @@ mul-stream c = search needs
 element-copy-out-stream : tie.Need-element-copy-out-stream Inv-loop μ-loop
 element-copy-out-stream c = search needs
 
-mul-answer : tie.Need-mul-answer Inv-loop μ-loop
-mul-answer c = search needs
-
-array-copy-out-answer : tie.Need-array-copy-out-answer Inv-loop μ-loop
-array-copy-out-answer c = search needs
+answer-in-requires : tie.Need-answer-in-requires Inv-loop μ-loop
+answer-in-requires c κs = search needs
 
 lay-row-requires : tie.Need-lay-row-requires Inv-loop μ-loop
 lay-row-requires c κs = search needs
@@ -60,25 +61,35 @@ loop-less c = search needs
 
 loop-again : tie.Need-loop-again Inv-loop μ-loop
 loop-again c =
-    let d = c .before .before .before .before .before .before in
+    let r = c .before .before in
+    let a = r .before in
+    let d = a .before .before .before in
     let l = d .before .loop in
-    let h = d .before .before .before .before in
-    let s = h .before .before .before .before in
-    let g : length (s .args .t4) ≡ streams = search needs in (
+    let n = d .before .before .before .before .before .before in
+    let s = n .before .before .before in
+    let ss = s .args .t3 .streams in
+    let answers = answersIn (s .args .t3 .count) (now (s .args .answers)) in
+    let nobody : Answer = record { verdict = None; bound = 0 } in
+    let few : l .k < s .args .t3 .count = omega (arith, d .loop-test .taken, n .smaller .ensures) in
+    let given : a .answer-in .result ≡ getD answers (l .k) nobody = a .answer-in .ensures ∙ sym (rows-at _ _ nobody (l .k) few) in (
       omega arith,
-      is (rows-more (l .k) (s .args .t3 .streams) (s .args .t4) blank _ (omega (arith, places s, d .loop-test .taken, h .before .before .smaller .ensures)) (omega (arith, d .loop-test .taken, h .before .before .smaller .ensures))) (then (l .inv .1) (last (c .before .before .lay-row .ensures)) (omega arith)),
+      is (ap (λ x. rowLines (take (l .k) ss) (take (l .k) answers) ++ row (getD ss (l .k) blank) x) given
+          ∙ rows-more (l .k) ss answers blank nobody (omega (arith, places s, d .loop-test .taken, n .smaller .ensures)) (omega (arith, few, length-rows (s .args .t3 .count) (answerAt (now (s .args .answers))))))
+          (then (l .inv .1) (last (r .lay-row .ensures)) (omega arith)),
     )
 
 returns : tie.Need-returns Inv-loop μ-loop
 unfolding listingOf
 returns c =
     let h = c .before .before .before .before in
-    let s = h .before .before .before .before in
+    let n = h .before .before in
+    let s = n .before .before .before in
     let ss = s .args .t3 .streams in
-    let n : c .before .loop .k ≡ min (s .args .t3 .count) streams = omega (arith, c .before .loop .inv .0, c .loop-test .left, h .before .before .smaller .ensures) in
-    let m : length ss ≤ streams = omega (arith, places s) in
-    let e : take (c .before .loop .k) ss ≡ take (s .args .t3 .count) ss = ap (λ k. take k ss) n ∙ take-min (s .args .t3 .count) streams ss m in
-    is (ap (λ t. header ++ t) (rows-all (c .before .loop .k) ss (s .args .t4) ∙ ap (λ t. rows t (s .args .t4)) e))
+    let count = s .args .t3 .count in
+    let answers = answersIn count (now (s .args .answers)) in
+    let k : c .before .loop .k ≡ min count streams = omega (arith, c .before .loop .inv .0, c .loop-test .left, n .smaller .ensures) in
+    let e : take (c .before .loop .k) ss ≡ take count ss = ap (λ k. take k ss) k ∙ take-min count streams ss (omega (arith, places s)) in
+    is (ap (λ t. header ++ t) (rows-all (c .before .loop .k) ss answers ∙ ap (λ t. rowLines t answers) e))
     (then (h .lay-header .ensures) (last (c .before .loop .inv .1)) (omega arith))
 
 same-length : tie.Need-same-length Inv-loop μ-loop
@@ -95,8 +106,7 @@ lay-listing-spec =
     loop-holds
     mul-stream
     element-copy-out-stream
-    mul-answer
-    array-copy-out-answer
+    answer-in-requires
     lay-row-requires
     add-k
     loop-less

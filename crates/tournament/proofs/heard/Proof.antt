@@ -1,23 +1,18 @@
 -- The loop leaves at the first marked contender with a 0, so no row behind it is one. Assumes nothing.
 use mathlib.Core.Path.{_≡_, refl, sym, _∙_}
-use mathlib.Core.Bool.{Bool, false, _&&_}
+use mathlib.Core.Bool.{false}
 use mathlib.Core.Logic.{⊎-elim}
-use Prim.Native.Nat.{ℕ, _-_, _≤_}
+use Prim.Native.Nat.{_-_, _≤_}
 use native.Mathlib.Omega.{arith}
 use borrow.Author.Tests.{eq-eqb, ne-eqb}
-use Rattle.repeats.proofs.Rows.{NoneBelow, none-yet, none-more, some-at, some-none}
-use Rattle.tournament_state.specs.declared.Tournament.{Tournament}
-use Rattle.tournament.specs.Rule.{isIn, hasZero, heardAt}
+use Rattle.laws.proofs.Rows.{NoneBelow, none-yet, none-more, some-at, some-none}
+use Rattle.tournament.specs.Rule.{inWithZero, heardAt}
 use borrow.Author.Needs.{needs}
 use Rattle.tournament.proofs.heard.Statement.{statement}
 use Rattle.tournament.proofs.heard.Tie as tie
 
--- row i is marked and has a 0
-abbrev calls : Tournament → ℕ → ℕ → Bool
-calls t k i = isIn t i && hasZero t k i
-
 abbrev Inv-loop : tie.InvT-loop
-Inv-loop k t bits count i₀ i = (i ≤ count) × NoneBelow (calls t k) i
+Inv-loop k t bits count i₀ i = (i ≤ count) × NoneBelow (inWithZero t k) i
 
 abbrev μ-loop : tie.MeasureT-loop
 μ-loop k t bits count i₀ i = count - i
@@ -44,7 +39,7 @@ returns c =
     let l = m .before .before .before .before .loop in
     let a = m .before .before .before .before .before .args in
     let zero = eq-eqb _ _ (sym (c .before .bit .ensures) ∙ c .if2 .taken) in
-    sym (some-at (calls (a .t1) (a .k)) (a .t1 .count) (l .i) (search needs) (rw (m .if1 .taken, zero) refl))
+    sym (some-at (inWithZero (a .t1) (a .k)) (a .t1 .count) (l .i) (search needs) (rw (m .if1 .taken, zero) refl))
 
 add-i : tie.Need-add-i Inv-loop μ-loop
 add-i c = search needs
@@ -56,7 +51,7 @@ loop-again : tie.Need-loop-again Inv-loop μ-loop
 loop-again c =
     let l = c .before .before .before .before .loop in
     let a = c .before .before .before .before .before .args in
-    let silent : calls (a .t1) (a .k) (l .i) ≡ false =
+    let silent : inWithZero (a .t1) (a .k) (l .i) ≡ false =
     ⊎-elim
     (λ w. rw (w .0 .taken, ne-eqb _ _ (λ z. w .2 .left (w .1 .ensures ∙ z))) refl)
     (λ w. rw (w .left) refl)
@@ -68,7 +63,7 @@ unfolding heardAt
 returns-2 c =
     let l = c .before .loop in
     let a = c .before .before .args in
-    sym (some-none (calls (a .t1) (a .k)) (a .t1 .count) (l .i) (l .inv .1) (search needs))
+    sym (some-none (inWithZero (a .t1) (a .k)) (a .t1 .count) (l .i) (l .inv .1) (search needs))
 
 pub heard-spec : {M : Type 1} → statement M
 heard-spec =

@@ -4,7 +4,7 @@ use mathlib.Core.Logic.{⊎-elim}
 use native.Mathlib.Omega.{arith}
 use borrow.Author.Tests.{eq-eqb, ne-eqb}
 use Rattle.tournament.specs.Rule.{marksAfter, nextAt}
-use Rattle.tournament.specs.Ready.{AtABit}
+use Rattle.tournament.specs.private.Ready.{AtABit}
 use Rattle.tournament.proofs.Readiness.{ready-bit}
 use Rattle.tournament.proofs.Turns.{step-at}
 use borrow.Author.Needs.{needs}

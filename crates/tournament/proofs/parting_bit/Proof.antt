@@ -1,15 +1,15 @@
 -- Two priorities that are not refused fit and differ. Assumes nothing.
 use mathlib.Core.Path.{_≡_, refl, sym, _∙_}
-use Rattle.tournament_state.specs.declared.Answer.the-variants.{Done}
+use Rattle.judge.specs.declared.Checked.the-variants.{Fine}
 use Rattle.tournament_state.specs.Refusals.{pairVerdictOf}
-use Rattle.tournament_state.proofs.Meaning.{done-if-sound-pair}
+use Rattle.tournament_state.proofs.Meaning.{fine-if-playable-pair}
 use Rattle.tournament.specs.Answers.{partingOf}
 use borrow.Author.Needs.{needs}
 use Rattle.tournament.proofs.parting_bit.Statement.{statement}
 use Rattle.tournament.proofs.parting_bit.Tie as tie
 
-pair-done : (c : tie.After-enum-told) → let a = c .before .before .before .args in pairVerdictOf (a .bits) (a .a) (a .b) ≡ Done
-pair-done c = sym (c .before .before .pair-verdict .ensures) ∙ c .enum-told .given .1
+pair-fine : (c : tie.After-enum-told) → let a = c .before .before .before .args in pairVerdictOf (a .bits) (a .a) (a .b) ≡ Fine
+pair-fine c = sym (c .before .before .pair-verdict .ensures) ∙ c .enum-told .given .1
 
 pair-verdict-requires : tie.Need-pair-verdict-requires
 pair-verdict-requires c κs = search needs
@@ -18,14 +18,14 @@ enum-told : tie.Need-enum-told
 enum-told c = search needs
 
 first-difference-requires : tie.Need-first-difference-requires
-first-difference-requires c κs = done-if-sound-pair _ _ _ .0 (pair-done c)
+first-difference-requires c κs = fine-if-playable-pair _ _ _ .0 (pair-fine c)
 
 enum-known-no : tie.Need-enum-known-no
 enum-known-no c = search needs
 
 returns : tie.Need-returns
 unfolding partingOf
-returns c = rw (pair-done (c .before), c .first-difference .ensures) refl
+returns c = rw (pair-fine (c .before), c .first-difference .ensures) refl
 
 returns-2 : tie.Need-returns-2
 unfolding partingOf

@@ -2,10 +2,10 @@
 use mathlib.Core.Path.{_≡_, refl, sym, ap, _∙_}
 use Prim.Native.Nat.{_-_, _≤_}
 use native.Mathlib.Omega.{arith}
-use Rattle.tournament_state.specs.declared.Answer.the-variants.{Done}
+use Rattle.judge.specs.declared.Checked.the-variants.{Fine}
 use Rattle.tournament.specs.Rule.{next, steps}
 use Rattle.tournament.specs.Answers.{judgedOf, runOf}
-use Rattle.tournament.proofs.Readiness.{ready-done, ready-steps, steps-more, outcome-done, outcome-refused}
+use Rattle.tournament.proofs.Readiness.{ready-fine, ready-steps, steps-more, outcome-fine, outcome-refused}
 use borrow.Author.Needs.{needs}
 use Rattle.tournament.proofs.run.Statement.{statement}
 use Rattle.tournament.proofs.run.Tie as tie
@@ -16,8 +16,8 @@ Inv-loop bits now₀ counter₀ now counter = (counter ≤ bits) × (now ≡ ste
 abbrev μ-loop : tie.MeasureT-loop
 μ-loop bits now₀ counter₀ now counter = bits - counter
 
-judged-done : (c : tie.After-enum-told Inv-loop μ-loop) → judgedOf (c .before .before .before .args .t) ≡ Done
-judged-done c = sym (c .before .before .judged .ensures) ∙ c .enum-told .given .1
+judged-fine : (c : tie.After-enum-told Inv-loop μ-loop) → judgedOf (c .before .before .before .args .t) ≡ Fine
+judged-fine c = sym (c .before .before .judged .ensures) ∙ c .enum-told .given .1
 
 judged-requires : tie.Need-judged-requires Inv-loop μ-loop
 judged-requires c κs = search needs
@@ -32,7 +32,7 @@ loop-holds c = search needs
 next-requires : tie.Need-next-requires Inv-loop μ-loop
 next-requires c κs =
     let l = c .before .loop in
-    rw (l .inv .1) (ready-steps _ (ready-done _ (judged-done (c .before .before))) (l .counter))
+    rw (l .inv .1) (ready-steps _ (ready-fine _ (judged-fine (c .before .before))) (l .counter))
 
 add-counter : tie.Need-add-counter Inv-loop μ-loop
 add-counter c = search needs
@@ -54,7 +54,7 @@ returns c =
     let l = c .before .loop in
     let t = c .before .before .before .before .before .args .t in
     let e : l .counter ≡ t .bits = omega arith in
-    outcome-done _ _ _ _ (judged-done (c .before .before)) (l .inv .1 ∙ ap (λ k. steps k t) e)
+    outcome-fine _ _ _ _ (judged-fine (c .before .before)) (l .inv .1 ∙ ap (λ k. steps k t) e)
 
 returns-2 : tie.Need-returns-2 Inv-loop μ-loop
 unfolding runOf

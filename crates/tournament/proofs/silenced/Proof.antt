@@ -1,26 +1,21 @@
 -- The first i contenders are dealt with, one more each turn, and the places behind are as they were. Assumes nothing.
 use mathlib.Core.Path.{_≡_, sym, ap₂, _∙_}
-use mathlib.Core.Bool.{Bool, false, _&&_}
+use mathlib.Core.Bool.{false}
 use mathlib.Core.List.{_++_}
 use mathlib.Core.Logic.{⊎-elim}
-use Prim.Native.Nat.{ℕ, _-_, _≤_}
+use Prim.Native.Nat.{_-_, _≤_}
 use native.Mathlib.Omega.{arith}
 use lib.ListN.{length, set, drop}
 use Rattle.laws.specs.Lists.{rows}
 use Rattle.tournament_state.proofs.Places.{lay-over, lay-kept}
-use Rattle.tournament_state.specs.declared.Tournament.{Tournament}
-use Rattle.tournament.specs.Rule.{isIn, hasZero, silencedAt}
+use Rattle.tournament.specs.Rule.{isIn, inWithZero, silencedAt}
 use Rattle.tournament.proofs.Turns.{out-on-one, kept-on-zero}
 use borrow.Author.Needs.{needs}
 use Rattle.tournament.proofs.silenced.Statement.{statement}
 use Rattle.tournament.proofs.silenced.Tie as tie
 
--- row i stays in: it was in, and has a 0
-abbrev stays : Tournament → ℕ → ℕ → Bool
-stays t k i = isIn t i && hasZero t k i
-
 abbrev Inv-loop : tie.InvT-loop
-Inv-loop k t bits count marks₀ i₀ marks i = (i ≤ count) × (marks ≡ rows i (stays t k) ++ drop i (t .marks))
+Inv-loop k t bits count marks₀ i₀ marks i = (i ≤ count) × (marks ≡ rows i (inWithZero t k) ++ drop i (t .marks))
 
 abbrev μ-loop : tie.MeasureT-loop
 μ-loop k t bits count marks₀ i₀ marks i = count - i
@@ -51,7 +46,7 @@ loop-again : tie.Need-loop-again Inv-loop μ-loop
 loop-again c =
     let l = c .before .before .before .before .loop in
     let a = c .before .before .before .before .before .before .args in
-    let f = stays (a .t1) (a .k) in
+    let f = inWithZero (a .t1) (a .k) in
     let long : length (a .t1 .marks) ≡ 128 = search needs in
     let b = c .before .bit .ensures in (
       omega arith,

@@ -1,17 +1,17 @@
 -- A start meets the verdict on its own state first. Assumes nothing.
 use mathlib.Core.Path.{_≡_, sym, _∙_}
 use Rattle.tournament_state.specs.declared.Phase.the-variants.{AtBit}
-use Rattle.tournament_state.specs.declared.Answer.the-variants.{Done}
+use Rattle.judge.specs.declared.Checked.the-variants.{Fine}
 use Rattle.tournament_state.specs.Refusals.{verdictOf}
-use Rattle.tournament_state.proofs.Meaning.{done-limits}
+use Rattle.tournament_state.proofs.Meaning.{fine-passed}
 use Rattle.tournament.specs.Answers.{nobody, startOf}
-use Rattle.tournament.proofs.Readiness.{outcome-done, outcome-refused}
+use Rattle.tournament.proofs.Readiness.{outcome-fine, outcome-refused}
 use borrow.Author.Needs.{needs}
 use Rattle.tournament.proofs.start.Statement.{statement}
 use Rattle.tournament.proofs.start.Tie as tie
 
-verdict-done : (c : tie.After-enum-told) → let a = c .before .before .before .args in verdictOf (a .bits) (a .count) (a .priorities) (AtBit 1) ≡ Done
-verdict-done c = sym (c .before .before .verdict .ensures) ∙ c .enum-told .given .1
+verdict-fine : (c : tie.After-enum-told) → let a = c .before .before .before .args in verdictOf (a .bits) (a .count) (a .priorities) (AtBit 1) ≡ Fine
+verdict-fine c = sym (c .before .before .verdict .ensures) ∙ c .enum-told .given .1
 
 verdict-requires : tie.Need-verdict-requires
 verdict-requires c κs = search needs
@@ -22,7 +22,7 @@ enum-told c = search needs
 begun-requires : tie.Need-begun-requires
 begun-requires c κs =
     let a = c .before .before .before .args in
-    done-limits (a .bits) (a .count) (a .priorities) (AtBit 1) (verdict-done c) .few
+    fine-passed (a .bits) (a .count) (a .priorities) (AtBit 1) (verdict-fine c) .few
 
 enum-known-no : tie.Need-enum-known-no
 enum-known-no c = search needs
@@ -32,7 +32,7 @@ nobody-requires c κs = search needs
 
 returns : tie.Need-returns
 unfolding startOf
-returns c = outcome-done _ nobody _ _ (verdict-done (c .before)) (c .begun .ensures)
+returns c = outcome-fine _ nobody _ _ (verdict-fine (c .before)) (c .begun .ensures)
 
 returns-2 : tie.Need-returns-2
 unfolding startOf

@@ -1,14 +1,14 @@
 -- A state that is not refused is ready for a step. Assumes nothing.
 use mathlib.Core.Path.{_≡_, refl, sym, _∙_}
-use Rattle.tournament_state.specs.declared.Answer.the-variants.{Done}
+use Rattle.judge.specs.declared.Checked.the-variants.{Fine}
 use Rattle.tournament.specs.Answers.{judgedOf, stepOf}
-use Rattle.tournament.proofs.Readiness.{ready-done, outcome-done, outcome-refused}
+use Rattle.tournament.proofs.Readiness.{ready-fine, outcome-fine, outcome-refused}
 use borrow.Author.Needs.{needs}
 use Rattle.tournament.proofs.step.Statement.{statement}
 use Rattle.tournament.proofs.step.Tie as tie
 
-judged-done : (c : tie.After-enum-told) → judgedOf (c .before .before .before .args .t) ≡ Done
-judged-done c = sym (c .before .before .judged .ensures) ∙ c .enum-told .given .1
+judged-fine : (c : tie.After-enum-told) → judgedOf (c .before .before .before .args .t) ≡ Fine
+judged-fine c = sym (c .before .before .judged .ensures) ∙ c .enum-told .given .1
 
 judged-requires : tie.Need-judged-requires
 judged-requires c κs = search needs
@@ -17,14 +17,14 @@ enum-told : tie.Need-enum-told
 enum-told c = search needs
 
 next-requires : tie.Need-next-requires
-next-requires c κs = ready-done _ (judged-done c)
+next-requires c κs = ready-fine _ (judged-fine c)
 
 enum-known-no : tie.Need-enum-known-no
 enum-known-no c = search needs
 
 returns : tie.Need-returns
 unfolding stepOf
-returns c = outcome-done _ _ _ _ (judged-done (c .before)) (c .next .ensures)
+returns c = outcome-fine _ _ _ _ (judged-fine (c .before)) (c .next .ensures)
 
 returns-2 : tie.Need-returns-2
 unfolding stepOf

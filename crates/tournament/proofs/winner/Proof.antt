@@ -4,7 +4,7 @@ use mathlib.Core.Bool.{false}
 use Prim.Native.Nat.{_-_, _≤_}
 use native.Mathlib.Omega.{arith}
 use lib.ListN.{getD}
-use Rattle.repeats.proofs.Rows.{NoneBelow, none-yet, none-more, found-at, found-none}
+use Rattle.laws.proofs.Rows.{NoneBelow, none-yet, none-more, found-at, found-none}
 use Rattle.tournament.specs.Rule.{lowestMarked, finishedBy, winnerOf}
 use borrow.Author.Needs.{needs}
 use Rattle.tournament.proofs.winner.Statement.{statement}

@@ -1,66 +1,143 @@
--- The answers stand in the order of the definition's links. Assumes nothing.
-use mathlib.Core.Path.{ap₂, _∙_}
-use Rattle.tournament_state.specs.Refusals.{_then_, verdictOf}
+-- Each return is a line of the table, and the tests that led there say that the lines before it are not given. Assumes nothing.
+use mathlib.Core.Path.{_≡_, sym, ap, _∙_}
+use mathlib.Core.List.{List}
+use borrow.Author.Tests.{not-true, not-false}
+use Prim.Native.Nat.{_≤_}
+use lib.ListN.{drop}
+use Rattle.names.specs.Limits.{contenders}
+use Rattle.judge.specs.Table.{Line, judge, unless, rowIn}
+use Rattle.judge.proofs.Table.{given, passed, nothing-given}
+use Rattle.tournament_state.specs.Refusals.{stateLines, verdictOf}
+use Rattle.tournament_state.proofs.Meaning.{one-to}
 use borrow.Author.Needs.{needs}
 use Rattle.tournament_state.proofs.verdict.Statement.{statement}
 use Rattle.tournament_state.proofs.verdict.Tie as tie
 
-seven-requires : tie.Need-seven-requires
-seven-requires c κs = search needs
+-- the lines that are asked about
+abbrev lines : tie.Start → List Line
+lines b = stateLines (b .args .bits) (b .args .count) (b .args .priorities) (b .args .phase)
 
-eight-bits-requires : tie.Need-eight-bits-requires
-eight-bits-requires c κs = search needs
+-- no more contenders than places
+few : (c : tie.Else1) → c .before .before .args .count ≤ contenders
+few c = one-to contenders (c .before .before .args .count) .0 (sym (c .before .one-to .ensures) ∙ not-false _ (c .if1 .left)) .1
 
-eight-priorities-requires : tie.Need-eight-priorities-requires
-eight-priorities-requires c κs = search needs
+-- past the contenders, ..
+past-7 : (c : tie.Else1) → let ls = lines (c .before .before) in judge ls ≡ judge (drop 1 ls)
+past-7 c = passed _ _ (ap unless (sym (c .before .one-to .ensures) ∙ not-false _ (c .if1 .left)))
 
-eight-phase-requires : tie.Need-eight-phase-requires
-eight-phase-requires c κs = search needs
+-- .. past the bit count, ..
+past-bits : (c : tie.Else2) → let ls = lines (c .before .before .before .before) in judge ls ≡ judge (drop 2 ls)
+past-bits c = past-7 (c .before .before) ∙ passed _ _ (ap unless (sym (c .before .one-to2 .ensures) ∙ not-false _ (c .if2 .left)))
 
-nine-requires : tie.Need-nine-requires
-nine-requires c κs = search needs
+-- .. past the priorities, ..
+past-fit : (c : tie.After-enum-told) → let ls = lines (c .before .before .before .before .before .before .before) in judge ls ≡ judge (drop 3 ls)
+past-fit c = past-bits (c .before .before .before) ∙ passed _ _ (sym (c .before .before .lowest-unfit .ensures) ∙ c .enum-told .given .1)
 
-first-no-requires : tie.Need-first-no-requires
-first-no-requires c κs = search needs
+-- .. and past the phase
+past-phase : (c : tie.Else3) → let ls = lines (c .before .before .before .before .before .before .before .before .before) in judge ls ≡ judge (drop 4 ls)
+past-phase c = past-fit (c .before .before) ∙ passed _ _ (ap unless (sym (c .before .phase-inside .ensures) ∙ not-false _ (c .if3 .left)))
 
-first-no-requires-2 : tie.Need-first-no-requires-2
-first-no-requires-2 c κs = search needs
+one-to-requires : tie.Need-one-to-requires
+one-to-requires c κs = search needs
 
-first-no-requires-3 : tie.Need-first-no-requires-3
-first-no-requires-3 c κs = search needs
-
-first-no-requires-4 : tie.Need-first-no-requires-4
-first-no-requires-4 c κs = search needs
+refused-requires : tie.Need-refused-requires
+refused-requires c κs = search needs
 
 returns : tie.Need-returns
 unfolding verdictOf
-returns c =
-    let f₃ = c .before in
-    let f₂ = f₃ .before in
-    let f₁ = f₂ .before in
-    let n = f₁ .before in
-    let p = n .before in
-    let u = p .before in
-    let w = u .before in
-    c .first-no4 .ensures
-    ∙ ap₂ _then_ (w .before .seven .ensures)
-    (f₃ .first-no3 .ensures
-    ∙ ap₂ _then_ (w .eight-bits .ensures)
-    (f₂ .first-no2 .ensures
-    ∙ ap₂ _then_ (u .eight-priorities .ensures)
-    (f₁ .first-no .ensures ∙ ap₂ _then_ (p .eight-phase .ensures) (n .nine .ensures))))
+returns c = c .refused .ensures ∙ sym (given _ _ 0 (ap unless (sym (c .before .before .one-to .ensures) ∙ not-true _ (c .before .if1 .taken))))
+
+cast-one-to : tie.Need-cast-one-to
+cast-one-to c = search needs
+
+one-to-requires-2 : tie.Need-one-to-requires-2
+one-to-requires-2 c κs = search needs
+
+refused-requires-2 : tie.Need-refused-requires-2
+refused-requires-2 c κs = search needs
+
+returns-2 : tie.Need-returns-2
+unfolding verdictOf
+returns-2 c =
+    let o = c .before .before in
+    c .refused2 .ensures ∙ sym (past-7 (o .before) ∙ given _ _ 0 (ap unless (sym (o .one-to2 .ensures) ∙ not-true _ (c .before .if2 .taken))))
+
+lowest-unfit-requires : tie.Need-lowest-unfit-requires
+lowest-unfit-requires c κs = few (c .before .before)
+
+enum-known-row : tie.Need-enum-known-row
+enum-known-row c = search needs
+
+refused-requires-3 : tie.Need-refused-requires-3
+refused-requires-3 c κs = search needs
+
+returns-3 : tie.Need-returns-3
+unfolding verdictOf
+returns-3 c =
+    let u = c .before .before .before .before in
+    c .refused3 .ensures ∙ sym (past-bits (u .before) ∙ given _ _ _ (sym (u .lowest-unfit .ensures) ∙ c .before .before .row .given .1))
+
+enum-told : tie.Need-enum-told
+enum-told c = search needs
+
+phase-inside-requires : tie.Need-phase-inside-requires
+phase-inside-requires c κs = search needs
+
+refused-requires-4 : tie.Need-refused-requires-4
+refused-requires-4 c κs = search needs
+
+returns-4 : tie.Need-returns-4
+unfolding verdictOf
+returns-4 c =
+    let p = c .before .before in
+    c .refused4 .ensures ∙ sym (past-fit (p .before) ∙ given _ _ 0 (ap unless (sym (p .phase-inside .ensures) ∙ not-true _ (c .before .if3 .taken))))
+
+lowest-repeat-requires : tie.Need-lowest-repeat-requires
+lowest-repeat-requires c κs = few (c .before .before .before .before .before .before .before)
+
+enum-known-row-2 : tie.Need-enum-known-row-2
+enum-known-row-2 c = search needs
+
+refused-requires-5 : tie.Need-refused-requires-5
+refused-requires-5 c κs = search needs
+
+enum-told-2 : tie.Need-enum-told-2
+enum-told-2 c = search needs
+
+returns-5 : tie.Need-returns-5
+unfolding verdictOf
+returns-5 c =
+    let r = c .before .before .before .before in
+    c .refused5 .ensures ∙ sym (past-phase (r .before) ∙ given _ _ _ (ap rowIn (sym (r .lowest-repeat .ensures) ∙ c .before .before .row2 .given .1)))
+
+returns-6 : tie.Need-returns-6
+unfolding verdictOf
+returns-6 c =
+    let r = c .before .before in
+    sym (past-phase (r .before) ∙ passed _ _ (ap rowIn (sym (r .lowest-repeat .ensures) ∙ c .enum-told2 .given .1)) ∙ nothing-given)
 
 pub verdict-spec : {M : Type 1} → statement M
 verdict-spec =
     tie.close
     (tie.spec
-    seven-requires
-    eight-bits-requires
-    eight-priorities-requires
-    eight-phase-requires
-    nine-requires
-    first-no-requires
-    first-no-requires-2
-    first-no-requires-3
-    first-no-requires-4
-    returns)
+    one-to-requires
+    refused-requires
+    returns
+    cast-one-to
+    one-to-requires-2
+    refused-requires-2
+    returns-2
+    lowest-unfit-requires
+    enum-known-row
+    refused-requires-3
+    returns-3
+    enum-told
+    phase-inside-requires
+    refused-requires-4
+    returns-4
+    lowest-repeat-requires
+    enum-known-row-2
+    refused-requires-5
+    enum-told-2
+    returns-5
+    returns-6)

@@ -1,11 +1,12 @@
 -- The bodies stand after the contents, so what is written is the whole file. Assumes nothing.
-use mathlib.Core.Path.{_≡_, ap}
-use Prim.Native.Nat.{_+_, _-_, _*_}
+use mathlib.Core.Path.{ap}
+use native.Mathlib.Nat.{sub-zero}
+use Prim.Native.Nat.{_-_}
 use native.Mathlib.Omega.{arith}
 use borrow.Author.Needs.{needs}
 use denote.Ref.{now}
-use lib.ListN.{take, drop}
-use Rattle.fields.specs.Layout as layout
+use lib.ListN.{take}
+use Rattle.carried.specs.Layout as layout
 use Rattle.writer.proofs.Whole.{whole}
 use Rattle.writer.proofs.put_file.Statement.{statement}
 use Rattle.writer.proofs.put_file.Tie as tie
@@ -25,20 +26,17 @@ slice-aggregate-put-words c = search needs
 put-words-requires : tie.Need-put-words-requires
 put-words-requires c κs = search needs
 
-add-end : tie.Need-add-end
-add-end c = search needs
-
-mul-end : tie.Need-mul-end
-mul-end c = search needs
-
-add-end-2 : tie.Need-add-end-2
-add-end-2 c = search needs
-
-add-end-3 : tie.Need-add-end-3
-add-end-3 c = search needs
-
 mul-put-words : tie.Need-mul-put-words
 mul-put-words c = search needs
+
+mul-put-words-2 : tie.Need-mul-put-words-2
+mul-put-words-2 c = search needs
+
+add-put-words : tie.Need-add-put-words
+add-put-words c = search needs
+
+add-put-words-2 : tie.Need-add-put-words-2
+add-put-words-2 c = search needs
 
 sub-put-words : tie.Need-sub-put-words
 sub-put-words c = search needs
@@ -62,11 +60,10 @@ returns c =
     let k = h .before .before .before in
     let b = k .before .before .before in
     let a = b .args in
-    let part : layout.gapAt (a .n) (a .m) - layout.contents ≡ layout.timing + (layout.stream * a .n + a .m) = omega arith in
-    whole (now (a .buf)) (now (a .words)) (a .n) (a .m) (omega arith) (b .pre .3)
+    whole (now (a .buf)) (now (a .words)) (a .n) (a .m) (omega arith) (omega arith)
     (rw (k .contents .ensures) at (h .put-words .ensures))
     (d .put-words2 .ensures)
-    (ap (λ j. take j (drop layout.contents (now (a .words)))) part)
+    (ap (λ k. take k (now (a .words))) (sub-zero (layout.gapAt (a .n) (a .m))))
 
 pub put-file-spec : {M : Type 1} → statement M
 put-file-spec =
@@ -77,11 +74,10 @@ put-file-spec =
     contents-requires
     slice-aggregate-put-words
     put-words-requires
-    add-end
-    mul-end
-    add-end-2
-    add-end-3
     mul-put-words
+    mul-put-words-2
+    add-put-words
+    add-put-words-2
     sub-put-words
     part-put-words-start
     part-put-words-end

@@ -2,7 +2,7 @@
 use mathlib.Core.Path.{sym, ap, _∙_}
 use borrow.Author.Needs.{needs}
 use denote.Ref.{now}
-use Rattle.fields.specs.Words.{planIn}
+use Rattle.carried.specs.Carried.{planIn}
 use Rattle.file.specs.File.{writeWith}
 use Rattle.file.proofs.Writing.{same-writing}
 use Rattle.writer.proofs.Whole.{both}

@@ -6,9 +6,10 @@ use borrow.Author.Needs.{needs}
 use denote.Ref.{now}
 use Rattle.names.specs.Limits as limit
 use Rattle.plan.specs.Plan.{Plan}
-use Rattle.fields.specs.Words.{planIn}
-use Rattle.checks.specs.declared.Checked.the-variants.{Fine}
-use Rattle.checks.specs.Checks.{judge, lines}
+use Rattle.carried.specs.Carried.{planIn}
+use Rattle.judge.specs.declared.Checked.the-variants.{Fine}
+use Rattle.judge.specs.Table.{judge}
+use Rattle.checks.specs.Checks.{lines}
 use Rattle.checks.proofs.Fine.{fine-if-right}
 use Rattle.file.specs.declared.Written.the-variants.{Bytes}
 use Rattle.file.proofs.Writing.{write-refused, write-no-room, write-fine}
@@ -67,7 +68,7 @@ put-file-requires c κs =
     let f = z .before in
     let b = f .before .before .before .before in
     let (n, m) = few (b .args .n) (b .args .m) (asked b) (fine f) in
-    (search needs, n, m, omega (arith, i .if1 .left, z .size .ensures))
+    (search needs, (n, (m, omega (arith, i .if1 .left, z .size .ensures))))
 
 same-length : tie.Need-same-length
 same-length c = search needs

@@ -23,6 +23,9 @@ add-line-2 c = search needs
 line-requires : tie.Need-line-requires Inv-loop μ-loop
 line-requires c κs = search needs
 
+next-line-requires : tie.Need-next-line-requires Inv-loop μ-loop
+next-line-requires c κs = search needs
+
 add-same : tie.Need-add-same Inv-loop μ-loop
 add-same c = search needs
 
@@ -54,6 +57,7 @@ all-spec =
     add-line
     add-line-2
     line-requires
+    next-line-requires
     add-same
     loop-less
     loop-again

@@ -17,6 +17,9 @@ loop-holds c = search needs
 line-requires : tie.Need-line-requires Inv-loop μ-loop
 line-requires c κs = search needs
 
+next-line-requires : tie.Need-next-line-requires Inv-loop μ-loop
+next-line-requires c κs = search needs
+
 add-number : tie.Need-add-number Inv-loop μ-loop
 add-number c = search needs
 
@@ -32,4 +35,4 @@ returns c = search needs
 pub all-spec : {M : Type 1} → statement M
 all-spec =
     tie.close
-    (tie.spec Inv-loop μ-loop loop-holds line-requires add-number loop-less loop-again returns)
+    (tie.spec Inv-loop μ-loop loop-holds line-requires next-line-requires add-number loop-less loop-again returns)

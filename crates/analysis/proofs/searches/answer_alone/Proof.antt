@@ -1,0 +1,75 @@
+-- The search finds what the rule says, and alone on the channel the largest term is the first, from which nothing is subtracted: it is not below zero, and
+-- the cast back keeps it.
+use borrow.Author.Needs.{needs}
+use mathlib.Core.Path.{_≡_, sym, ap, _∙_}
+use Prim.Native.Nat.{_+_}
+use native.Mathlib.Nat.{add-zero}
+use lib.IntN.{pos, natAbs}
+use mir.Syntax.{w64}
+use mir.Val.{toZ, ofZ, SFits}
+use mir.Facts.{toZ-ofZ, fits-natAbs}
+use Rattle.bound.proofs.Answers.{answer-none, answer-bound}
+use Rattle.analysis.specs.declared.Gathered.{Gathered}
+use Rattle.analysis.proofs.Waits.{alone-bound}
+use Rattle.analysis.proofs.searches.answer_alone.Statement.{statement}
+use Rattle.analysis.proofs.searches.answer_alone.Tie as tie
+
+busy-alone-requires : tie.Need-busy-alone-requires
+busy-alone-requires c κs = search needs
+
+enum-told : tie.Need-enum-told
+enum-told c = search needs
+
+enum-told-2 : tie.Need-enum-told-2
+enum-told-2 c = search needs
+
+returns : tie.Need-returns
+returns c = answer-none _ _ (sym (c .before .before .busy-alone .ensures) ∙ c .enum-told2 .given .1)
+
+add-term : tie.Need-add-term
+add-term c = search needs
+
+add-term-2 : tie.Need-add-term-2
+add-term-2 c = search needs
+
+term-requires : tie.Need-term-requires
+term-requires c κs = search needs
+
+-- the first term, from which 0 is subtracted
+module _ (c : tie.After-term) where
+  fits : SFits w64 (c .term .result)
+  fits = record { sfits = c .term .ok }
+
+  abbrev g : Gathered
+  g = c .before .before .before .before .before .before .args .g
+
+  first : toZ w64 (ofZ w64 (c .term .result)) ≡ pos (g .jitter + g .blocking + g .last)
+  first = toZ-ofZ fits ∙ c .term .ensures ∙ ap pos (add-zero (g .jitter + g .blocking + g .last))
+
+cast-judged : tie.Need-cast-judged
+cast-judged c = (rw (first c) tt, rw (toZ-ofZ (fits c)) (fits-natAbs tt (fits c)))
+
+judged-requires : tie.Need-judged-requires
+judged-requires c κs = search needs
+
+returns-2 : tie.Need-returns-2
+returns-2 c =
+    let t = c .before .before .before .before in
+    let b = t .before .before in
+    let found = sym (b .busy-alone .ensures) ∙ t .enum-told .given .1 in
+    c .judged .ensures ∙ answer-bound _ _ _ _ found (ap natAbs (first (c .before)) ∙ alone-bound (b .before .args .g) (b .before .pre) _ found)
+
+pub answer-alone-spec : {M : Type 1} → statement M
+answer-alone-spec =
+    tie.close
+    (tie.spec
+    busy-alone-requires
+    enum-told
+    enum-told-2
+    returns
+    add-term
+    add-term-2
+    term-requires
+    cast-judged
+    judged-requires
+    returns-2)

@@ -1,0 +1,54 @@
+-- Where the nearest edge is not passed none is, so nothing rises and all stays.
+use borrow.Author.Needs.{needs}
+use native.Mathlib.Omega.{arith}
+use Rattle.analysis.specs.private.Stairs.{NoEdgeBefore}
+use Rattle.analysis.proofs.Climbing.{gone-still, height-still, nearest-still, nearest-set}
+use Rattle.analysis.proofs.stairs.climbed_lot.Statement.{statement}
+use Rattle.analysis.proofs.stairs.climbed_lot.Tie as tie
+
+mul-if1 : tie.Need-mul-if1
+mul-if1 c = search needs
+
+element-copy-out-if1 : tie.Need-element-copy-out-if1
+element-copy-out-if1 c = search needs
+
+-- no edge of the lot is passed
+still : (c : tie.Then1) → let a = c .before .before .args in NoEdgeBefore (a .x) (a .edges .now) (a .from) (a .to)
+still c k h l = omega (arith, c .if1 .taken, c .before .before .pre .1 .1 .1 k h l)
+
+returns : tie.Need-returns
+returns c =
+    let s = c .before .before in
+    let a = s .args in (
+      record {
+        gained = omega (arith, height-still (a .costs .now) (a .periods .now) (a .edges .now) (a .x) (a .from) (a .to) (s .pre .0 .up) (still c));
+        gone = gone-still _ _ _ _ _ (still c);
+      },
+      nearest-still _ _ _ _ _ (s .pre .1 .1 .1),
+    )
+
+lot-at-requires : tie.Need-lot-at-requires
+lot-at-requires c κs = search needs
+
+mul-nearest : tie.Need-mul-nearest
+mul-nearest c = search needs
+
+element-write-nearest : tie.Need-element-write-nearest
+element-write-nearest c = search needs
+
+returns-2 : tie.Need-returns-2
+returns-2 c =
+    let t = c .lot-at .ensures in
+    (t .0, nearest-set _ _ _ _ _ _ (omega (arith, c .before .before .before .before .pre .1)) (t .1))
+
+pub climbed-lot-spec : {M : Type 1} → statement M
+climbed-lot-spec =
+    tie.close
+    (tie.spec
+    mul-if1
+    element-copy-out-if1
+    returns
+    lot-at-requires
+    mul-nearest
+    element-write-nearest
+    returns-2)

@@ -1,0 +1,59 @@
+-- Each turn starts one noise source's stair, and the streams' stay.
+use borrow.Author.Needs.{needs}
+use mathlib.Core.Path.{_≡_, refl}
+use Prim.Native.Nat.{_-_, _≤_}
+use native.Mathlib.Omega.{arith}
+use Rattle.analysis.specs.private.Stairs.{SourcesStarted}
+use Rattle.analysis.proofs.Starts.{sources-none, sources-more}
+use Rattle.analysis.proofs.stairs.start_sources.Statement.{statement}
+use Rattle.analysis.proofs.stairs.start_sources.Tie as tie
+
+abbrev Inv-loop : tie.InvT-loop
+Inv-loop from n window edges₀ k₀ edges k =
+    (from ≤ k) × (k ≤ n) × SourcesStarted from k window edges₀ edges
+
+abbrev μ-loop : tie.MeasureT-loop
+μ-loop from n window edges₀ k₀ edges k = n - k
+
+loop-holds : tie.Need-loop-holds Inv-loop μ-loop
+loop-holds c = (omega arith, omega arith, sources-none _ _ _ (c .pre .1 .1 .1))
+
+sub-edges : tie.Need-sub-edges Inv-loop μ-loop
+sub-edges c = search needs
+
+mul-edges : tie.Need-mul-edges Inv-loop μ-loop
+mul-edges c = search needs
+
+element-write-edges : tie.Need-element-write-edges Inv-loop μ-loop
+element-write-edges c = omega (arith, c .before .loop .inv .2 .long)
+
+add-k : tie.Need-add-k Inv-loop μ-loop
+add-k c = search needs
+
+loop-less : tie.Need-loop-less Inv-loop μ-loop
+loop-less c = search needs
+
+loop-again : tie.Need-loop-again Inv-loop μ-loop
+loop-again c =
+    let l = c .before .loop in
+    (omega arith, omega arith, sources-more _ _ _ _ _ _ (l .inv .0) (omega arith) refl (l .inv .2))
+
+returns : tie.Need-returns Inv-loop μ-loop
+returns c =
+    let e : c .before .loop .k ≡ c .before .before .args .n = omega arith in
+    rw e at (c .before .loop .inv .2)
+
+pub start-sources-spec : {M : Type 1} → statement M
+start-sources-spec =
+    tie.close
+    (tie.spec
+    Inv-loop
+    μ-loop
+    loop-holds
+    sub-edges
+    mul-edges
+    element-write-edges
+    add-k
+    loop-less
+    loop-again
+    returns)

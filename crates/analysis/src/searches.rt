@@ -1,0 +1,262 @@
+// The searches of a row: the busy period L, w(q) for each instance, and the largest term; and the answer that they give.
+//
+// The search for L is the plain chain from 1, one evaluation of the right side a turn; all searches of a row for w climb once.
+ghost use mathlib.Core.Path.{_≡_};
+ghost use Prim.Native.Nat.{_+_, _*_, _^_, _≤_, _<_};
+ghost use lib.ListN.{length};
+ghost use lib.IntN.{pos, _-ℤ_};
+ghost use Rattle.names.specs.Limits.{ticks};
+ghost use Rattle.laws.specs.Lists.{ceil};
+ghost use Rattle.laws.specs.Signed.{maxZ};
+ghost use Rattle.laws.specs.declared.Found.the-variants.{At};
+ghost use Rattle.bound.specs.Bound as rule;
+ghost use Rattle.analysis.specs.Gathered.{stairs as most, lent, termsOf};
+ghost use Rattle.analysis.specs.private.Stairs.{Stand, Near};
+ghost use Rattle.analysis.specs.private.Chains.{OwnKept, ownL, aloneTerms, Bounded, side, Settled};
+ghost use Rattle.analysis.specs.private.Fit.{FitRow, Fit};
+use crate::Gathered;
+use crate::STAIRS;
+use crate::stairs::LOTS;
+use crate::stairs::START;
+use crate::stairs::climbed;
+use crate::stairs::periods_past;
+use crate::stairs::start_edges;
+use bound::Answer;
+use bound::Verdict;
+use laws::Found;
+use names::STREAMS;
+use names::TICKS;
+
+// The least busy period there can be, where the chains for L start.
+const FIRST: u64 = 1;
+
+// i's own stair: its edge, and how high it is up to there.
+struct Own {
+    edge: u64,
+    sum: u64,
+}
+
+fn own_start(g: Gathered) -> Own
+    requires { ⌜ FitRow g ⌝ }
+    ensures { λ r. ⌜ OwnKept g r 0 ⌝ }
+{
+    let edge = START - g.jitter;
+    Own { edge, sum: 0 }
+}
+
+// i's own stair at x, with its edge gone on.
+fn own_at(g: Gathered, own: Own, x: u64) -> Own
+    requires { ⌜ FitRow g ⌝ }
+    requires { ⌜ x ≤ ticks ⌝ }
+    requires { ⌜ OwnKept g own x ⌝ }
+    ensures { λ r. ⌜ r .sum ≡ ownL g x ⌝ }
+    ensures { λ r. ⌜ OwnKept g r x ⌝ }
+{
+    let d = periods_past(x + START, own.edge, g.period);
+    let edge = own.edge + d * g.period;
+    let sum = own.sum + d * g.cost;
+    Own { edge, sum }
+}
+
+// L where nobody else is on the channel: the chain from 1, with i's own stair alone.
+fn busy_alone(g: Gathered) -> Found
+    requires { ⌜ FitRow g ⌝ }
+    ensures { λ r. ⌜ r ≡ rule.busy (aloneTerms g) ⌝ }
+{
+    let mut own = own_start(g);
+    let mut x = FIRST;
+    while x <= TICKS {
+        own = own_at(g, own, x);
+        let y = g.blocking + own.sum;
+        if y == x {
+            return Found::At(x);
+        }
+        x = y;
+    }
+    Found::Nothing
+}
+
+// L: the chain from 1, one evaluation of the right side a turn. The stairs come before i's own: measured, that is faster.
+fn busy_period<'a>(
+    g: Gathered,
+    costs: &'a [u64; STAIRS],
+    periods: &'a [u64; STAIRS],
+    jitters: &'a [u64; STREAMS],
+    edges: &mut [u64; STAIRS],
+) -> Found
+    requires { ⌜ Fit (lent g (now costs) (now periods) (now jitters)) ⌝ }
+    requires { ⌜ length (now edges) ≡ most ⌝ }
+    ensures { λ r. ⌜ r ≡ rule.busy (termsOf (lent g (now (costs .entry)) (now (periods .entry)) (now (jitters .entry)))) ⌝ }
+    ensures { λ _. ⌜ length (now (edges .exit)) ≡ most ⌝ }
+{
+    let n = g.urgent + g.sources;
+    start_edges(jitters, g.urgent, n, 0, 0, edges);
+    let mut nearest = [0; LOTS];
+    let mut own = own_start(g);
+    let mut rest: u64 = 0;
+    let mut x = FIRST;
+    while x <= TICKS {
+        rest = climbed(x + START, n, costs, periods, edges, &mut nearest, rest);
+        own = own_at(g, own, x);
+        let y = g.blocking + own.sum + rest;
+        if y == x {
+            return Found::At(x);
+        }
+        x = y;
+    }
+    Found::Nothing
+}
+
+// The least fixed point from `from` on of base + sum + what the stairs rise by: w(q), once it is known not to be below.
+fn settled(
+    base: u64,
+    from: u64,
+    sum: u64,
+    n: usize,
+    costs: &[u64; STAIRS],
+    periods: &[u64; STAIRS],
+    edges: &mut [u64; STAIRS],
+    nearest: &mut [u64; LOTS],
+) -> u64
+    requires { ⌜ Stand (now costs) (now periods) (now edges) (now nearest) n ⌝ }
+    requires { ⌜ Bounded (side (now costs) (now periods) (now edges) n base sum) from ⌝ }
+    ensures { λ r. ⌜ Settled (now (costs .entry)) (now (periods .entry)) (now (edges .entry)) (now (edges .exit)) n base sum from r ⌝ }
+    ensures { λ _. ⌜ Near (now (edges .exit)) (now (nearest .exit)) n ⌝ }
+{
+    let mut x = from;
+    let mut total = sum;
+    loop {
+        total = climbed(x + START, n, costs, periods, edges, nearest, total);
+        let y = base + total;
+        if y == x {
+            return x;
+        }
+        x = y;
+    }
+}
+
+// a - b, which may be below zero.
+fn term(a: u64, b: u64) -> i64
+    requires { ⌜ a < 2 ^ 63 ⌝ }
+    requires { ⌜ b < 2 ^ 63 ⌝ }
+    ensures { λ r. ⌜ r ≡ pos a -ℤ pos b ⌝ }
+{
+    a as i64 - b as i64
+}
+
+// The earlier of two equal terms is kept.
+fn larger(best: i64, next: i64) -> i64
+    ensures { λ r. ⌜ r ≡ maxZ best next ⌝ }
+{
+    if best < next { next } else { best }
+}
+
+// Q: how many instances a busy period has.
+fn instances(l: u64, jitter: u64, period: u64) -> u64
+    requires { ⌜ l ≤ ticks ⌝ }
+    requires { ⌜ jitter ≤ ticks ⌝ }
+    requires { ⌜ 1 ≤ period ⌝ }
+    requires { ⌜ period ≤ ticks ⌝ }
+    ensures { λ r. ⌜ r ≡ ceil (l + jitter) period ⌝ }
+{
+    (l + jitter + (period - 1)) / period
+}
+
+// The largest term J + w(q) + C'' - q * T. The search for w(q + 1) starts at w(q) + C'', with the edges where they are.
+fn largest_term<'a>(
+    g: Gathered,
+    l: u64,
+    costs: &'a [u64; STAIRS],
+    periods: &'a [u64; STAIRS],
+    jitters: &'a [u64; STREAMS],
+    edges: &mut [u64; STAIRS],
+) -> u64
+    requires { ⌜ Fit (lent g (now costs) (now periods) (now jitters)) ⌝ }
+    requires { ⌜ rule.busy (termsOf (lent g (now costs) (now periods) (now jitters))) ≡ At l ⌝ }
+    requires { ⌜ length (now edges) ≡ most ⌝ }
+    ensures { λ r. ⌜ r ≡ rule.bound (termsOf (lent g (now (costs .entry)) (now (periods .entry)) (now (jitters .entry)))) l ⌝ }
+{
+    let n = g.urgent + g.sources;
+    start_edges(jitters, g.urgent, n, g.late + 1, g.cost, edges);
+    let count = instances(l, g.jitter, g.period);
+    let ends = g.jitter + g.last;
+    let cost = g.cost;
+    let mut base = g.blocking;
+    let mut nearest = [0; LOTS];
+    let mut wait = settled(base, 0, 0, n, costs, periods, edges, &mut nearest);
+    let mut best = term(ends + wait, 0);
+    let mut q: u64 = 0;
+    while q + 1 < count {
+        let sum = wait - base;
+        base += cost;
+        wait = settled(
+            base,
+            wait + cost,
+            sum,
+            n,
+            costs,
+            periods,
+            edges,
+            &mut nearest,
+        );
+        q += 1;
+        best = larger(best, term(ends + wait, q * g.period));
+    }
+    best as u64
+}
+
+fn judged(bound: u64, deadline: u64) -> Answer
+    ensures { λ r. ⌜ r ≡ record { verdict = rule.verdict bound deadline; bound = bound } ⌝ }
+{
+    if bound <= deadline {
+        Answer {
+            verdict: Verdict::Met,
+            bound,
+        }
+    } else {
+        Answer {
+            verdict: Verdict::Missed,
+            bound,
+        }
+    }
+}
+
+// The answer where nobody else is on the channel. The largest term is the first: an instance then waits for B alone, or for those
+// of its own before it, and these go faster than new ones come, or there were no busy period.
+pub(crate) fn answer_alone(g: Gathered, deadline: u64) -> Answer
+    requires { ⌜ FitRow g ⌝ }
+    ensures { λ r. ⌜ r ≡ rule.answer (aloneTerms g) deadline ⌝ }
+{
+    let found = busy_alone(g);
+    let Found::At(_) = found else {
+        return Answer {
+            verdict: Verdict::None,
+            bound: 0,
+        };
+    };
+    let first = term(g.jitter + g.blocking + g.last, 0);
+    judged(first as u64, deadline)
+}
+
+// The answer among other streams and noise sources.
+pub(crate) fn answer_among<'a>(
+    g: Gathered,
+    costs: &'a [u64; STAIRS],
+    periods: &'a [u64; STAIRS],
+    jitters: &'a [u64; STREAMS],
+    deadline: u64,
+) -> Answer
+    requires { ⌜ Fit (lent g (now costs) (now periods) (now jitters)) ⌝ }
+    ensures { λ r. ⌜ r ≡ rule.answer (termsOf (lent g (now (costs .entry)) (now (periods .entry)) (now (jitters .entry)))) deadline ⌝ }
+{
+    let mut edges = [START; STAIRS];
+    let found = busy_period(g, costs, periods, jitters, &mut edges);
+    let Found::At(l) = found else {
+        return Answer {
+            verdict: Verdict::None,
+            bound: 0,
+        };
+    };
+    let bound = largest_term(g, l, costs, periods, jitters, &mut edges);
+    judged(bound, deadline)
+}

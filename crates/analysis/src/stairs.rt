@@ -1,0 +1,216 @@
+// A right side as stairs, one for each more urgent stream and noise source: where they start, and how they go on to x.
+//
+// Stairs stand in lots, so that those which do not rise are passed over eight at a time.
+ghost use mathlib.Core.Path.{_≡_};
+ghost use Prim.Native.Nat.{ℕ, _+_, _-_, _≤_, _<_, min};
+ghost use lib.ListN.{length, getD};
+ghost use Rattle.names.specs.Limits.{streams, ticks};
+ghost use Rattle.laws.specs.Lists.{ceil};
+ghost use Rattle.analysis.specs.Gathered.{stairs as most, cost};
+ghost use Rattle.analysis.specs.private.Stairs.{far, lots, height, Due, Risen, NoEdgeBefore, Near, NewNearest, LotEnds, Moved};
+ghost use Rattle.analysis.specs.private.Stairs.{StreamsStarted, SourcesStarted, Started};
+use crate::STAIRS;
+use names::STREAMS;
+use names::TICKS;
+
+// Time is counted from so long before a busy period that no edge of a stair is below zero.
+pub(crate) const START: u64 = 2 * (TICKS + 1);
+
+// No edge comes so far.
+const FAR: u64 = 2 * START;
+
+// Stairs are looked at in lots: in a lot whose nearest edge is not passed none of them rises.
+const LOT: usize = 8;
+
+// The last lot need not be full.
+pub(crate) const LOTS: usize = (STAIRS + (LOT - 1)) / LOT;
+
+// How many periods x is past an edge, rounded up. A chain mostly passes one at a time, and needs no division then.
+pub(crate) fn periods_past(x: u64, edge: u64, period: u64) -> u64
+    requires { ⌜ 1 ≤ period ⌝ }
+    requires { ⌜ period ≤ ticks ⌝ }
+    requires { ⌜ x < far ⌝ }
+    ensures { λ r. ⌜ r ≡ ceil (x - edge) period ⌝ }
+{
+    if x <= edge {
+        return 0;
+    }
+    let over = x - edge;
+    if over <= period {
+        return 1;
+    }
+    (over + (period - 1)) / period
+}
+
+// How often a stair among many rises up to x. No guess helps which of them rise next, so no branch decides between none and one.
+fn rises(x: u64, edge: u64, period: u64) -> u64
+    requires { ⌜ 1 ≤ period ⌝ }
+    requires { ⌜ period ≤ ticks ⌝ }
+    requires { ⌜ x < far ⌝ }
+    requires { ⌜ edge < far ⌝ }
+    ensures { λ r. ⌜ r ≡ ceil (x - edge) period ⌝ }
+{
+    if edge + period < x {
+        return periods_past(x, edge, period);
+    }
+    if edge < x { 1 } else { 0 }
+}
+
+// What is left when a lot was gone through: the sum, and an edge that none of its own is before.
+struct Lot {
+    total: u64,
+    nearest: u64,
+}
+
+fn nearer(a: u64, b: u64) -> u64
+    ensures { λ r. ⌜ r ≡ min a b ⌝ }
+{
+    if a < b { a } else { b }
+}
+
+// The stairs from `from` up to `to`, gone on to x: `sum` and what they rise by. Each edge goes on to the last one before the next rise.
+fn lot_at(
+    x: u64,
+    from: usize,
+    to: usize,
+    costs: &[u64; STAIRS],
+    periods: &[u64; STAIRS],
+    edges: &mut [u64; STAIRS],
+    sum: u64,
+) -> Lot
+    requires { ⌜ Due (now costs) (now periods) (now edges) from to x sum ⌝ }
+    ensures { λ r. ⌜ Risen (now (costs .entry)) (now (periods .entry)) (now (edges .entry)) (now (edges .exit)) from to x sum (r .total) ⌝ }
+    ensures { λ r. ⌜ NoEdgeBefore (r .nearest) (now (edges .exit)) from to ⌝ }
+{
+    let mut total = sum;
+    let mut nearest = FAR;
+    let mut k = from;
+    while k < to {
+        let edge = edges[k];
+        let period = periods[k];
+        let d = rises(x, edge, period);
+        let next = edge + d * period;
+        edges[k] = next;
+        total += d * costs[k];
+        nearest = nearer(nearest, next);
+        k += 1;
+    }
+    Lot { total, nearest }
+}
+
+// Lot b goes on to x. Where its nearest edge is not passed none of its stairs rises, and it is not looked at.
+fn climbed_lot(
+    x: u64,
+    b: usize,
+    from: usize,
+    to: usize,
+    costs: &[u64; STAIRS],
+    periods: &[u64; STAIRS],
+    edges: &mut [u64; STAIRS],
+    nearest: &mut [u64; LOTS],
+    sum: u64,
+) -> u64
+    requires { ⌜ Due (now costs) (now periods) (now edges) from to x sum ⌝ }
+    requires { ⌜ length (now nearest) ≡ lots ⌝ }
+    requires { ⌜ b < lots ⌝ }
+    requires { ⌜ NoEdgeBefore (getD (now nearest) b 0) (now edges) from to ⌝ }
+    ensures { λ r. ⌜ Risen (now (costs .entry)) (now (periods .entry)) (now (edges .entry)) (now (edges .exit)) from to x sum r ⌝ }
+    ensures { λ _. ⌜ NewNearest (now (edges .exit)) (now (nearest .entry)) (now (nearest .exit)) b from to ⌝ }
+{
+    if x <= nearest[b] {
+        return sum;
+    }
+    let lot = lot_at(x, from, to, costs, periods, edges, sum);
+    nearest[b] = lot.nearest;
+    lot.total
+}
+
+// Where the lot that starts at k ends.
+fn lot_end(k: usize, n: usize) -> usize
+    requires { ⌜ k < n ⌝ }
+    requires { ⌜ n ≤ most ⌝ }
+    ensures { λ r. ⌜ LotEnds k n r ⌝ }
+{
+    let end = k + LOT;
+    if n < end { n } else { end }
+}
+
+// One evaluation: `sum` and what the stairs rise by up to x.
+pub(crate) fn climbed(
+    x: u64,
+    n: usize,
+    costs: &[u64; STAIRS],
+    periods: &[u64; STAIRS],
+    edges: &mut [u64; STAIRS],
+    nearest: &mut [u64; LOTS],
+    sum: u64,
+) -> u64
+    requires { ⌜ Due (now costs) (now periods) (now edges) 0 n x sum ⌝ }
+    requires { ⌜ Near (now edges) (now nearest) n ⌝ }
+    ensures { λ r. ⌜ r ≡ sum + height (now (costs .entry)) (now (periods .entry)) (now (edges .entry)) n x ⌝ }
+    ensures { λ _. ⌜ Moved (now (costs .entry)) (now (periods .entry)) (now (edges .entry)) (now (edges .exit)) n x ⌝ }
+    ensures { λ _. ⌜ Near (now (edges .exit)) (now (nearest .exit)) n ⌝ }
+{
+    let mut total = sum;
+    let mut k: usize = 0;
+    let mut b: usize = 0;
+    while k < n {
+        let to = lot_end(k, n);
+        total = climbed_lot(x, b, k, to, costs, periods, edges, nearest, total);
+        k = to;
+        b += 1;
+    }
+    total
+}
+
+// A stream's stair starts its jitter and `late` before time's start.
+fn start_streams(jitters: &[u64; STREAMS], n: usize, late: u64, edges: &mut [u64; STAIRS])
+    requires { ⌜ n ≤ streams ⌝ }
+    requires { ⌜ late ≤ cost ⌝ }
+    requires { ⌜ ((k : ℕ) → k < n → getD (now jitters) k 0 ≤ ticks) ⌝ }
+    requires { ⌜ length (now edges) ≡ most ⌝ }
+    ensures { λ _. ⌜ StreamsStarted (now (jitters .entry)) n late (now (edges .exit)) ⌝ }
+{
+    let mut k: usize = 0;
+    while k < n {
+        edges[k] = START - (jitters[k] + late);
+        k += 1;
+    }
+}
+
+// A noise source's stair starts `window` before time's start.
+fn start_sources(from: usize, n: usize, window: u64, edges: &mut [u64; STAIRS])
+    requires { ⌜ from ≤ n ⌝ }
+    requires { ⌜ n ≤ most ⌝ }
+    requires { ⌜ window ≤ cost ⌝ }
+    requires { ⌜ length (now edges) ≡ most ⌝ }
+    ensures { λ _. ⌜ SourcesStarted from n window (now (edges .entry)) (now (edges .exit)) ⌝ }
+{
+    let mut k = from;
+    while k < n {
+        edges[k] = START - window;
+        k += 1;
+    }
+}
+
+// Where all stairs start: those of the streams, and the noise sources' after them.
+pub(crate) fn start_edges(
+    jitters: &[u64; STREAMS],
+    urgent: usize,
+    n: usize,
+    late: u64,
+    window: u64,
+    edges: &mut [u64; STAIRS],
+)
+    requires { ⌜ urgent ≤ streams ⌝ }
+    requires { ⌜ urgent ≤ n ⌝ }
+    requires { ⌜ n ≤ most ⌝ }
+    requires { ⌜ late ≤ cost ⌝ }
+    requires { ⌜ window ≤ cost ⌝ }
+    requires { ⌜ ((k : ℕ) → k < urgent → getD (now jitters) k 0 ≤ ticks) ⌝ }
+    requires { ⌜ length (now edges) ≡ most ⌝ }
+    ensures { λ _. ⌜ Started (now (jitters .entry)) urgent n late window (now (edges .exit)) ⌝ }
+{
+    start_streams(jitters, urgent, late, edges);
+    start_sources(urgent, n, window, edges);
+}

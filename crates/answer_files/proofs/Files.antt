@@ -1,0 +1,32 @@
+-- The outcome of a file, by its counts and its words. Assumes nothing.
+use mathlib.Core.Path.{_≡_, refl}
+use mathlib.Core.List.{List}
+use Prim.Native.Nat.{ℕ}
+use lib.ListN.{replicate}
+use Rattle.names.specs.declared.Refusal.{Refusal}
+use Rattle.judge.specs.declared.Checked.{Checked}
+use Rattle.judge.specs.declared.Checked.the-variants.{Refused}
+use Rattle.carried.specs.Layout as layout
+use Rattle.carried.specs.Carried.{planIn}
+use Rattle.file.specs.declared.Counts.the-variants.{Of, Refused as Counts·Refused}
+use Rattle.file.specs.File.{countsOf, carriedOf}
+use Rattle.file.proofs.Carried.{not-counted, by-words}
+use Rattle.answers.specs.Answers.{answerWith, answerOf}
+use Rattle.answers.proofs.Outcome as outcome
+use Rattle.answer_files.specs.AnswerFiles.{answerRead, answerFileOf}
+
+module _ (bs out : List ℕ) where
+  abbrev no : Refusal → Checked × List ℕ
+  no r = (Refused r, out)
+
+  -- whose contents are refused
+  pub file-refused : (r : Refusal) → countsOf bs ≡ Counts·Refused r → answerFileOf bs out ≡ (Refused r, out)
+  unfolding answerOf answerFileOf
+  file-refused r e =
+      not-counted (λ c s. answerRead c s out) no (λ n m p. answerWith n m p out) (λ s. refl) (λ r s. refl) (λ n m p. outcome.refused-is n m p out) bs r e
+
+  -- whose contents count n streams and m gaps, by its words
+  pub file-is : (n m : ℕ) → countsOf bs ≡ Of n m → {ws : List ℕ} → ws ≡ carriedOf bs (replicate layout.largest 0) → answerFileOf bs out ≡ answerWith n m (planIn n m ws) out
+  unfolding answerOf answerFileOf
+  file-is n m e d =
+      by-words (λ c s. answerRead c s out) no (λ n m p. answerWith n m p out) (λ s. refl) (λ r s. refl) (λ n m p. outcome.refused-is n m p out) bs n m e d

@@ -1,0 +1,2 @@
+pub mod AnswerFiles
+pub mod Claims

@@ -1,0 +1,241 @@
+-- Each stream is put down after those that count; a more urgent one counts, and the largest are kept as they come.
+use borrow.Author.Needs.{needs}
+use borrow.Author.Tests.{lt-ltb, le-ltb}
+use mathlib.Core.Path.{_≡_, refl, ap, _∙_}
+use mathlib.Core.Bool.{true}
+use mathlib.Core.List.{[], _∷_, _++_, map}
+use mathlib.Core.Logic.{⊎-elim}
+use Prim.Native.Nat.{ℕ, max, _+_, _-_, _≤_, _<_}
+use native.Mathlib.Omega.{arith}
+use lib.Dec.{ltb}
+use lib.ListN.{length, getD}
+use Rattle.names.specs.Limits.{streams}
+use Rattle.laws.specs.Lists.{largestOf, those, rows}
+use Rattle.laws.proofs.Lists.{largest-more}
+use Rattle.analysis.specs.Gathered.{cost, shareFits}
+use Rattle.answers.specs.private.Gather.{blocks, shareOf, lentShare, rowStream, Long}
+use Rattle.answers.proofs.Gather.{share-is, share-more, share-still, fits-more, fits-still, fits-here, long-still, gather-more, gather-still, hit-more, hit-still}
+use Rattle.answers.proofs.others_of.Statement.{statement}
+use Rattle.answers.proofs.others_of.Tie as tie
+
+abbrev Inv-loop : tie.InvT-loop
+Inv-loop words n q mine u all costs₀ periods₀ jitters₀ urgent₀ blocking₀ hit₀ k₀ costs periods jitters urgent blocking hit k =
+    (k ≤ n) × (urgent ≤ k) × Long costs periods jitters
+    × (rows urgent (lentShare costs periods jitters) ≡ map (shareOf all) (those (λ j. ltb (j .priority .0) (q .0)) (rows k (rowStream words))))
+    × ((j : ℕ) → j < urgent → shareFits (lentShare costs periods jitters j) ≡ true)
+    × (blocking ≡ largestOf (blocks u q) (rows k (rowStream words))) × (blocking ≤ cost)
+    × (hit ≡ max (all + mine) (largestOf (λ x. x) (rows urgent (λ j. getD costs j 0)))) × (hit ≤ cost)
+
+abbrev μ-loop : tie.MeasureT-loop
+μ-loop words n q mine u all costs₀ periods₀ jitters₀ urgent₀ blocking₀ hit₀ k₀ costs periods jitters urgent blocking hit k = n - k
+
+wide-requires : tie.Need-wide-requires Inv-loop μ-loop
+wide-requires c κs = search needs
+
+add-hit : tie.Need-add-hit Inv-loop μ-loop
+add-hit c = omega (arith, c .before .pre .1 .1 .0, c .wide .ensures .1)
+
+loop-holds : tie.Need-loop-holds Inv-loop μ-loop
+unfolding rows those largestOf
+loop-holds c =
+    let p = c .before .pre in
+    (omega arith, omega arith, p .1 .1 .1 .1, refl, (λ j h. absurd (omega arith)), refl, omega arith, omega (arith, c .wide .ensures .0), omega (arith, c .wide .ensures .0, p .1 .1 .0, p .1 .1 .1 .0))
+
+-- there is a place for the next stream
+room : (c : tie.In-loop Inv-loop μ-loop) → c .before .loop .urgent < streams
+room c = omega (arith, c .before .loop .inv .1, c .before .before .before .pre .0 .few, c .loop-test .taken)
+
+mul-at : tie.Need-mul-at Inv-loop μ-loop
+mul-at c = search needs
+
+add-at : tie.Need-add-at Inv-loop μ-loop
+add-at c = search needs
+
+add-priority : tie.Need-add-priority Inv-loop μ-loop
+add-priority c = search needs
+
+mul-priority : tie.Need-mul-priority Inv-loop μ-loop
+mul-priority c = search needs
+
+element-copy-out-priority : tie.Need-element-copy-out-priority Inv-loop μ-loop
+element-copy-out-priority c = search needs
+
+add-payload : tie.Need-add-payload Inv-loop μ-loop
+add-payload c = search needs
+
+mul-payload : tie.Need-mul-payload Inv-loop μ-loop
+mul-payload c = search needs
+
+element-copy-out-payload : tie.Need-element-copy-out-payload Inv-loop μ-loop
+element-copy-out-payload c = search needs
+
+wide-requires-2 : tie.Need-wide-requires-2 Inv-loop μ-loop
+wide-requires-2 c κs = search needs
+
+add-cost : tie.Need-add-cost Inv-loop μ-loop
+add-cost c = search needs
+
+mul-costs : tie.Need-mul-costs Inv-loop μ-loop
+mul-costs c = search needs
+
+element-write-costs : tie.Need-element-write-costs Inv-loop μ-loop
+element-write-costs c = omega (arith, room (c .before .before .before), c .before .before .before .before .loop .inv .2 .of-costs)
+
+add-wide : tie.Need-add-wide Inv-loop μ-loop
+add-wide c = search needs
+
+mul-wide : tie.Need-mul-wide Inv-loop μ-loop
+mul-wide c = search needs
+
+element-copy-out-wide : tie.Need-element-copy-out-wide Inv-loop μ-loop
+element-copy-out-wide c = search needs
+
+wide-requires-3 : tie.Need-wide-requires-3 Inv-loop μ-loop
+wide-requires-3 c κs = search needs
+
+mul-periods : tie.Need-mul-periods Inv-loop μ-loop
+mul-periods c = search needs
+
+element-write-periods : tie.Need-element-write-periods Inv-loop μ-loop
+element-write-periods c = omega (arith, room (c .before .before .before .before .before), c .before .before .before .before .before .before .loop .inv .2 .of-periods)
+
+add-wide-2 : tie.Need-add-wide-2 Inv-loop μ-loop
+add-wide-2 c = search needs
+
+mul-wide-2 : tie.Need-mul-wide-2 Inv-loop μ-loop
+mul-wide-2 c = search needs
+
+element-copy-out-wide-2 : tie.Need-element-copy-out-wide-2 Inv-loop μ-loop
+element-copy-out-wide-2 c = search needs
+
+wide-requires-4 : tie.Need-wide-requires-4 Inv-loop μ-loop
+wide-requires-4 c κs = search needs
+
+mul-jitters : tie.Need-mul-jitters Inv-loop μ-loop
+mul-jitters c = search needs
+
+element-write-jitters : tie.Need-element-write-jitters Inv-loop μ-loop
+element-write-jitters c = omega (arith, room (c .before .before .before .before .before .before .before), c .before .before .before .before .before .before .before .before .loop .inv .2 .of-jitters)
+
+blocks-requires : tie.Need-blocks-requires Inv-loop μ-loop
+blocks-requires c κs =
+    let d = c .before .before .before .before .before .before .before in
+    let s = d .before .before .before in
+    let w = s .pre .0 .stream _ (d .loop-test .taken) in
+    (w .some-payload, (w .payload, omega (arith, s .pre .1 .0, s .pre .1 .1 .0)))
+
+greater-requires : tie.Need-greater-requires Inv-loop μ-loop
+greater-requires c κs = search needs
+
+add-urgent : tie.Need-add-urgent Inv-loop μ-loop
+add-urgent c = search needs
+
+greater-requires-2 : tie.Need-greater-requires-2 Inv-loop μ-loop
+greater-requires-2 c κs = search needs
+
+add-k : tie.Need-add-k Inv-loop μ-loop
+add-k c = search needs
+
+loop-less : tie.Need-loop-less Inv-loop μ-loop
+loop-less c = search needs
+
+loop-again : tie.Need-loop-again Inv-loop μ-loop
+loop-again c =
+    let g = c .before .before in
+    let b = g .before in
+    let w4 = b .before in
+    let w3 = w4 .before .before in
+    let w2 = w3 .before .before in
+    let d = w2 .before .before .before in
+    let l = d .before .loop in
+    let i = l .inv in
+    let s = d .before .before .before in
+    let f = s .pre .0 in
+    let here = room d in
+    let words = s .args .words .now in
+    let on = share-is (ap (λ z. s .args .all + z) (w2 .wide2 .ensures .0)) (w3 .wide3 .ensures .0) (w4 .wide4 .ensures .0) in
+    let little : s .args .all + w2 .wide2 .result ≤ cost = omega (arith, s .pre .1 .1 .0, w2 .wide2 .ensures .0, f .stream (l .k) (d .loop-test .taken) .payload) in
+    let long : l .urgent < length (l .costs) = omega (arith, here, i .2 .of-costs) in
+    let largest = largest-more (blocks (s .args .u) (s .args .q)) (rowStream words) (l .k) _ _ _ (i .5) (b .blocks2 .ensures .0) (g .greater .ensures) in
+    let small : g .greater .result ≤ cost = omega (arith, g .greater .ensures, b .blocks2 .ensures .1, i .6) in
+    ⊎-elim
+    (λ w. (
+      omega arith,
+      omega (arith, w .2, i .1),
+      long-still _ _ _ (l .urgent) _ _ _ (i .2),
+      rw (w .2) (gather-more (s .args .all) _ (rowStream words) (l .k) _ _ (i .3) (lt-ltb _ _ (w .0 .taken))
+          (share-more _ _ _ (l .urgent) _ _ _ (i .2) here ∙ ap (λ x. rows (l .urgent) (lentShare (l .costs) (l .periods) (l .jitters)) ++ (x ∷ [])) on)),
+      rw (w .2) (fits-more _ _ _ (l .urgent) _ _ _ (i .2) here (i .4) (fits-here little (w3 .wide3 .ensures) (w4 .wide4 .ensures) (f .stream (l .k) (d .loop-test .taken) .some-period))),
+      largest,
+      small,
+      rw (w .2, w .3) (hit-more (s .args .all + s .args .mine) (l .hit) (l .urgent) _ (l .costs) long (i .7) _ (w .1 .ensures)),
+      omega (arith, w .3, w .1 .ensures, little, i .8),
+    ))
+    (λ w. (
+      omega arith,
+      omega (arith, w .1, i .1),
+      long-still _ _ _ (l .urgent) _ _ _ (i .2),
+      rw (w .1) (gather-still (s .args .all) _ (rowStream words) (l .k) _ _ (i .3) (le-ltb _ _ (w .0 .left)) (share-still _ _ _ (l .urgent) _ _ _ (i .2))),
+      rw (w .1) (fits-still _ _ _ (l .urgent) _ _ _ (i .2) (i .4)),
+      largest,
+      small,
+      rw (w .1, w .2) (hit-still (s .args .all + s .args .mine) (l .hit) (l .urgent) _ (l .costs) long (i .7)),
+      omega (arith, w .2, i .8),
+    ))
+    (c .if1 .came)
+
+returns : tie.Need-returns Inv-loop μ-loop
+returns c =
+    let a = c .before .before .before .args in
+    let i = c .before .loop .inv in
+    let e : c .before .loop .k ≡ a .n = omega arith in (
+      record {
+        long = i .2;
+        few = omega (arith, i .1);
+        fits = i .4;
+        is = i .3 ∙ ap (λ k. map (shareOf (a .all)) (those (λ j. ltb (j .priority .0) (a .q .0)) (rows k (rowStream (a .words .now))))) e;
+      },
+      record { blocking = i .5 ∙ ap (λ k. largestOf (blocks (a .u) (a .q)) (rows k (rowStream (a .words .now)))) e; little = i .6; hit = i .7; small = i .8 },
+    )
+
+pub others-of-spec : {M : Type 1} → statement M
+others-of-spec =
+    tie.close
+    (tie.spec
+    Inv-loop
+    μ-loop
+    wide-requires
+    add-hit
+    loop-holds
+    mul-at
+    add-at
+    add-priority
+    mul-priority
+    element-copy-out-priority
+    add-payload
+    mul-payload
+    element-copy-out-payload
+    wide-requires-2
+    add-cost
+    mul-costs
+    element-write-costs
+    add-wide
+    mul-wide
+    element-copy-out-wide
+    wide-requires-3
+    mul-periods
+    element-write-periods
+    add-wide-2
+    mul-wide-2
+    element-copy-out-wide-2
+    wide-requires-4
+    mul-jitters
+    element-write-jitters
+    blocks-requires
+    greater-requires
+    add-urgent
+    greater-requires-2
+    add-k
+    loop-less
+    loop-again
+    returns)

@@ -1,0 +1,140 @@
+-- Each turn lays one row's words after those of the rows before.
+use borrow.Author.Needs.{needs}
+use mathlib.Core.Path.{_≡_, refl, sym, ap, ap₂, _∙_}
+use mathlib.Core.List.{_++_, flatMap}
+use Prim.Native.Nat.{_+_, _-_, _*_, _≤_, _<_}
+use native.Mathlib.Omega.{arith}
+use lib.ListN.{length, drop}
+use denote.Ref.{now}
+use Rattle.names.specs.Limits.{streams}
+use Rattle.laws.specs.Lists.{rows}
+use Rattle.laws.proofs.Lists.{rows-map}
+use Rattle.bound.specs.Bound.{answer}
+use Rattle.plan.specs.Rules.{rowAnswer}
+use Rattle.carried.specs.Carried.{planIn}
+use Rattle.answers.specs.private.Gather.{rowStream, Long}
+use Rattle.row_words.specs.RowWords.{rowWords, wordsPerRow, withAnswer}
+use Rattle.row_words.proofs.RowWords.{put-next}
+use Rattle.costs.proofs.Costs.{v-and-u-within}
+use Rattle.answers.proofs.put_rows.Statement.{statement}
+use Rattle.answers.proofs.put_rows.Tie as tie
+
+abbrev Inv-loop : tie.InvT-loop
+Inv-loop ws n m out₀ c costs₀ periods₀ jitters₀ k₀ out costs periods jitters k =
+    (k ≤ n) × (out ≡ flatMap rowWords (rows k (λ j. rowAnswer (planIn n m ws) (rowStream ws j))) ++ drop (wordsPerRow * k) out₀) × (length out ≡ length out₀) × Long costs periods jitters
+
+abbrev μ-loop : tie.MeasureT-loop
+μ-loop ws n m out₀ c costs₀ periods₀ jitters₀ k₀ out costs periods jitters k = n - k
+
+timing-in-requires : tie.Need-timing-in-requires Inv-loop μ-loop
+timing-in-requires c κs = search needs
+
+overheads-of-requires : tie.Need-overheads-of-requires Inv-loop μ-loop
+overheads-of-requires c κs = search needs
+
+loop-holds : tie.Need-loop-holds Inv-loop μ-loop
+unfolding rows flatMap
+loop-holds c = (omega arith, refl, refl, record { of-costs = refl; of-periods = refl; of-jitters = refl })
+
+gathered-requires : tie.Need-gathered-requires Inv-loop μ-loop
+gathered-requires c κs =
+    let d = c .before .before .before in
+    let f = d .before .before in
+    let s = f .before .before .before in
+    (s .pre .0, (rw (f .overheads-of .ensures, f .before .timing-in .ensures) (v-and-u-within _ (s .pre .0 .timing)), (d .loop-test .taken, d .before .loop .inv .3)))
+
+mul-wide : tie.Need-mul-wide Inv-loop μ-loop
+mul-wide c = search needs
+
+add-wide : tie.Need-add-wide Inv-loop μ-loop
+add-wide c = search needs
+
+add-wide-2 : tie.Need-add-wide-2 Inv-loop μ-loop
+add-wide-2 c = search needs
+
+mul-wide-2 : tie.Need-mul-wide-2 Inv-loop μ-loop
+mul-wide-2 c = search needs
+
+element-copy-out-wide : tie.Need-element-copy-out-wide Inv-loop μ-loop
+element-copy-out-wide c = search needs
+
+wide-requires : tie.Need-wide-requires Inv-loop μ-loop
+wide-requires c κs = search needs
+
+row-answer-requires : tie.Need-row-answer-requires Inv-loop μ-loop
+row-answer-requires c κs = c .before .before .before .before .before .gathered .ensures .fits
+
+-- the turn and the function's entry, seen from what was gathered
+abbrev in-turn : tie.After-gathered Inv-loop μ-loop → tie.In-loop Inv-loop μ-loop
+in-turn c = c .before .before .before .before
+
+abbrev entry : tie.After-gathered Inv-loop μ-loop → tie.Start Inv-loop μ-loop
+entry c = in-turn c .before .before .before .before .before
+
+-- there is room for the words of this row
+few : (c : tie.After-gathered Inv-loop μ-loop) → in-turn c .before .loop .k < streams
+few c = omega (arith, in-turn c .loop-test .taken, entry c .pre .0 .rows .few)
+
+-- the answer is the rules' for the stream of this row
+row-is : (c : tie.After-row-answer Inv-loop μ-loop)
+    → let g = c .before .before .before .before .before .before in
+    let s = entry g in
+    c .row-answer .result ≡ rowAnswer (planIn (s .args .n) (s .args .m) (now (s .args .words))) (rowStream (now (s .args .words)) (in-turn g .before .loop .k))
+row-is c =
+    let w = c .before .before .before .before in
+    let g = w .before .before in
+    c .row-answer .ensures ∙ ap₂ answer (g .gathered .ensures .is) (w .wide .ensures .0)
+
+put-answer-requires : tie.Need-put-answer-requires Inv-loop μ-loop
+put-answer-requires c κs = search needs
+
+add-k : tie.Need-add-k Inv-loop μ-loop
+add-k c = omega (arith, few (c .before .before .before .before .before .before .before .before .before .before))
+
+loop-less : tie.Need-loop-less Inv-loop μ-loop
+loop-less c = search needs
+
+loop-again : tie.Need-loop-again Inv-loop μ-loop
+loop-again c =
+    let p = c .before .before in
+    let r = p .before .before in
+    let g = r .before .before .before .before .before .before in
+    let l = in-turn g .before .loop in
+    let e = p .put-answer .ensures .1 ∙ ap (withAnswer (l .out) (l .k)) (row-is r) in
+    (omega arith, e ∙ put-next _ (l .k) _ _ (omega (arith, entry g .pre .1)) (l .inv .1), search needs, g .gathered .ensures .long)
+
+same-length : tie.Need-same-length Inv-loop μ-loop
+same-length c = c .before .loop .inv .2
+
+returns : tie.Need-returns Inv-loop μ-loop
+unfolding planIn
+returns c =
+    let s = c .before .before .before .before .before in
+    let e : c .before .loop .k ≡ s .args .n = omega arith in
+    let p = planIn (s .args .n) (s .args .m) (now (s .args .words)) in
+    c .before .loop .inv .1 ∙ ap (λ k. flatMap rowWords (rows k (λ j. rowAnswer p (rowStream (now (s .args .words)) j))) ++ drop (wordsPerRow * k) (now (s .args .out))) e
+    ∙ ap (λ l. flatMap rowWords l ++ drop (wordsPerRow * s .args .n) (now (s .args .out))) (sym (rows-map (rowAnswer p) (s .args .n) (rowStream (now (s .args .words)))))
+
+pub put-rows-spec : {M : Type 1} → statement M
+put-rows-spec =
+    tie.close
+    (tie.spec
+    Inv-loop
+    μ-loop
+    timing-in-requires
+    overheads-of-requires
+    loop-holds
+    gathered-requires
+    mul-wide
+    add-wide
+    add-wide-2
+    mul-wide-2
+    element-copy-out-wide
+    wide-requires
+    row-answer-requires
+    put-answer-requires
+    add-k
+    loop-less
+    loop-again
+    same-length
+    returns)

@@ -1,0 +1,38 @@
+-- The contracts determine the outcomes: each equates the result with one value. Assumes nothing.
+use mathlib.Core.Path.{refl, sym, _∙_}
+use Rattle.laws.specs.Determined.{OneOutcome}
+use Rattle.carried.proofs.timing_words.Kinds as timing-words-kinds
+use Rattle.carried.proofs.timing_words.Reads as timing-words
+use Rattle.carried.proofs.words_of.Kinds as words-of-kinds
+use Rattle.carried.proofs.words_of.Reads as words-of
+use Rattle.carried.proofs.words_from.Kinds as words-from-kinds
+use Rattle.carried.proofs.words_from.Reads as words-from
+use Rattle.carried.proofs.timing_in.Kinds as timing-in-kinds
+use Rattle.carried.proofs.timing_in.Reads as timing-in
+use Rattle.carried.proofs.timing_from.Kinds as timing-from-kinds
+use Rattle.carried.proofs.timing_from.Reads as timing-from
+use Rattle.carried.proofs.no_streams.Kinds as no-streams-kinds
+use Rattle.carried.proofs.no_streams.Reads as no-streams
+use Rattle.carried.proofs.sheet_in.Kinds as sheet-in-kinds
+use Rattle.carried.proofs.sheet_in.Reads as sheet-in
+
+pub timing-words-one : OneOutcome 0 timing-words-kinds.ps timing-words-kinds.r timing-words.Post
+timing-words-one κs a x y ws us p q = (p ∙ sym q, refl)
+
+pub words-of-one : OneOutcome 0 words-of-kinds.ps words-of-kinds.r words-of.Post
+words-of-one κs a x y ws us p q = (p ∙ sym q, refl)
+
+pub words-from-one : OneOutcome 1 words-from-kinds.ps words-from-kinds.r words-from.Post
+words-from-one κs a x y ws us p q = (p ∙ sym q, refl)
+
+pub timing-in-one : OneOutcome 1 timing-in-kinds.ps timing-in-kinds.r timing-in.Post
+timing-in-one κs a x y ws us p q = (p ∙ sym q, refl)
+
+pub timing-from-one : OneOutcome 1 timing-from-kinds.ps timing-from-kinds.r timing-from.Post
+timing-from-one κs a x y ws us p q = (p ∙ sym q, refl)
+
+pub no-streams-one : OneOutcome 0 no-streams-kinds.ps no-streams-kinds.r no-streams.Post
+no-streams-one κs a x y ws us p q = (p ∙ sym q, refl)
+
+pub sheet-in-one : OneOutcome 1 sheet-in-kinds.ps sheet-in-kinds.r sheet-in.Post
+sheet-in-one κs a x y ws us p q = (p ∙ sym q, refl)

@@ -1,0 +1,52 @@
+-- The parts are those of the plan, and n streams and m gaps have been read. Assumes nothing.
+use mathlib.Core.Path.{_≡_, sym}
+use Prim.Native.Nat.{min}
+use denote.Ref.{now}
+use lib.ListN.{getD}
+use Rattle.names.specs.Limits.{streams, sources}
+use Rattle.laws.proofs.Lists.{length-rows}
+use Rattle.carried.specs.Layout as layout
+use Rattle.carried.specs.Carried.{streamIn, planIn}
+use borrow.Author.Needs.{needs}
+use Rattle.carried.proofs.sheet_in.Statement.{statement}
+use Rattle.carried.proofs.sheet_in.Tie as tie
+
+smaller-requires : tie.Need-smaller-requires
+smaller-requires c κs = search needs
+
+smaller-requires-2 : tie.Need-smaller-requires-2
+smaller-requires-2 c κs = search needs
+
+timing-in-requires : tie.Need-timing-in-requires
+timing-in-requires c κs = search needs
+
+streams-in-requires : tie.Need-streams-in-requires
+streams-in-requires c κs = search needs
+
+gaps-in-requires : tie.Need-gaps-in-requires
+gaps-in-requires c κs = search needs
+
+returns : tie.Need-returns
+unfolding planIn
+returns c =
+    let s = c .before .before .before in
+    let ws = now (s .before .before .args .words) in
+    let n : s .before .smaller .result ≡ min (s .before .before .args .n) streams = s .before .smaller .ensures in
+    let m : s .smaller2 .result ≡ min (s .before .before .args .m) sources = s .smaller2 .ensures in
+    let count = sym (length-rows (s .before .smaller .result) (λ r. streamIn ws (layout.streamAt r))) in
+    let sources = sym (length-rows (s .smaller2 .result) (λ k. getD ws (layout.gapAt (s .before .smaller .result) k) 0)) in
+    let timing = c .before .before .timing-in .ensures in
+    let rows = c .before .streams-in .ensures in
+    let gaps = c .gaps-in .ensures in
+    rw (← n, ← m) (λ i. record { timing = timing i; streams = rows i; count = count i; gaps = gaps i; sources = sources i })
+
+pub sheet-in-spec : {M : Type 1} → statement M
+sheet-in-spec =
+    tie.close
+    (tie.spec
+    smaller-requires
+    smaller-requires-2
+    timing-in-requires
+    streams-in-requires
+    gaps-in-requires
+    returns)

@@ -1,0 +1,23 @@
+-- In places, the first nine words are those that are lent. Assumes nothing.
+use mathlib.Core.Path.{ap, _∙_}
+use borrow.Author.Needs.{needs}
+use denote.Ref.{now}
+use Rattle.carried.specs.Carried.{timingIn}
+use Rattle.carried.proofs.Plans.{timing-in-places}
+use Rattle.carried.proofs.timing_from.Statement.{statement}
+use Rattle.carried.proofs.timing_from.Tie as tie
+
+words-from-requires : tie.Need-words-from-requires
+words-from-requires c κs = search needs
+
+timing-in-requires : tie.Need-timing-in-requires
+timing-in-requires c κs = search needs
+
+returns : tie.Need-returns
+returns c =
+    c .timing-in .ensures
+    ∙ ap timingIn (c .before .before .words-from .ensures)
+    ∙ timing-in-places (now (c .before .before .before .before .args .values))
+
+pub timing-from-spec : {M : Type 1} → statement M
+timing-from-spec = tie.close (tie.spec words-from-requires timing-in-requires returns)

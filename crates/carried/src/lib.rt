@@ -1,0 +1,187 @@
+// A plan as it is carried: the words of its timing, its streams and its noise gaps, one after the other, lent with its counts beside
+// them. Only plain numbers can be lent, and a sheet is copied whenever it is handed on.
+//
+// Records are made of words and words of records here and nowhere else. Every public function answers for every input, and its
+// contract determines the answer; nothing is checked. Nothing is assumed. This crate knows of a plan's values; it must not know of
+// bytes or refusals.
+use laws::smaller;
+use names::Label;
+use names::Priority;
+use names::SOURCES;
+use names::STREAMS;
+use plan::Sheet;
+use plan::Stream;
+use plan::Timing;
+ghost use mathlib.Core.Path.{_≡_};
+ghost use Prim.Native.Nat.{_+_, _≤_, min};
+ghost use lib.ListN.{length, replicate};
+ghost use lib.Seq.{paste};
+ghost use Rattle.names.specs.Limits as limit;
+ghost use Rattle.laws.specs.Lists.{placed};
+ghost use Rattle.plan.specs.Plan.{planOf};
+ghost use Rattle.plan.specs.Plan.{blank as noStream};
+ghost use Rattle.carried.specs.Layout as layout;
+ghost use Rattle.carried.specs.Carried.{timingIn, streamIn, streamsIn, gapsIn, planIn};
+ghost use Rattle.carried.specs.Carried.{timingWords, streamWords, valuesOf, inPlaces, sheetOf};
+
+// A word's bytes, and the words of a file's contents, of the timing and of a stream. A noise gap is one word.
+pub const WORD: usize = 4;
+
+pub const CONTENTS: usize = 11;
+
+pub const TIMING: usize = 9;
+
+pub const STREAM: usize = 6;
+
+// The words of the largest plan.
+pub const CARRIED: usize = TIMING + STREAM * STREAMS + SOURCES;
+
+// The words of a timing, in their order.
+pub fn timing_words(t: Timing) -> [u32; TIMING]
+    ensures { λ r. ⌜ r ≡ timingWords t ⌝ }
+{
+    [t.f, t.e, t.tfcs, t.swx, t.h, t.g, t.etg, t.lag, t.nb]
+}
+
+fn stream_words(s: Stream) -> [u32; STREAM]
+    ensures { λ r. ⌜ r ≡ streamWords s ⌝ }
+{
+    [
+        s.label.0,
+        s.priority.0,
+        s.period,
+        s.jitter,
+        s.payload,
+        s.deadline,
+    ]
+}
+
+// The words from word k on.
+fn lay<'a>(out: &'a mut [u32], k: usize, words: &'a [u32])
+    requires { ⌜ k + length (now words) ≤ length (now out) ⌝ }
+    ensures { λ _. ⌜ now (out .exit) ≡ paste (now (out .entry)) k (now (words .entry)) (length (now (words .entry))) ⌝ }
+{
+    for i in 0..words.len() {
+        out[k + i] = words[i];
+    }
+}
+
+// The words of a sheet's plan. Of counts past the places all places are taken.
+pub fn words_of(sheet: Sheet) -> [u32; CARRIED]
+    ensures { λ r. ⌜ r ≡ inPlaces (valuesOf (planOf sheet)) ⌝ }
+{
+    let n = smaller(sheet.count, STREAMS);
+    let m = smaller(sheet.sources, SOURCES);
+    let mut out = [0; CARRIED];
+    let timing = timing_words(sheet.timing);
+    lay(&mut out, 0, &timing);
+    for r in 0..n {
+        let s = sheet.streams[r];
+        let words = stream_words(s);
+        lay(&mut out, TIMING + STREAM * r, &words);
+    }
+    let gaps = sheet.gaps;
+    lay(&mut out, TIMING + STREAM * n, &gaps[..m]);
+    out
+}
+
+// The words that a caller lends. What has no place is not taken, and a word that is not lent is 0.
+pub fn words_from(values: &[u32]) -> [u32; CARRIED]
+    ensures { λ r. ⌜ r ≡ inPlaces (now (values .entry)) ⌝ }
+{
+    let n = smaller(values.len(), CARRIED);
+    let mut out = [0; CARRIED];
+    for i in 0..n {
+        out[i] = values[i];
+    }
+    out
+}
+
+// The timing in the words.
+pub fn timing_in(words: &[u32; CARRIED]) -> Timing
+    ensures { λ r. ⌜ r ≡ timingIn (now (words .entry)) ⌝ }
+{
+    Timing {
+        f: words[0],
+        e: words[1],
+        tfcs: words[2],
+        swx: words[3],
+        h: words[4],
+        g: words[5],
+        etg: words[6],
+        lag: words[7],
+        nb: words[8],
+    }
+}
+
+// The timing of the first nine words that a caller lends.
+pub fn timing_from(values: &[u32]) -> Timing
+    ensures { λ r. ⌜ r ≡ timingIn (now (values .entry)) ⌝ }
+{
+    let words = words_from(values);
+    timing_in(&words)
+}
+
+// The one place where a stream is built. It starts at word k.
+fn stream_in(words: &[u32], k: usize) -> Stream
+    requires { ⌜ k + layout.stream ≤ length (now words) ⌝ }
+    ensures { λ r. ⌜ r ≡ streamIn (now (words .entry)) k ⌝ }
+{
+    Stream {
+        label: Label(words[k]),
+        priority: Priority(words[k + 1]),
+        period: words[k + 2],
+        jitter: words[k + 3],
+        payload: words[k + 4],
+        deadline: words[k + 5],
+    }
+}
+
+// What stands in the unused places for streams.
+pub fn no_streams() -> [Stream; STREAMS]
+    ensures { λ r. ⌜ r ≡ replicate limit.streams noStream ⌝ }
+{
+    let zeros = [0; STREAM];
+    [stream_in(&zeros, 0); STREAMS]
+}
+
+fn streams_in(words: &[u32; CARRIED], n: usize) -> [Stream; STREAMS]
+    requires { ⌜ n ≤ limit.streams ⌝ }
+    ensures { λ r. ⌜ r ≡ placed limit.streams noStream (streamsIn n (now (words .entry))) ⌝ }
+{
+    let mut out = no_streams();
+    for r in 0..n {
+        out[r] = stream_in(words, TIMING + STREAM * r);
+    }
+    out
+}
+
+fn gaps_in(words: &[u32; CARRIED], n: usize, m: usize) -> [u32; SOURCES]
+    requires { ⌜ n ≤ limit.streams ⌝ }
+    requires { ⌜ m ≤ limit.sources ⌝ }
+    ensures { λ r. ⌜ r ≡ placed limit.sources 0 (gapsIn n m (now (words .entry))) ⌝ }
+{
+    let mut out = [0; SOURCES];
+    for k in 0..m {
+        out[k] = words[TIMING + STREAM * n + k];
+    }
+    out
+}
+
+// The sheet of the plan of n streams and m gaps in the words; of counts past the places it has as many as there are.
+pub fn sheet_in(words: &[u32; CARRIED], n: usize, m: usize) -> Sheet
+    ensures { λ r. ⌜ r ≡ sheetOf (planIn (min n limit.streams) (min m limit.sources) (now (words .entry))) ⌝ }
+{
+    let count = smaller(n, STREAMS);
+    let sources = smaller(m, SOURCES);
+    let timing = timing_in(words);
+    let streams = streams_in(words, count);
+    let gaps = gaps_in(words, count, sources);
+    Sheet {
+        timing,
+        streams,
+        count,
+        gaps,
+        sources,
+    }
+}

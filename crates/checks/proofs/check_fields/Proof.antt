@@ -1,0 +1,71 @@
+-- A field that is found is one of the words that are carried, so its byte can be counted. Assumes nothing.
+use mathlib.Core.Path.{_≡_, sym, ap, _∙_}
+use Prim.Native.Nat.{ℕ, _<_, min}
+use native.Mathlib.Omega.{arith}
+use denote.Ref.{now}
+use lib.ListN.{getD}
+use Rattle.names.specs.Limits.{streams, sources}
+use Rattle.laws.specs.declared.Found.the-variants.{At}
+use Rattle.laws.proofs.Lists.{length-rows}
+use Rattle.judge.proofs.Table.{given, passed, nothing-given}
+use Rattle.plan.specs.Plan.{Plan}
+use Rattle.carried.specs.Layout as layout
+use Rattle.carried.specs.Carried.{streamIn, planIn}
+use Rattle.fields.specs.Fields.{fields, lowest}
+use Rattle.fields.proofs.Inside.{at-the-lowest}
+use Rattle.fields.proofs.Carried.{length-fields}
+use Rattle.checks.specs.Checks.{byteIn}
+use borrow.Author.Needs.{needs}
+use Rattle.checks.proofs.check_fields.Statement.{statement}
+use Rattle.checks.proofs.check_fields.Tie as tie
+
+-- the plan that is asked about
+abbrev asked : tie.Start → Plan
+asked b = planIn (min (b .args .n) streams) (min (b .args .m) sources) (now (b .args .words))
+
+one-of-them : (b : tie.Start) {k : ℕ} → lowest 0 (fields (asked b)) ≡ At k → k < layout.largest
+unfolding planIn
+one-of-them b e =
+    let p = asked b in
+    let ws = now (b .args .words) in
+    let n = min (b .args .n) streams in
+    let m = min (b .args .m) sources in
+    let f = at-the-lowest 0 (fields p) _ .0 e in
+    omega (arith, f .counted, f .among, length-fields p, length-rows n (λ r. streamIn ws (layout.streamAt r)), length-rows m (λ k. getD ws (layout.gapAt n k) 0))
+
+outside-requires : tie.Need-outside-requires
+outside-requires c κs = search needs
+
+enum-known-k : tie.Need-enum-known-k
+enum-known-k c = search needs
+
+add-refused : tie.Need-add-refused
+add-refused c = omega (arith, one-of-them (c .before .before .before .before) (sym (c .before .before .before .outside .ensures) ∙ c .before .k .given .1))
+
+mul-refused : tie.Need-mul-refused
+mul-refused c = omega (arith, one-of-them (c .before .before .before .before) (sym (c .before .before .before .outside .ensures) ∙ c .before .k .given .1))
+
+refused-requires : tie.Need-refused-requires
+refused-requires c κs = search needs
+
+enum-told : tie.Need-enum-told
+enum-told c = search needs
+
+returns : tie.Need-returns
+returns c = c .refused .ensures ∙ sym (given _ _ _ (ap byteIn (sym (c .before .before .before .before .outside .ensures) ∙ c .before .before .k .given .1)))
+
+returns-2 : tie.Need-returns-2
+returns-2 c = sym (passed _ _ (ap byteIn (sym (c .before .before .outside .ensures) ∙ c .enum-told .given .1)) ∙ nothing-given)
+
+pub check-fields-spec : {M : Type 1} → statement M
+check-fields-spec =
+    tie.close
+    (tie.spec
+    outside-requires
+    enum-known-k
+    add-refused
+    mul-refused
+    refused-requires
+    enum-told
+    returns
+    returns-2)

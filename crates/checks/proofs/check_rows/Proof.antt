@@ -1,0 +1,127 @@
+-- The two columns are those of the streams in the words. Assumes nothing.
+use mathlib.Core.Path.{_≡_, sym, ap, _∙_}
+use Prim.Native.Nat.{min}
+use native.Mathlib.Nat.{add-zero}
+use native.Mathlib.Omega.{arith}
+use denote.Ref.{now}
+use lib.ListN.{getD}
+use lib.Seq.{length-take-le}
+use Rattle.names.specs.Limits.{streams}
+use Rattle.laws.proofs.Lists.{rows-same, rows-map}
+use Rattle.repeats.specs.Repeats.{firstRepeat}
+use Rattle.judge.specs.Table.{rowIn}
+use Rattle.judge.proofs.Table.{given, passed, nothing-given}
+use Rattle.carried.specs.Layout as layout
+use Rattle.carried.specs.Carried.{streamIn, streamsIn}
+use Rattle.checks.specs.Checks.{priorities, labels}
+use borrow.Author.Needs.{needs}
+use Rattle.checks.proofs.check_rows.Statement.{statement}
+use Rattle.checks.proofs.check_rows.Tie as tie
+
+priorities-are : (c : tie.After-first-repeat) → let a = c .before .before .before .before .before .args in
+    firstRepeat (priorities (streamsIn (min (a .n) streams) (now (a .words)))) ≡ c .first-repeat .result
+priorities-are c =
+    let n = c .before .before .before .before .smaller in
+    let ws = now (c .before .before .before .before .before .args .words) in
+    ap (λ k. firstRepeat (priorities (streamsIn k ws))) (sym (n .ensures))
+    ∙ ap firstRepeat (rows-map (λ s. s .priority .0) (n .result) (λ j. streamIn ws (layout.streamAt j)) ∙ sym (c .before .before .column .ensures))
+    ∙ sym (c .first-repeat .ensures)
+
+labels-are : (c : tie.After-first-repeat2) → let a = c .before .before .before .before .before .before .before .before .before .before .before .args in
+    firstRepeat (labels (streamsIn (min (a .n) streams) (now (a .words)))) ≡ c .first-repeat2 .result
+labels-are c =
+    let s = c .before .before .before .before .before .before .before .before .before .before in
+    let ws = now (s .before .args .words) in
+    let n = s .smaller in
+    ap (λ k. firstRepeat (labels (streamsIn k ws))) (sym (n .ensures))
+    ∙ ap firstRepeat
+    (rows-map (λ s. s .label .0) (n .result) (λ j. streamIn ws (layout.streamAt j))
+    ∙ rows-same (n .result) _ _ (λ j h. ap (λ k. getD ws k 0) (sym (add-zero (layout.streamAt j))))
+    ∙ sym (c .before .before .column2 .ensures))
+    ∙ sym (c .first-repeat2 .ensures)
+
+smaller-requires : tie.Need-smaller-requires
+smaller-requires c κs = search needs
+
+column-requires : tie.Need-column-requires
+column-requires c κs = search needs
+
+array-share-prefix-priorities : tie.Need-array-share-prefix-priorities
+array-share-prefix-priorities c = search needs
+
+slice-aggregate-first-repeat : tie.Need-slice-aggregate-first-repeat
+slice-aggregate-first-repeat c = sym (length-take-le _ _ (omega arith))
+
+first-repeat-requires : tie.Need-first-repeat-requires
+first-repeat-requires c κs = search needs
+
+enum-known-r : tie.Need-enum-known-r
+enum-known-r c = search needs
+
+refused-requires : tie.Need-refused-requires
+refused-requires c κs = search needs
+
+returns : tie.Need-returns
+returns c = c .refused .ensures ∙ sym (given _ _ _ (ap rowIn (priorities-are (c .before .before .before .before) ∙ c .before .before .r .given .1)))
+
+enum-told : tie.Need-enum-told
+enum-told c = search needs
+
+column-requires-2 : tie.Need-column-requires-2
+column-requires-2 c κs = search needs
+
+array-share-prefix-labels : tie.Need-array-share-prefix-labels
+array-share-prefix-labels c = search needs
+
+slice-aggregate-first-repeat-2 : tie.Need-slice-aggregate-first-repeat-2
+slice-aggregate-first-repeat-2 c = sym (length-take-le _ _ (omega arith))
+
+first-repeat-requires-2 : tie.Need-first-repeat-requires-2
+first-repeat-requires-2 c κs = search needs
+
+enum-known-r-2 : tie.Need-enum-known-r-2
+enum-known-r-2 c = search needs
+
+refused-requires-2 : tie.Need-refused-requires-2
+refused-requires-2 c κs = search needs
+
+enum-told-2 : tie.Need-enum-told-2
+enum-told-2 c = search needs
+
+returns-2 : tie.Need-returns-2
+returns-2 c =
+    let f = c .before .before .before .before in
+    let t = f .before .before .before .before in
+    c .refused2 .ensures
+    ∙ sym (passed _ _ (ap rowIn (priorities-are (t .before .before) ∙ t .enum-told .given .1)) ∙ given _ _ _ (ap rowIn (labels-are f ∙ c .before .before .r2 .given .1)))
+
+returns-3 : tie.Need-returns-3
+returns-3 c =
+    let f = c .before .before in
+    let t = f .before .before .before .before in
+    sym (passed _ _ (ap rowIn (priorities-are (t .before .before) ∙ t .enum-told .given .1))
+    ∙ passed _ _ (ap rowIn (labels-are f ∙ c .enum-told2 .given .1))
+    ∙ nothing-given)
+
+pub check-rows-spec : {M : Type 1} → statement M
+check-rows-spec =
+    tie.close
+    (tie.spec
+    smaller-requires
+    column-requires
+    array-share-prefix-priorities
+    slice-aggregate-first-repeat
+    first-repeat-requires
+    enum-known-r
+    refused-requires
+    returns
+    enum-told
+    column-requires-2
+    array-share-prefix-labels
+    slice-aggregate-first-repeat-2
+    first-repeat-requires-2
+    enum-known-r-2
+    refused-requires-2
+    enum-told-2
+    returns-2
+    returns-3)

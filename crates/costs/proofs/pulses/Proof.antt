@@ -1,0 +1,27 @@
+-- The product of two bounded numbers is bounded.
+use mathlib.Core.Path.{refl}
+use Prim.Native.Nat.{_+_, _^_, _*_, _≤_}
+use native.Mathlib.Nat.{mul-le-mul}
+use native.Mathlib.Omega.{arith}
+use borrow.Author.Needs.{needs}
+use Rattle.names.specs.Limits.{bits}
+use Rattle.costs.proofs.pulses.Statement.{statement}
+use Rattle.costs.proofs.pulses.Tie as tie
+
+add-result : tie.Need-add-result
+add-result c = search needs
+
+bits-but-one-requires : tie.Need-bits-but-one-requires
+bits-but-one-requires c κs = search needs
+
+fits : (c : tie.After-bits-but-one) → (c .before .args .h + c .before .args .g) * c .bits-but-one .result ≤ 2 ^ 33 * bits
+fits c = mul-le-mul {n₁ = c .before .args .h + c .before .args .g} {n₂ = 2 ^ 33} {m₂ = bits} (omega arith) (omega arith)
+
+mul-result : tie.Need-mul-result
+mul-result c = omega (arith, fits c)
+
+returns : tie.Need-returns
+returns c = (rw (c .bits-but-one .ensures .0) refl, fits c)
+
+pub pulses-spec : {M : Type 1} → statement M
+pulses-spec = tie.close (tie.spec add-result bits-but-one-requires mul-result returns)

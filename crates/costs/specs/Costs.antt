@@ -1,0 +1,32 @@
+-- V and U of every timing, and how large they are within the limits.
+use Prim.Native.Nat.{ℕ, _+_, _-_, _*_, min}
+use Rattle.names.specs.Limits.{constant, bits}
+use Rattle.plan.specs.declared.Timing.{Timing}
+use Rattle.plan.specs.Rules.{«V», U}
+use Rattle.costs.specs.declared.Overheads.{Overheads}
+
+-- more than 32 priority bits count as 32, so that U fits its word
+abbrev pub fewBits : Timing → Timing
+fewBits t =
+    record {
+      f = t .f;
+      e = t .e;
+      tfcs = t .tfcs;
+      swx = t .swx;
+      h = t .h;
+      g = t .g;
+      etg = t .etg;
+      lag = t .lag;
+      nb = min (t .nb) bits;
+    }
+
+unfoldable pub overheadsOf : Timing → Overheads
+overheadsOf t = record { v = «V» t; u = U (fewBits t) }
+
+-- the most that V can be: F + E + max(TFCS, SWX) + H
+abbrev pub mostV : ℕ
+mostV = constant + constant + constant + constant
+
+-- the most that U can be: G + (H + G) × (NB - 1) + ETG + LAG
+abbrev pub mostU : ℕ
+mostU = constant + (constant + constant) * (bits - 1) + constant + constant

@@ -1,0 +1,26 @@
+-- The fields of a plan are the words that are carried, with limits beside them. Assumes nothing.
+use mathlib.Core.Path.{_≡_, sym, ap, ap₂, _∙_}
+use mathlib.Core.List.{_++_, map, flatMap, map-append, map-map, map-id}
+use Prim.Native.Nat.{ℕ}
+use lib.ListN.{length, length-map}
+use Rattle.laws.proofs.Pieces.{map-flat}
+use Rattle.plan.specs.Plan.{Plan}
+use Rattle.carried.specs.Layout as layout
+use Rattle.carried.specs.Carried.{timingWords}
+use Rattle.carried.proofs.Plans.{length-values}
+use Rattle.fields.specs.Fields.{Field, streamFields, gapField, fields}
+use Rattle.fields.specs.Claims.{WordsAreCarried}
+
+pub words-are-carried : WordsAreCarried
+unfolding fields
+words-are-carried p =
+    let f = streamFields (p .timing .nb) in
+    let word : Field → ℕ = λ f. f .word in
+    ap (λ r. timingWords (p .timing) ++ r)
+    (map-append word (flatMap f (p .streams)) (map gapField (p .gaps))
+    ∙ ap₂ _++_ (map-flat word f (p .streams)) (map-map word gapField (p .gaps) ∙ map-id (p .gaps)))
+
+pub length-fields : (p : Plan) → length (fields p) ≡ layout.gapAt (length (p .streams)) (length (p .gaps))
+length-fields p =
+    let word : Field → ℕ = λ f. f .word in
+    sym (length-map (fields p) word) ∙ ap length (words-are-carried p) ∙ length-values p

@@ -1,0 +1,61 @@
+-- There is room or there is not; the two stores are those of the row's words.
+use mathlib.Core.Path.{refl, sym}
+use Prim.Native.Nat.{_/_, _<_}
+use native.Mathlib.Omega.{arith}
+use borrow.Author.Needs.{needs}
+use borrow.Author.Tests.{lt-ltb, le-ltb}
+use lib.ListN.{length, length-set}
+use denote.Ref.{now}
+use Rattle.row_words.specs.RowWords.{wordsPerRow, withAnswer}
+use Rattle.row_words.proofs.RowWords.{put-is}
+use Rattle.row_words.proofs.put_answer.Statement.{statement}
+use Rattle.row_words.proofs.put_answer.Tie as tie
+
+returns : tie.Need-returns
+unfolding withAnswer
+returns c = simp (le-ltb _ _ (c .if1 .taken)) (refl, refl)
+
+mul-at : tie.Need-mul-at
+mul-at c = search needs
+
+number-requires : tie.Need-number-requires
+number-requires c κs = search needs
+
+mul-words : tie.Need-mul-words
+mul-words c = search needs
+
+slice-write-words : tie.Need-slice-write-words
+slice-write-words c = search needs
+
+add-words : tie.Need-add-words
+add-words c = search needs
+
+mul-words-2 : tie.Need-mul-words-2
+mul-words-2 c = search needs
+
+slice-write-words-2 : tie.Need-slice-write-words-2
+slice-write-words-2 c = simp length-set (omega arith)
+
+same-length : tie.Need-same-length
+same-length c = search needs
+
+returns-2 : tie.Need-returns-2
+returns-2 c =
+    let a = c .before .before .before .before .before .args in
+    let h : a .row .0 < length (now (a .words)) / wordsPerRow = omega arith in
+    (sym (lt-ltb _ _ h), rw (c .number .ensures) (put-is _ _ (a .answer) h))
+
+pub put-answer-spec : {M : Type 1} → statement M
+put-answer-spec =
+    tie.close
+    (tie.spec
+    returns
+    mul-at
+    number-requires
+    mul-words
+    slice-write-words
+    add-words
+    mul-words-2
+    slice-write-words-2
+    same-length
+    returns-2)

@@ -1,0 +1,50 @@
+-- How a row's answer is laid into words, and how it is read from them.
+use mathlib.Core.Bool.{Bool, cond}
+use mathlib.Core.List.{List, [], _∷_, _++_}
+use Prim.Native.Nat.{ℕ, _+_, _*_, _/_}
+use lib.Dec.{ltb, eqb}
+use lib.ListN.{length, take, drop, getD}
+use Rattle.laws.specs.Lists.{rows}
+use Rattle.bound.specs.declared.Verdict.{Verdict}
+use Rattle.bound.specs.declared.Verdict.the-variants.{Met, Missed, None}
+use Rattle.bound.specs.declared.Answer.{Answer}
+use Rattle.bound.specs.Bound.{verdictNumber}
+
+-- the words of a row: the verdict (0 met, 1 missed, 2 none), then the bound (0 for none)
+abbrev pub rowWords : Answer → List ℕ
+rowWords a = verdictNumber (a .verdict) ∷ a .bound ∷ []
+
+-- how many these are
+abbrev pub wordsPerRow : ℕ
+wordsPerRow = 2
+
+-- all words of row k are there
+abbrev pub hasRow : List ℕ → ℕ → Bool
+hasRow ws k = ltb k (length ws / wordsPerRow)
+
+-- words with an answer at row k; as they were where there is no room for all of it
+unfoldable pub withAnswer : List ℕ → ℕ → Answer → List ℕ
+withAnswer ws k a =
+    cond (hasRow ws k) (take (wordsPerRow * k) ws ++ rowWords a ++ drop (wordsPerRow * k + wordsPerRow) ws) ws
+
+-- what stands in the words of row k
+abbrev pub verdictAt : List ℕ → ℕ → ℕ
+verdictAt ws k = getD ws (wordsPerRow * k) 0
+
+abbrev pub boundAt : List ℕ → ℕ → ℕ
+boundAt ws k = getD ws (wordsPerRow * k + 1) 0
+
+-- a verdict from its number
+abbrev pub verdictOfNumber : ℕ → Verdict
+verdictOfNumber v = cond (eqb v 0) Met (cond (eqb v 1) Missed None)
+
+-- the answer at row k; none where its words are not all there
+unfoldable pub answerAt : List ℕ → ℕ → Answer
+answerAt ws k =
+    cond (hasRow ws k)
+    (record { verdict = verdictOfNumber (verdictAt ws k); bound = boundAt ws k })
+    (record { verdict = None; bound = 0 })
+
+-- the answers of the first n rows
+abbrev pub answersIn : ℕ → List ℕ → List Answer
+answersIn n ws = rows n (answerAt ws)

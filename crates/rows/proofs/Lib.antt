@@ -1,5 +1,0 @@
-pub mod Gather
-pub mod Terms
-pub mod Places
-pub mod Outcome
-pub mod Unique

@@ -1,5 +1,0 @@
-pub mod Same
-pub mod Counts
-pub mod Laid
-pub mod Words
-pub mod Unique
