@@ -23,7 +23,8 @@ struct Pair {
 // Of rows i and i + 1, in one pass over the rows before. There is no way out of the loop, so that several rows are compared at once.
 fn stand_before(values: &[u32], i: usize) -> Pair
     requires { ⌜ i + 1 < length (now values) ⌝ }
-    ensures { λ r. ⌜ (r .first ≡ repeatsAt (now (values .entry)) i) × (r .second ≡ repeatsAt (now (values .entry)) (i + 1)) ⌝ }
+    ensures { λ r. ⌜ r .first ≡ repeatsAt (now (values .entry)) i ⌝ }
+    ensures { λ r. ⌜ r .second ≡ repeatsAt (now (values .entry)) (i + 1) ⌝ }
 {
     let a = values[i];
     let b = values[i + 1];
