@@ -2,7 +2,7 @@
 use mathlib.Core.Path.{_≡_}
 use mathlib.Core.Bool.{true}
 use mathlib.Core.List.{List}
-use Prim.Native.Nat.{ℕ, _+_, _-_, _*_, _^_, _≤_, _<_}
+use Prim.Native.Nat.{ℕ, _+_, _*_, _^_, _≤_, _<_}
 use native.Mathlib.Nat.{le-trans, zero-mul, mul-le-mul, mul-le-mul-right}
 use native.Mathlib.Omega.{arith}
 use lib.Dec.{T, leb}
@@ -18,7 +18,7 @@ use Rattle.bound.specs.Bound.{E, demand, sideL}
 use Rattle.bound.specs.Claims.{Sound}
 use Rattle.bound.proofs.Sides.{demand-own}
 use Rattle.analysis.specs.declared.Gathered.{Gathered}
-use Rattle.analysis.specs.Gathered.{Lent, termsWith, termsOf, shareAt, gapAt, cost, shareFits, sourceFits, rowFits, fits}
+use Rattle.analysis.specs.Gathered.{Lent, termsWith, termsOf, shareAt, gapOf, cost, shareFits, sourceFits, rowFits, fits}
 use Rattle.analysis.specs.private.Chains.{ownL, restL, aloneTerms}
 use Rattle.analysis.specs.private.Fit.{FitShare, FitRow, Fit}
 
@@ -44,7 +44,7 @@ unfolding sideL E demand most
 sideL-fits t f x h =
     let g = t .row in
     let d : demand (termsOf t .urgent) x ≤ g .urgent * most = le-trans (le-of-eq (sum-rows _ (g .urgent) (shareAt t))) (sumTo-at-most _ most (g .urgent) (λ k p. part (getD (t .costs) k 0) (getD (t .periods) k 0) (getD (t .jitters) k 0) x (f .urgent k p) h)) in
-    let hits : sumOf (λ N. ceil x N) (termsOf t .gaps) ≤ g .sources * ticks = le-trans (le-of-eq (sum-rows _ (g .sources) (gapAt t))) (sumTo-at-most _ ticks (g .sources) (λ k p. le-trans (ceil-le x (gapAt t k) (f .some-gap k p)) h)) in
+    let hits : sumOf (λ N. ceil x N) (termsOf t .gaps) ≤ g .sources * ticks = le-trans (le-of-eq (sum-rows _ (g .sources) (gapOf t))) (sumTo-at-most _ ticks (g .sources) (λ k p. le-trans (ceil-le x (gapOf t k) (f .some-gap k p)) h)) in
     let e : E (termsOf t) x ≤ sources * ticks * cost = mul-le-mul (le-trans hits (mul-le-mul-right ticks (f .row .quiet))) (f .row .hit) in
     omega (arith, demand-own (termsOf t .own) (termsOf t .urgent) x, part (g .cost) (g .period) (g .jitter) x (f .row .own) h, d, mul-le-mul-right most (f .row .few), e, f .row .blocking)
   where
@@ -101,7 +101,7 @@ unfolding fits
 fit-known t e =
     let (e2, each) = both _ _ e in
     let (row, urgent) = both _ _ e2 in
-    let source : (k : ℕ) → k < t .row .sources → (1 ≤ gapAt t k) × (gapAt t k ≤ ticks) × (getD (t .costs) (t .row .urgent + k) 0 ≡ t .row .hit) =
+    let source : (k : ℕ) → k < t .row .sources → (1 ≤ gapOf t k) × (gapOf t k ≤ ticks) × (getD (t .costs) (t .row .urgent + k) 0 ≡ t .row .hit) =
     λ k h. source-known _ _ _ (every-each _ (t .row .sources) each k h) in
     record {
       row = row-known (t .row) row;

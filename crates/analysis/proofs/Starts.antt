@@ -11,7 +11,7 @@ use lib.Seq.{getD-set-same, getD-set-other}
 use Rattle.laws.specs.Lists.{ceil}
 use Rattle.laws.proofs.Lists.{sumTo-append, sumTo-same, sum-rows, sum-times}
 use Rattle.bound.specs.Bound.{demand, E}
-use Rattle.analysis.specs.Gathered.{stairs as most, Lent, termsOf, shareAt, gapAt, cost}
+use Rattle.analysis.specs.Gathered.{stairs as most, Lent, termsOf, shareAt, gapOf, cost}
 use Rattle.analysis.specs.private.Stairs.{start, stair, height, Stairs, Edges, StreamsStarted, SourcesStarted, Started}
 use Rattle.analysis.specs.private.Chains.{MakesUp}
 use Rattle.analysis.specs.private.Fit.{Fit}
@@ -75,7 +75,7 @@ module _ (t : Lent) (f : Fit t) (late window : ℕ) (p : late ≤ cost) (q : win
       let e : x + start - (start - (getD (t .jitters) k 0 + late)) ≡ x + late + getD (t .jitters) k 0 = omega (arith, f .urgent k h .jitter) in
       rw (s .stream k h, e) refl
 
-  source-height : (x k : ℕ) → k < t .row .sources → stair (t .costs) (t .periods) edges (x + start) (t .row .urgent + k) ≡ ceil (x + window) (gapAt t k) * t .row .hit
+  source-height : (x k : ℕ) → k < t .row .sources → stair (t .costs) (t .periods) edges (x + start) (t .row .urgent + k) ≡ ceil (x + window) (gapOf t k) * t .row .hit
   source-height x k h =
       let e : x + start - (start - window) ≡ x + window = omega arith in
       rw (s .source (t .row .urgent + k) (omega arith) (omega arith), f .each k h, e) refl
@@ -86,7 +86,7 @@ module _ (t : Lent) (f : Fit t) (late window : ℕ) (p : late ≤ cost) (q : win
       sumTo-append (stair (t .costs) (t .periods) edges (x + start)) (t .row .urgent) (t .row .sources)
       ∙ ap₂ _+_
       (sumTo-same _ _ (t .row .urgent) (stream-height x) ∙ sym (sum-rows (λ j. ceil (x + late + j .J) (j .T) * j .C″) (t .row .urgent) (shareAt t)))
-      (sumTo-same _ _ (t .row .sources) (source-height x) ∙ sym (sum-rows (λ N. ceil (x + window) N * t .row .hit) (t .row .sources) (gapAt t)) ∙ sym (sum-times (λ N. ceil (x + window) N) (t .row .hit) (termsOf t .gaps)))
+      (sumTo-same _ _ (t .row .sources) (source-height x) ∙ sym (sum-rows (λ N. ceil (x + window) N * t .row .hit) (t .row .sources) (gapOf t)) ∙ sym (sum-times (λ N. ceil (x + window) N) (t .row .hit) (termsOf t .gaps)))
 
   pub laid : (rest : ℕ → ℕ) → ((x : ℕ) → demand (termsOf t .urgent) (x + late) + E (termsOf t) (x + window) ≡ rest x)
       → MakesUp (t .costs) (t .periods) edges (t .row .urgent + t .row .sources) rest

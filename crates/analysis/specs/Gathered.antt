@@ -30,8 +30,8 @@ lent g costs periods jitters = record { row = g; costs = costs; periods = period
 abbrev pub shareAt : Lent → ℕ → Share
 shareAt t k = record { C″ = getD (t .costs) k 0; T = getD (t .periods) k 0; J = getD (t .jitters) k 0 }
 
-abbrev pub gapAt : Lent → ℕ → ℕ
-gapAt t k = getD (t .periods) (t .row .urgent + k) 0
+abbrev pub gapOf : Lent → ℕ → ℕ
+gapOf t k = getD (t .periods) (t .row .urgent + k) 0
 
 -- a row's own terms, with the shares of hp(i) and the gaps
 abbrev pub termsWith : Gathered → List Share → List ℕ → Terms
@@ -47,7 +47,7 @@ termsWith g shares gaps =
     }
 
 abbrev pub termsOf : Lent → Terms
-termsOf t = termsWith (t .row) (rows (t .row .urgent) (shareAt t)) (rows (t .row .sources) (gapAt t))
+termsOf t = termsWith (t .row) (rows (t .row .urgent) (shareAt t)) (rows (t .row .sources) (gapOf t))
 
 -- a cost is at most 5,000,000, T and N are 1 to 4,294,967,295, J is 0 to that
 abbrev pub cost : ℕ

@@ -12,8 +12,7 @@ use Rattle.file.proofs.RoundTrip.{reads-as-its-values}
 use Rattle.answers.specs.Answers.{answerOf}
 use Rattle.answers.specs.Claims.{SheetOf}
 use Rattle.answers.proofs.Values.{sheet-refused, checked-by-plan, sheets-alike}
-use Rattle.answer_files.specs.AnswerFiles.{answerRead, answerFileOf}
-use Rattle.answer_files.specs.Claims.{FileAlike}
+use Rattle.answer_files.specs.AnswerFiles.{answerRead, answerFileOf, FileAlike}
 
 pub file-alike : FileAlike
 unfolding answerFileOf

@@ -1,2 +1,1 @@
 pub mod AnswerFiles
-pub mod Claims

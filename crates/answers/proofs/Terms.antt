@@ -23,7 +23,7 @@ use Rattle.plan.specs.Rules as rule
 use Rattle.carried.specs.Layout as layout
 use Rattle.carried.specs.Carried.{timingIn, planIn}
 use Rattle.costs.specs.declared.Overheads.{Overheads}
-use Rattle.costs.specs.Claims.{VAndU}
+use Rattle.costs.specs.Costs.{VAndU}
 use Rattle.answers.specs.private.Gather.{PlacesWithin, Gathers, After, RowTerms, blocks, shareOf, lentShare, rowStream}
 use Rattle.answers.proofs.Gather.{fits-here}
 

@@ -7,3 +7,13 @@ use Prim.Native.String.{String, [] as none, _∷_ as _then_}
 abbrev pub ascii : String → List ℕ
 ascii none = []
 ascii (c then s) = code c ∷ ascii s
+
+-- the bytes that part fields, lines, and a label's two numbers
+abbrev pub space : ℕ
+space = 32
+
+abbrev pub newline : ℕ
+newline = 10
+
+abbrev pub point : ℕ
+point = 46

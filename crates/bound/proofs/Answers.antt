@@ -5,13 +5,13 @@ use Rattle.laws.specs.declared.Found.the-variants.{At, Nothing}
 use Rattle.bound.specs.declared.Verdict.the-variants.{None}
 use Rattle.bound.specs.declared.Answer.{Answer}
 use Rattle.bound.specs.Terms.{Terms}
-use Rattle.bound.specs.Bound.{busy, bound, verdict, answerOf, answer}
+use Rattle.bound.specs.Bound.{busy, bound, verdict, answerFor, answer}
 
 module _ (r : Terms) (D : ℕ) where
   pub answer-none : busy r ≡ Nothing → _≡_ {A = Answer} (record { verdict = None; bound = 0 }) (answer r D)
   unfolding answer
-  answer-none e = sym (ap (answerOf r D) e)
+  answer-none e = sym (ap (answerFor r D) e)
 
   pub answer-bound : (L b : ℕ) → busy r ≡ At L → b ≡ bound r L → _≡_ {A = Answer} (record { verdict = verdict b D; bound = b }) (answer r D)
   unfolding answer
-  answer-bound L b e d = ap (λ z. record { verdict = verdict z D; bound = z }) d ∙ sym (ap (answerOf r D) e)
+  answer-bound L b e d = ap (λ z. record { verdict = verdict z D; bound = z }) d ∙ sym (ap (answerFor r D) e)

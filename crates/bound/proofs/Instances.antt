@@ -6,8 +6,9 @@ use native.Mathlib.Numerals.{add-one}
 use native.Mathlib.Omega.{arith}
 use Rattle.names.specs.Limits.{ticks}
 use Rattle.laws.proofs.Chain.{settled, least-below}
+use Rattle.laws.specs.Search.{orZero}
 use Rattle.bound.specs.Terms.{Terms}
-use Rattle.bound.specs.Bound.{sideL, sideW, Q, w, orZero}
+use Rattle.bound.specs.Bound.{sideL, sideW, Q, w}
 use Rattle.bound.specs.Claims.{Sound, WExists, WRises}
 use Rattle.bound.proofs.Sides.{demand-mono, demand-own, sideW-mono, busy-is-least}
 

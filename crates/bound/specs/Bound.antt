@@ -6,7 +6,7 @@ use lib.Dec.{leb}
 use lib.IntN.{ℤ, pos, natAbs, _-ℤ_}
 use Rattle.names.specs.Limits.{ticks}
 use Rattle.laws.specs.Lists.{ceil, sumOf}
-use Rattle.laws.specs.Search.{firstFixed}
+use Rattle.laws.specs.Search.{firstFixed, orZero}
 use Rattle.laws.specs.Signed.{largestTo}
 use Rattle.laws.specs.declared.Found.{Found}
 use Rattle.laws.specs.declared.Found.the-variants.{At, Nothing}
@@ -40,10 +40,6 @@ unfoldable pub sideW : Terms → ℕ → ℕ → ℕ
 sideW r q w = r .B + q * r .own .C″ + demand (r .urgent) (w + r .late + 1) + E r (w + r .own .C″)
 
 -- w(q): the least whole number that is its own right side; it is at most L - C'' (Claims), so it is looked for up to 4,294,967,295
-abbrev pub orZero : Found → ℕ
-orZero (At x) = x
-orZero Nothing = 0
-
 unfoldable pub w : Terms → ℕ → ℕ
 w r q = orZero (firstFixed (sideW r q) 0 (ticks + 1))
 
@@ -60,12 +56,12 @@ abbrev pub verdict : ℕ → ℕ → Verdict
 verdict b D = cond (leb b D) Met Missed
 
 -- the answer of a stream with the deadline D
-abbrev pub answerOf : Terms → ℕ → Found → Answer
-answerOf r D Nothing = record { verdict = None; bound = 0 }
-answerOf r D (At L) = record { verdict = verdict (bound r L) D; bound = bound r L }
+abbrev pub answerFor : Terms → ℕ → Found → Answer
+answerFor r D Nothing = record { verdict = None; bound = 0 }
+answerFor r D (At L) = record { verdict = verdict (bound r L) D; bound = bound r L }
 
 unfoldable pub answer : Terms → ℕ → Answer
-answer r D = answerOf r D (busy r)
+answer r D = answerFor r D (busy r)
 
 -- the document's numbers: 0 met, 1 missed, 2 none
 abbrev pub verdictNumber : Verdict → ℕ

@@ -20,7 +20,7 @@ use Rattle.carried.specs.Layout as layout
 use Rattle.carried.specs.Carried.{timingIn, streamIn, planIn, timingWords, streamWords, valuesOf, inPlaces, sheetOf, noSheet}
 use Rattle.carried.specs.Claims.{PlanInValues, ValuesBack, OneSheet}
 
-pub six : (s : Stream) → length (streamWords s) ≡ layout.stream
+pub six : (s : Stream) → length (streamWords s) ≡ layout.streamLength
 six s = refl
 
 -- the words after those of the timing
@@ -29,32 +29,32 @@ tail p = flatMap streamWords (p .streams) ++ p .gaps
 
 pub length-values : (p : Plan) → length (valuesOf p) ≡ layout.gapAt (length (p .streams)) (length (p .gaps))
 length-values p =
-    omega (arith, length-append (flatMap streamWords (p .streams)) (p .gaps), length-flat layout.stream streamWords six (p .streams))
+    omega (arith, length-append (flatMap streamWords (p .streams)) (p .gaps), length-flat layout.streamLength streamWords six (p .streams))
 
 -- ---- from a plan to its words and back
 module _ (p : Plan) (after : List ℕ) where
   abbrev among : List ℕ
   among = valuesOf p ++ after
 
-  past-timing : (i : ℕ) → getD among (layout.timing + i) 0 ≡ getD (tail p ++ after) i 0
-  past-timing i = sym (getD-drop layout.timing among i 0)
+  past-timing : (i : ℕ) → getD among (layout.timingLength + i) 0 ≡ getD (tail p ++ after) i 0
+  past-timing i = sym (getD-drop layout.timingLength among i 0)
 
-  stream-word : (r j : ℕ) → r < length (p .streams) → j < layout.stream → getD among (layout.streamAt r + j) 0 ≡ getD (streamWords (getD (p .streams) r blank)) j 0
+  stream-word : (r j : ℕ) → r < length (p .streams) → j < layout.streamLength → getD among (layout.streamAt r + j) 0 ≡ getD (streamWords (getD (p .streams) r blank)) j 0
   stream-word r j h k =
       let flat = flatMap streamWords (p .streams) in
-      let i : layout.stream * r + j < length flat = omega (arith, length-flat layout.stream streamWords six (p .streams)) in
-      ap (λ n. getD among n 0) (add-assoc layout.timing (layout.stream * r) j)
-      ∙ past-timing (layout.stream * r + j)
-      ∙ List·getD-append (tail p) after 0 (layout.stream * r + j) (omega (arith, length-append flat (p .gaps)))
-      ∙ List·getD-append flat (p .gaps) 0 (layout.stream * r + j) i
-      ∙ in-piece layout.stream streamWords six (p .streams) r j blank 0 h k
+      let i : layout.streamLength * r + j < length flat = omega (arith, length-flat layout.streamLength streamWords six (p .streams)) in
+      ap (λ n. getD among n 0) (add-assoc layout.timingLength (layout.streamLength * r) j)
+      ∙ past-timing (layout.streamLength * r + j)
+      ∙ List·getD-append (tail p) after 0 (layout.streamLength * r + j) (omega (arith, length-append flat (p .gaps)))
+      ∙ List·getD-append flat (p .gaps) 0 (layout.streamLength * r + j) i
+      ∙ in-piece layout.streamLength streamWords six (p .streams) r j blank 0 h k
 
   gap-word : (k : ℕ) → k < length (p .gaps) → getD among (layout.gapAt (length (p .streams)) k) 0 ≡ getD (p .gaps) k 0
   gap-word k h =
       let flat = flatMap streamWords (p .streams) in
-      let n : layout.stream * length (p .streams) + k ≡ length flat + k = omega (arith, length-flat layout.stream streamWords six (p .streams)) in
-      ap (λ n. getD among n 0) (add-assoc layout.timing (layout.stream * length (p .streams)) k)
-      ∙ past-timing (layout.stream * length (p .streams) + k)
+      let n : layout.streamLength * length (p .streams) + k ≡ length flat + k = omega (arith, length-flat layout.streamLength streamWords six (p .streams)) in
+      ap (λ n. getD among n 0) (add-assoc layout.timingLength (layout.streamLength * length (p .streams)) k)
+      ∙ past-timing (layout.streamLength * length (p .streams) + k)
       ∙ ap (λ i. getD (tail p ++ after) i 0) n
       ∙ List·getD-append (tail p) after 0 (length flat + k) (omega (arith, length-append flat (p .gaps)))
       ∙ getD-append-add flat (p .gaps) k 0
@@ -77,25 +77,25 @@ plan-in-values p after =
 
 -- ---- from words to their plan and back
 module _ (ws : List ℕ) where
-  pub timing-back : layout.timing ≤ length ws → timingWords (timingIn ws) ≡ take layout.timing ws
+  pub timing-back : layout.timingLength ≤ length ws → timingWords (timingIn ws) ≡ take layout.timingLength ws
   unfolding rows
-  timing-back h = rows-part 0 layout.timing ws 0 h
+  timing-back h = rows-part 0 layout.timingLength ws 0 h
 
   -- six words from word k on
-  pub six-back : (k : ℕ) → k + layout.stream ≤ length ws → streamWords (streamIn ws k) ≡ take layout.stream (drop k ws)
+  pub six-back : (k : ℕ) → k + layout.streamLength ≤ length ws → streamWords (streamIn ws k) ≡ take layout.streamLength (drop k ws)
   unfolding rows
-  six-back k h = rw (add-zero k) at (rows-part k layout.stream ws 0 h)
+  six-back k h = rw (add-zero k) at (rows-part k layout.streamLength ws 0 h)
 
-  streams-back : (j : ℕ) → layout.streamAt j ≤ length ws → flatMap streamWords (rows j (λ r. streamIn ws (layout.streamAt r))) ≡ take (layout.stream * j) (drop layout.timing ws)
+  streams-back : (j : ℕ) → layout.streamAt j ≤ length ws → flatMap streamWords (rows j (λ r. streamIn ws (layout.streamAt r))) ≡ take (layout.streamLength * j) (drop layout.timingLength ws)
   unfolding rows flatMap
   streams-back zero h = refl
   streams-back (suc j) h =
-      let part = drop layout.timing ws in
-      let last : drop (layout.streamAt j) ws ≡ drop (layout.stream * j) part = sym (drop-drop (layout.stream * j) layout.timing ws) in
-      let n : layout.stream * suc j ≡ layout.stream * j + layout.stream = omega arith in
+      let part = drop layout.timingLength ws in
+      let last : drop (layout.streamAt j) ws ≡ drop (layout.streamLength * j) part = sym (drop-drop (layout.streamLength * j) layout.timingLength ws) in
+      let n : layout.streamLength * suc j ≡ layout.streamLength * j + layout.streamLength = omega arith in
       flat-append streamWords (rows j (λ r. streamIn ws (layout.streamAt r))) (streamIn ws (layout.streamAt j) ∷ [])
-      ∙ ap₂ _++_ (streams-back j (omega arith)) (append-nil (streamWords (streamIn ws (layout.streamAt j))) ∙ six-back (layout.streamAt j) (omega arith) ∙ ap (take layout.stream) last)
-      ∙ rw n (sym (take-add (layout.stream * j) layout.stream part))
+      ∙ ap₂ _++_ (streams-back j (omega arith)) (append-nil (streamWords (streamIn ws (layout.streamAt j))) ∙ six-back (layout.streamAt j) (omega arith) ∙ ap (take layout.streamLength) last)
+      ∙ rw n (sym (take-add (layout.streamLength * j) layout.streamLength part))
 
   pub gaps-back : (n m : ℕ) → layout.gapAt n m ≤ length ws → rows m (λ k. getD ws (layout.gapAt n k) 0) ≡ take m (drop (layout.streamAt n) ws)
   gaps-back n m long = rows-part (layout.streamAt n) m ws 0 long
@@ -103,8 +103,8 @@ module _ (ws : List ℕ) where
 pub values-back : ValuesBack
 unfolding planIn
 values-back n m ws long =
-    let t = layout.timing in
-    let s = layout.stream * n in
+    let t = layout.timingLength in
+    let s = layout.streamLength * n in
     let k : t + (s + m) ≡ layout.gapAt n m = omega arith in
     ap₂ _++_ (timing-back ws (omega arith))
     (ap₂ _++_ (streams-back ws n (omega arith)) (gaps-back ws n m long ∙ ap (take m) (sym (drop-drop s t ws))) ∙ sym (take-add s m (drop t ws)))
@@ -115,10 +115,10 @@ values-back n m ws long =
 pub plan-reads : (n m : ℕ) (vs ws : List ℕ) → ((k : ℕ) → k < layout.gapAt n m → getD vs k 0 ≡ getD ws k 0) → planIn n m vs ≡ planIn n m ws
 unfolding planIn
 plan-reads n m vs ws e =
-    let t : (k : ℕ) → k < layout.timing → getD vs k 0 ≡ getD ws k 0 = λ k h. e k (omega arith) in
+    let t : (k : ℕ) → k < layout.timingLength → getD vs k 0 ≡ getD ws k 0 = λ k h. e k (omega arith) in
     let stream : (r : ℕ) → r < n → streamIn vs (layout.streamAt r) ≡ streamIn ws (layout.streamAt r) =
     (λ r h.
-    let s : (j : ℕ) → j < layout.stream → getD vs (layout.streamAt r + j) 0 ≡ getD ws (layout.streamAt r + j) 0 = λ j g. e (layout.streamAt r + j) (omega arith) in
+    let s : (j : ℕ) → j < layout.streamLength → getD vs (layout.streamAt r + j) 0 ≡ getD ws (layout.streamAt r + j) 0 = λ j g. e (layout.streamAt r + j) (omega arith) in
     rw (e (layout.streamAt r) (omega arith), s 1 (omega arith), s 2 (omega arith), s 3 (omega arith), s 4 (omega arith), s 5 (omega arith)) refl) in
     let gaps : rows m (λ k. getD vs (layout.gapAt n k) 0) ≡ rows m (λ k. getD ws (layout.gapAt n k) 0) = rows-same m _ _ (λ k h. e (layout.gapAt n k) (omega arith)) in
     rw (t 0 (omega arith), t 1 (omega arith), t 2 (omega arith), t 3 (omega arith), t 4 (omega arith), t 5 (omega arith), t 6 (omega arith), t 7 (omega arith), t 8 (omega arith), rows-same n _ _ stream, gaps) refl
@@ -159,7 +159,7 @@ module _ (t : Timing) (streams : List Stream) (r : ℕ) where
   first-laid = timingWords t ++ flatMap streamWords (take r streams)
 
   first-long : r ≤ length streams → length first-laid ≡ layout.streamAt r
-  first-long h = omega (arith, length-flat layout.stream streamWords six (take r streams), length-take-le r streams h)
+  first-long h = omega (arith, length-flat layout.streamLength streamWords six (take r streams), length-take-le r streams h)
 
   pub lay-stream : {ws o : List ℕ} → r < length streams → o ≡ padded first-laid → ws ≡ streamWords (getD streams r blank)
       → paste o (layout.streamAt r) ws (length ws) ≡ padded (timingWords t ++ flatMap streamWords (take (r + 1) streams))

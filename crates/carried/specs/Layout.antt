@@ -5,15 +5,15 @@ use Rattle.names.specs.Limits.{streams, sources}
 -- ---- among the words that are carried, counted from 0: the timing, the streams, the noise gaps, with nothing between
 
 -- the timing has 9 words, a stream has 6, a noise gap is one
-abbrev pub timing : ℕ
-timing = 9
+abbrev pub timingLength : ℕ
+timingLength = 9
 
-abbrev pub stream : ℕ
-stream = 6
+abbrev pub streamLength : ℕ
+streamLength = 6
 
 -- the stream of row r starts at word 9 + 6r, ..
 abbrev pub streamAt : ℕ → ℕ
-streamAt r = timing + stream * r
+streamAt r = timingLength + streamLength * r
 
 -- .. and gap k after n streams is word 9 + 6n + k
 abbrev pub gapAt : ℕ → ℕ → ℕ
@@ -29,12 +29,12 @@ largest = gapAt streams sources
 abbrev pub word : ℕ
 word = 4
 
-abbrev pub contents : ℕ
-contents = 11
+abbrev pub contentsLength : ℕ
+contentsLength = 11
 
 -- word k of those that are carried stands at byte 44 + 4k
 abbrev pub byteOf : ℕ → ℕ
-byteOf k = word * (contents + k)
+byteOf k = word * (contentsLength + k)
 
 -- a file of n streams and m gaps ends where one gap more would stand: it has 80 + 24n + 4m bytes
 abbrev pub size : ℕ → ℕ → ℕ

@@ -124,7 +124,7 @@ pub fn timing_from(values: &[u32]) -> Timing
 
 // The one place where a stream is built. It starts at word k.
 fn stream_in(words: &[u32], k: usize) -> Stream
-    requires { ⌜ k + layout.stream ≤ length (now words) ⌝ }
+    requires { ⌜ k + layout.streamLength ≤ length (now words) ⌝ }
     ensures { λ r. ⌜ r ≡ streamIn (now (words .entry)) k ⌝ }
 {
     Stream {

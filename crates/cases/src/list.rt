@@ -2,7 +2,7 @@
 use crate::files;
 use console::print;
 use console::print_number;
-use pairs::Line;
+use pairs::Named;
 use pairs::line_at;
 use pairs::name_in;
 use pairs::next_line;
@@ -23,9 +23,9 @@ fn wrong(number: u64) -> bool {
 // Whether the case of the line at a place of the list holds; the line is known by its number.
 fn line(text: &[u8], at: usize, number: u64) -> bool {
     match line_at(text, at) {
-        Line::Names(plan, out, _) => files(name_in(text, plan), name_in(text, out)),
-        Line::Wrong(_) => wrong(number),
-        Line::Over => false,
+        Named::Names(plan, out, _) => files(name_in(text, plan), name_in(text, out)),
+        Named::Wrong(_) => wrong(number),
+        Named::Over => false,
     }
 }
 

@@ -6,7 +6,7 @@ use Prim.Native.Nat.{ℕ, _≤_, _<_}
 use lib.ListN.{length, getD}
 use Rattle.names.specs.Limits.{ticks}
 use Rattle.plan.specs.declared.Sheet.{Sheet}
-use Rattle.plan.specs.Plan.{Plan, planOf, blank, Within}
+use Rattle.plan.specs.Plan.{Plan, planOf, at, Within}
 use Rattle.judge.specs.declared.Checked.the-variants.{Fine}
 use Rattle.judge.specs.Table.{judge}
 use Rattle.checks.specs.Checks.{priorities, labels, lines, checkedOf}
@@ -20,7 +20,7 @@ pub record Right (n m : ℕ) (p : Plan) : Type 0 where
   pub within : Within p
   pub count : length (p .streams) ≡ n
   pub sources : length (p .gaps) ≡ m
-  pub label : (k : ℕ) → k < length (p .streams) → getD (p .streams) k blank .label .0 ≤ ticks
+  pub label : (k : ℕ) → k < length (p .streams) → at p k .label .0 ≤ ticks
   pub priorities : Distinct (priorities (p .streams))
   pub labels : Distinct (labels (p .streams))
 

@@ -14,10 +14,10 @@ use judge::Checked;
 use judge::refused;
 use laws::Found;
 use laws::smaller;
+use names::FoundRow;
 use names::SOURCES;
 use names::STREAMS;
 use plan::Sheet;
-use repeats::Repeat;
 use repeats::first_repeat;
 ghost use mathlib.Core.Path.{_≡_};
 ghost use Prim.Native.Nat.{_+_, _≤_, _<_, min};
@@ -38,7 +38,7 @@ const PRIORITY: usize = 1;
 fn column(words: &[u32], n: usize, k: usize) -> [u32; STREAMS]
     requires { ⌜ length (now words) ≡ layout.largest ⌝ }
     requires { ⌜ n ≤ limit.streams ⌝ }
-    requires { ⌜ k < layout.stream ⌝ }
+    requires { ⌜ k < layout.streamLength ⌝ }
     ensures { λ r. ⌜ take n r ≡ rows n (λ j. getD (now (words .entry)) (layout.streamAt j + k) 0) ⌝ }
 {
     let mut out = [0; STREAMS];
@@ -82,13 +82,13 @@ pub fn check_rows(words: &[u32; CARRIED], n: usize) -> Checked
     let count = smaller(n, STREAMS);
     let priorities = column(words, count, PRIORITY);
     match first_repeat(&priorities[..count]) {
-        Repeat::At(r) => return refused(4, r.0),
-        Repeat::Nothing => {}
+        FoundRow::At(r) => return refused(4, r.0),
+        FoundRow::Nothing => {}
     }
     let labels = column(words, count, LABEL);
     match first_repeat(&labels[..count]) {
-        Repeat::At(r) => refused(5, r.0),
-        Repeat::Nothing => Checked::Fine,
+        FoundRow::At(r) => refused(5, r.0),
+        FoundRow::Nothing => Checked::Fine,
     }
 }
 

@@ -25,7 +25,7 @@ use Rattle.compare.specs.declared.Compared.{Compared}
 use Rattle.compare.specs.declared.Compared.the-variants.{FirstRefused, SecondRefused, Lighter, RunAgain}
 use Rattle.compare_files.specs.Files.{comparedFiles}
 use Rattle.compare_files.proofs.Kept.{said-of-files}
-use Rattle.chief.specs.Told.{constant, greater, noise, reason, again, toldAs, toldOf}
+use Rattle.chief.specs.Told.{constantName, greaterText, noiseText, reasonText, againLine, toldAs, toldOf}
 use Rattle.chief.specs.Claims.{ToldLighter, named, LargestLine}
 
 -- ---- the first letter
@@ -33,7 +33,7 @@ abbrev letter : List ℕ → ℕ
 letter l = getD l 0 0
 
 only-lighter : (c : Compared) → toldAs c ≡ ascii "lighter\n" → c ≡ Lighter
-unfolding toldAs again
+unfolding toldAs againLine
 only-lighter (FirstRefused r) e = absurd (let z : _≡_ {A = ℕ} 102 108 = ap letter e in omega arith)
 only-lighter (SecondRefused r) e = absurd (let z : _≡_ {A = ℕ} 115 108 = ap letter e in omega arith)
 only-lighter Lighter e = refl
@@ -59,8 +59,8 @@ stream-size l words h =
       few-digits 5 (l .0 % 65536) (omega arith) (omega arith),
     ))
 
-constant-size : (k : ℕ) → length (constant k) ≤ 4
-unfolding constant
+constant-size : (k : ℕ) → length (constantName k) ≤ 4
+unfolding constantName
 constant-size zero = omega arith
 constant-size (suc zero) = omega arith
 constant-size (suc (suc zero)) = omega arith
@@ -71,8 +71,8 @@ constant-size (suc (suc (suc (suc (suc (suc zero)))))) = omega arith
 constant-size (suc (suc (suc (suc (suc (suc (suc zero))))))) = omega arith
 constant-size (suc (suc (suc (suc (suc (suc (suc (suc k)))))))) = omega arith
 
-reason-size : (why : Reason) → named why ≤ ticks → length (reason why) ≤ 52
-unfolding reason greater noise
+reason-size : (why : Reason) → named why ≤ ticks → length (reasonText why) ≤ 52
+unfolding reasonText greaterText noiseText
 reason-size (GreaterConstant k) h = simp length-append (omega (arith, constant-size k))
 reason-size (NewLabel l) h = omega (arith, stream-size l (ascii " is not in the first plan") h)
 reason-size (ShorterPeriod l) h = omega (arith, stream-size l (ascii " has a shorter period") h)
@@ -83,7 +83,7 @@ reason-size (LessUrgent l) h = omega (arith, stream-size l (ascii " comes after 
 reason-size (MoreNoise gap) h = simp length-append (omega (arith, few-digits 10 gap (omega arith) (omega arith)))
 
 pub largest-line : LargestLine
-unfolding toldAs again
+unfolding toldAs againLine
 largest-line (FirstRefused r) (n, p) = simp length-append (omega (arith, largest-refusal r n p))
 largest-line (SecondRefused r) (n, p) = simp length-append (omega (arith, largest-refusal r n p))
 largest-line Lighter h = omega arith

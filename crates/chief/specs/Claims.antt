@@ -9,16 +9,8 @@ use Rattle.judge.specs.declared.Checked.the-variants.{Fine}
 use Rattle.file.specs.File.{readOf}
 use Rattle.promise.specs.Lighter.{Lighter}
 use Rattle.compare.specs.declared.Reason.{Reason}
-use Rattle.compare.specs.declared.Reason.the-variants.{
-  GreaterConstant,
-  NewLabel,
-  ShorterPeriod,
-  LongerJitter,
-  LongerPayload,
-  ShorterDeadline,
-  LessUrgent,
-  MoreNoise,
-}
+use Rattle.compare.specs.declared.Reason.the-variants.{GreaterConstant, NewLabel, ShorterPeriod, LongerJitter}
+use Rattle.compare.specs.declared.Reason.the-variants.{LongerPayload, ShorterDeadline, LessUrgent, MoreNoise}
 use Rattle.compare.specs.declared.Compared.{Compared}
 use Rattle.compare.specs.declared.Compared.the-variants.{FirstRefused, SecondRefused, Lighter as Compared·Lighter, RunAgain}
 use Rattle.compare_files.specs.Files.{planFrom}

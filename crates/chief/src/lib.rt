@@ -19,7 +19,7 @@ use text::lay_text;
 
 // The name of timing constant k, counted from 0 in file order; NB comes last.
 fn lay_constant(out: &mut [u8], at: usize, k: usize) -> usize
-    ensures { λ r. ⌜ Lays (now (out .entry)) at (told.constant k) r (now (out .exit)) ⌝ }
+    ensures { λ r. ⌜ Lays (now (out .entry)) at (told.constantName k) r (now (out .exit)) ⌝ }
 {
     match k {
         0 => lay_text(out, at, b"F"),
@@ -35,14 +35,14 @@ fn lay_constant(out: &mut [u8], at: usize, k: usize) -> usize
 }
 
 fn lay_greater(out: &mut [u8], at: usize, k: usize) -> usize
-    ensures { λ r. ⌜ Lays (now (out .entry)) at (told.greater k) r (now (out .exit)) ⌝ }
+    ensures { λ r. ⌜ Lays (now (out .entry)) at (told.greaterText k) r (now (out .exit)) ⌝ }
 {
     let at = lay_constant(out, at, k);
     lay_text(out, at, b" is greater")
 }
 
 fn lay_noise(out: &mut [u8], at: usize, gap: u32) -> usize
-    ensures { λ r. ⌜ Lays (now (out .entry)) at (told.noise gap) r (now (out .exit)) ⌝ }
+    ensures { λ r. ⌜ Lays (now (out .entry)) at (told.noiseText gap) r (now (out .exit)) ⌝ }
 {
     let at = lay_text(out, at, b"more noise sources with a gap of ");
     let at = lay_number(out, at, gap as u64);
@@ -57,7 +57,7 @@ fn lay_stream(out: &mut [u8], at: usize, label: Label, words: &[u8]) -> usize
 }
 
 fn lay_reason(out: &mut [u8], at: usize, why: Reason) -> usize
-    ensures { λ r. ⌜ Lays (now (out .entry)) at (told.reason why) r (now (out .exit)) ⌝ }
+    ensures { λ r. ⌜ Lays (now (out .entry)) at (told.reasonText why) r (now (out .exit)) ⌝ }
 {
     match why {
         Reason::GreaterConstant(k) => lay_greater(out, at, k),
@@ -77,7 +77,7 @@ fn lay_reason(out: &mut [u8], at: usize, why: Reason) -> usize
 }
 
 fn lay_again(out: &mut [u8], at: usize, why: Reason) -> usize
-    ensures { λ r. ⌜ Lays (now (out .entry)) at (told.again why) r (now (out .exit)) ⌝ }
+    ensures { λ r. ⌜ Lays (now (out .entry)) at (told.againLine why) r (now (out .exit)) ⌝ }
 {
     let at = lay_text(out, at, b"run again: ");
     let at = lay_reason(out, at, why);

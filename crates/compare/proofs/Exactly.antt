@@ -16,18 +16,18 @@ use Rattle.laws.specs.Rows.{some}
 use Rattle.laws.proofs.Rows.{is-false, some-passes, some-at, finds-lowest}
 use Rattle.plan.specs.declared.Timing.{Timing}
 use Rattle.plan.specs.declared.Stream.{Stream}
-use Rattle.plan.specs.Plan.{Plan, blank}
-use Rattle.carried.specs.Layout.{timing}
+use Rattle.plan.specs.Plan.{Plan, blank, at}
+use Rattle.carried.specs.Layout.{timingLength}
 use Rattle.carried.specs.Carried.{timingWords}
-use Rattle.promise.specs.Lighter.{at, NoGreater, Eased, Lighter, NotRefused}
+use Rattle.promise.specs.Lighter.{NoGreater, Eased, Lighter, NotRefused}
 use Rattle.compare.specs.declared.Change.the-variants.{Nothing}
-use Rattle.compare.specs.Changes.{_or_, firstChange, grown, constants, rowOf, eased, inRow, stream, numberIn, number, overtakes, urgency, noise, ofStreams, ofOrder, ofNoise, changes}
+use Rattle.compare.specs.Changes.{_or_, firstChange, grown, ofConstants, rowOf, eased, inRow, ofStream, numberIn, numberUnder, overtakes, urgency, ofGap, ofStreams, ofOrder, ofNoise, changes}
 use Rattle.compare.specs.Claims.{LighterExactly}
 use Rattle.compare.proofs.First.{of-not-nothing, or-nothing, must-nothing, must-true, passes, passes-then, no-reason, pass, nothing-if-none}
 use Rattle.compare.proofs.Gaps.{by-order, counts-of-partners, partners-of-counts}
 
 -- ---- the constants
-pub no-greater : (old new : Timing) → constants old new ≡ Nothing → NoGreater old new
+pub no-greater : (old new : Timing) → ofConstants old new ≡ Nothing → NoGreater old new
 no-greater old new d =
     record {
       f = least 0 (omega arith);
@@ -41,10 +41,10 @@ no-greater old new d =
       nb = least 8 (omega arith);
     }
   where
-    least : (k : ℕ) → k < timing → getD (timingWords new) k 0 ≤ getD (timingWords old) k 0
-    least k h = passes _ _ _ (nothing-if-none (grown (timingWords old) (timingWords new)) timing .0 d k h)
+    least : (k : ℕ) → k < timingLength → getD (timingWords new) k 0 ≤ getD (timingWords old) k 0
+    least k h = passes _ _ _ (nothing-if-none (grown (timingWords old) (timingWords new)) timingLength .0 d k h)
 
-pub constants-nothing : (old new : Timing) → NoGreater old new → constants old new ≡ Nothing
+pub constants-nothing : (old new : Timing) → NoGreater old new → ofConstants old new ≡ Nothing
 unfolding firstChange
 constants-nothing old new n =
     rw (le-leb _ _ (n .f), le-leb _ _ (n .e), le-leb _ _ (n .tfcs), le-leb _ _ (n .swx), le-leb _ _ (n .h), le-leb _ _ (n .g), le-leb _ _ (n .etg), le-leb _ _ (n .lag), le-leb _ _ (n .nb)) refl
@@ -97,15 +97,15 @@ row-under p a l r h e =
 
 -- ---- all the conditions
 pub record Unbroken (old new : Plan) : Type 0 where
-  pub constants : constants (old .timing) (new .timing) ≡ Nothing
-  pub streams : (k : ℕ) → k < length (new .streams) → stream old (at new k) ≡ Nothing
+  pub constants : ofConstants (old .timing) (new .timing) ≡ Nothing
+  pub streams : (k : ℕ) → k < length (new .streams) → ofStream old (at new k) ≡ Nothing
   pub order : (k : ℕ) → k < length (new .streams) → urgency old new k ≡ Nothing
-  pub gaps : (k : ℕ) → k < length (new .gaps) → noise old new (getD (new .gaps) k 0) ≡ Nothing
+  pub gaps : (k : ℕ) → k < length (new .gaps) → ofGap old new (getD (new .gaps) k 0) ≡ Nothing
 
 pub unbroken : (old new : Plan) → changes old new ≡ Nothing → Unbroken old new
 unfolding changes
 unbroken old new e =
-    let (c, e₁) = or-nothing (constants (old .timing) (new .timing)) (ofStreams old new or ofOrder old new or ofNoise old new) e in
+    let (c, e₁) = or-nothing (ofConstants (old .timing) (new .timing)) (ofStreams old new or ofOrder old new or ofNoise old new) e in
     let (s, e₂) = or-nothing (ofStreams old new) (ofOrder old new or ofNoise old new) e₁ in
     let (o, g) = or-nothing (ofOrder old new) (ofNoise old new) e₂ in
     record {
@@ -124,7 +124,7 @@ no-changes old new u =
     λ i. u .constants i or s i or o i or g i
 
 -- ---- from the test to a lighter plan
-stands-in : (old : Plan) (s : Stream) → stream old s ≡ Nothing → (r : ℕ) × (rowOf old (s .label) ≡ Found·At r) × Eased (at old r) s
+stands-in : (old : Plan) (s : Stream) → ofStream old s ≡ Nothing → (r : ℕ) × (rowOf old (s .label) ≡ Found·At r) × Eased (at old r) s
 stands-in old s e = go (rowOf old (s .label)) refl e
   where
     go : (f : Found) → rowOf old (s .label) ≡ f → inRow old s f ≡ Nothing → (r : ℕ) × (rowOf old (s .label) ≡ Found·At r) × Eased (at old r) s
@@ -132,10 +132,10 @@ stands-in old s e = go (rowOf old (s .label)) refl e
     go Found·Nothing d e = absurd (of-not-nothing e)
 
 not-overtaken : (old new : Plan) (j k : ℕ) → urgency old new k ≡ Nothing → j < length (new .streams) → at new j .priority .0 < at new k .priority .0
-    → number old (at new j .label) < number old (at new k .label)
-not-overtaken old new j k e h l = by-order (number old (at new k .label)) (number old (at new j .label)) (λ m. absurd (never m)) (λ m. m)
+    → numberUnder old (at new j .label) < numberUnder old (at new k .label)
+not-overtaken old new j k e h l = by-order (numberUnder old (at new k .label)) (numberUnder old (at new j .label)) (λ m. absurd (never m)) (λ m. m)
   where
-    never : number old (at new k .label) ≤ number old (at new j .label) → ⊥
+    never : numberUnder old (at new k .label) ≤ numberUnder old (at new j .label) → ⊥
     never m =
         let t : overtakes old new k j ≡ true = rw (lt-ltb _ _ l, le-leb _ _ m) refl in
         true≢false (sym (some-at (overtakes old new k) (length (new .streams)) j h t) ∙ not-true _ (must-nothing _ _ e))
@@ -156,14 +156,14 @@ lighter-if old new u =
     found : (k : ℕ) → k < length (new .streams) → (r : ℕ) × (rowOf old (at new k .label) ≡ Found·At r) × Eased (at old r) (at new k)
     found k h = stands-in old (at new k) (u .streams k h)
 
-    number-is : (k : ℕ) (h : k < length (new .streams)) → number old (at new k .label) ≡ at old (found k h .0) .priority .0
+    number-is : (k : ℕ) (h : k < length (new .streams)) → numberUnder old (at new k .label) ≡ at old (found k h .0) .priority .0
     number-is k h = ap (numberIn old) (found k h .1)
 
 -- ---- and back
 overtaking : (old new : Plan) (k j : ℕ) → overtakes old new k j ≡ true
-    → (at new j .priority .0 < at new k .priority .0) × (number old (at new k .label) ≤ number old (at new j .label))
+    → (at new j .priority .0 < at new k .priority .0) × (numberUnder old (at new k .label) ≤ numberUnder old (at new j .label))
 overtaking old new k j e =
-    let (a, b) = both (ltb (at new j .priority .0) (at new k .priority .0)) (leb (number old (at new k .label)) (number old (at new j .label))) e in
+    let (a, b) = both (ltb (at new j .priority .0) (at new k .priority .0)) (leb (numberUnder old (at new k .label)) (numberUnder old (at new j .label))) e in
     (ltb-true _ _ a, leb-true _ _ b)
 
 if-lighter : (old new : Plan) → NotRefused old → Lighter old new → Unbroken old new
@@ -178,7 +178,7 @@ if-lighter old new a l =
     row-is : (k : ℕ) (h : k < length (new .streams)) → rowOf old (at new k .label) ≡ Found·At (l .row k h)
     row-is k h = let s = l .stands k h in row-under old a (at new k .label) (l .row k h) (s .among) (s .label)
 
-    number-is : (k : ℕ) (h : k < length (new .streams)) → number old (at new k .label) ≡ at old (l .row k h) .priority .0
+    number-is : (k : ℕ) (h : k < length (new .streams)) → numberUnder old (at new k .label) ≡ at old (l .row k h) .priority .0
     number-is k h = ap (numberIn old) (row-is k h)
 
     overtaken : (k : ℕ) → k < length (new .streams) → some (overtakes old new k) (length (new .streams)) ≡ true → ⊥

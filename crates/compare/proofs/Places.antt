@@ -15,9 +15,8 @@ use Rattle.laws.specs.Search.{first}
 use Rattle.laws.proofs.Placed.{placedTo, placed-more, placed-all}
 use Rattle.plan.specs.declared.Stream.{Stream}
 use Rattle.plan.specs.declared.Sheet.{Sheet}
-use Rattle.plan.specs.Plan.{Plan, planOf, blank}
+use Rattle.plan.specs.Plan.{Plan, planOf, blank, at}
 use Rattle.plan.proofs.Places.{Owned, streams-taken, row-in-place}
-use Rattle.promise.specs.Lighter.{at}
 use Rattle.compare.specs.Changes.{rowOf}
 use Rattle.compare.specs.private.Columns.{labelOf, column, columnPlaced, orEnd, rowBy}
 use Rattle.compare.proofs.Exactly.{found-row}

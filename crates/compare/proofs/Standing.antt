@@ -7,8 +7,7 @@ use native.Mathlib.Omega.{arith}
 use lib.Dec.{ltb, leb}
 use lib.ListN.{length, getD, length-map}
 use Rattle.laws.specs.Rows.{some}
-use Rattle.plan.specs.Plan.{Plan}
-use Rattle.promise.specs.Lighter.{at}
+use Rattle.plan.specs.Plan.{Plan, at}
 use Rattle.compare.specs.declared.Change.{Change}
 use Rattle.compare.specs.declared.Reason.the-variants.{LessUrgent}
 use Rattle.compare.specs.Changes.{must, _or_, firstChange, overtakes, ofOrder}

@@ -14,21 +14,12 @@ use Rattle.laws.specs.Search.{first}
 use Rattle.laws.specs.Rows.{some}
 use Rattle.plan.specs.declared.Timing.{Timing}
 use Rattle.plan.specs.declared.Stream.{Stream}
-use Rattle.plan.specs.Plan.{Plan}
+use Rattle.plan.specs.Plan.{Plan, at}
 use Rattle.carried.specs.Layout as layout
 use Rattle.carried.specs.Carried.{timingWords}
-use Rattle.promise.specs.Lighter.{at}
 use Rattle.compare.specs.declared.Reason.{Reason}
-use Rattle.compare.specs.declared.Reason.the-variants.{
-  GreaterConstant,
-  NewLabel,
-  ShorterPeriod,
-  LongerJitter,
-  LongerPayload,
-  ShorterDeadline,
-  LessUrgent,
-  MoreNoise,
-}
+use Rattle.compare.specs.declared.Reason.the-variants.{GreaterConstant, NewLabel, ShorterPeriod, LongerJitter}
+use Rattle.compare.specs.declared.Reason.the-variants.{LongerPayload, ShorterDeadline, LessUrgent, MoreNoise}
 use Rattle.compare.specs.declared.Change.{Change}
 use Rattle.compare.specs.declared.Change.the-variants.{Of, Nothing}
 
@@ -52,8 +43,8 @@ firstChange f (suc n) = firstChange f n or f n
 abbrev pub grown : List ℕ → List ℕ → ℕ → Change
 grown was is k = must (leb (getD is k 0) (getD was k 0)) (GreaterConstant k)
 
-abbrev pub constants : Timing → Timing → Change
-constants old new = firstChange (grown (timingWords old) (timingWords new)) layout.timing
+abbrev pub ofConstants : Timing → Timing → Change
+ofConstants old new = firstChange (grown (timingWords old) (timingWords new)) layout.timingLength
 
 -- ---- the streams
 
@@ -74,8 +65,8 @@ abbrev pub inRow : Plan → Stream → Found → Change
 inRow old s (Found·At r) = eased (at old r) s
 inRow old s Found·Nothing = Of (NewLabel (s .label))
 
-abbrev pub stream : Plan → Stream → Change
-stream old s = inRow old s (rowOf old (s .label))
+abbrev pub ofStream : Plan → Stream → Change
+ofStream old s = inRow old s (rowOf old (s .label))
 
 -- ---- their order of priority
 
@@ -85,13 +76,13 @@ abbrev pub numberIn : Plan → Found → ℕ
 numberIn p (Found·At r) = at p r .priority .0
 numberIn p Found·Nothing = 0
 
-abbrev pub number : Plan → Label → ℕ
-number p l = numberIn p (rowOf p l)
+abbrev pub numberUnder : Plan → Label → ℕ
+numberUnder p l = numberIn p (rowOf p l)
 
 -- row j of the second plan is more urgent than row k, and in the first it was not
 abbrev pub overtakes : Plan → Plan → ℕ → ℕ → Bool
 overtakes old new k j =
-    ltb (at new j .priority .0) (at new k .priority .0) && leb (number old (at new k .label)) (number old (at new j .label))
+    ltb (at new j .priority .0) (at new k .priority .0) && leb (numberUnder old (at new k .label)) (numberUnder old (at new j .label))
 
 abbrev pub urgency : Plan → Plan → ℕ → Change
 urgency old new k = must (not (some (overtakes old new k) (length (new .streams)))) (LessUrgent (at new k .label))
@@ -103,19 +94,19 @@ abbrev pub atMost : ℕ → List ℕ → ℕ
 atMost x gaps = length (those (λ n. leb n x) gaps)
 
 -- the gaps that are no longer than gap x of the second plan need as many partners, and none of theirs is longer than x
-abbrev pub noise : Plan → Plan → ℕ → Change
-noise old new x = must (leb (atMost x (new .gaps)) (atMost x (old .gaps))) (MoreNoise x)
+abbrev pub ofGap : Plan → Plan → ℕ → Change
+ofGap old new x = must (leb (atMost x (new .gaps)) (atMost x (old .gaps))) (MoreNoise x)
 
 -- ---- all of them
 
 abbrev pub ofStreams : Plan → Plan → Change
-ofStreams old new = firstChange (λ k. stream old (at new k)) (length (new .streams))
+ofStreams old new = firstChange (λ k. ofStream old (at new k)) (length (new .streams))
 
 abbrev pub ofOrder : Plan → Plan → Change
 ofOrder old new = firstChange (urgency old new) (length (new .streams))
 
 abbrev pub ofNoise : Plan → Plan → Change
-ofNoise old new = firstChange (λ k. noise old new (getD (new .gaps) k 0)) (length (new .gaps))
+ofNoise old new = firstChange (λ k. ofGap old new (getD (new .gaps) k 0)) (length (new .gaps))
 
 unfoldable pub changes : Plan → Plan → Change
-changes old new = constants (old .timing) (new .timing) or ofStreams old new or ofOrder old new or ofNoise old new
+changes old new = ofConstants (old .timing) (new .timing) or ofStreams old new or ofOrder old new or ofNoise old new

@@ -54,7 +54,7 @@ pub enum Compared {
 
 // Each constant is held to its own: a greater TFCS is a change even below SWX.
 fn constants(old: Timing, new: Timing) -> Change
-    ensures { λ r. ⌜ r ≡ rule.constants old new ⌝ }
+    ensures { λ r. ⌜ r ≡ rule.ofConstants old new ⌝ }
 {
     let was = timing_words(old);
     let is = timing_words(new);

@@ -12,15 +12,15 @@ use Rattle.laws.specs.declared.Found.the-variants.{At, Nothing}
 use Rattle.bound.specs.declared.Verdict.{Verdict}
 use Rattle.bound.specs.declared.Verdict.the-variants.{Met, Missed, None}
 use Rattle.bound.specs.Terms.{Terms}
-use Rattle.bound.specs.Bound.{busy, bound, answerOf as answerFrom, answer, verdictNumber}
+use Rattle.bound.specs.Bound.{busy, bound, answerFor as answerFrom, answer, verdictNumber}
 use Rattle.plan.specs.declared.Sheet.{Sheet}
-use Rattle.plan.specs.Plan.{Plan, planOf, blank}
+use Rattle.plan.specs.Plan.{Plan, planOf, blank, at}
 use Rattle.plan.specs.Rules.{terms, rowAnswer, answers}
 use Rattle.judge.specs.declared.Checked.{Checked}
 use Rattle.judge.specs.declared.Checked.the-variants.{Fine, Refused}
 use Rattle.judge.specs.Table.{judge}
 use Rattle.checks.specs.Checks.{lines}
-use Rattle.promise.specs.Lighter.{at, NotRefused, Kept}
+use Rattle.promise.specs.Lighter.{NotRefused, Kept}
 use Rattle.file.specs.declared.ReadPlan.{ReadPlan}
 use Rattle.file.specs.File as file
 use Rattle.file.proofs.Reading.{planAt, fine-read}
@@ -32,8 +32,7 @@ use Rattle.answer_files.specs.AnswerFiles.{answerRead, answerFileOf}
 use Rattle.answers.specs.Answers.{answerWith}
 use Rattle.compare.proofs.Exactly.{one-row}
 use Rattle.compare.proofs.Says.{said-exactly, said-kept, fine-not-refused}
-use Rattle.compare_files.specs.Files.{planFrom, comparedFiles}
-use Rattle.compare_files.specs.Claims.{SaysLighterOfFiles, LabelsStand, KeptWords, WordsKept}
+use Rattle.compare_files.specs.Files.{planFrom, comparedFiles, SaysLighterOfFiles, LabelsStand, KeptWords, WordsKept}
 
 -- ---- two files
 file-not-refused : (bs : List ℕ) → file.readOf bs .answer ≡ Fine → NotRefused (planFrom bs)

@@ -2,7 +2,7 @@
 //
 // `lighter_files` answers for any bytes at all, as the crate compare does for values. Nothing is assumed. This crate knows of files; it
 // must not know of text, and it runs no analysis: that the answers of the two files agree with what it says is proved, not computed.
-ghost use Rattle.compare_files.specs.Claims.{SaysLighterOfFiles};
+ghost use Rattle.compare_files.specs.Files.{SaysLighterOfFiles};
 use compare::Compared;
 use compare::outcome;
 use reader::read;

@@ -11,5 +11,5 @@ bytesIn (Bytes n) = n
 bytesIn Failed = 0
 
 -- they are no more than the buffer has
-abbrev pub Holds : Input → List ℕ → Type 0
-Holds r buf = Counts (bytesIn r) buf
+abbrev pub InBuffer : Input → List ℕ → Type 0
+InBuffer r buf = Counts (bytesIn r) buf

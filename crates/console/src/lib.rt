@@ -6,7 +6,7 @@ use libc::STDOUT_FILENO;
 use names::Refusal;
 ghost use mathlib.Core.Path.{_≡_};
 ghost use lib.ListN.{take};
-ghost use Rattle.console.specs.Input.{Holds};
+ghost use Rattle.console.specs.Input.{InBuffer};
 
 // What was read: so many bytes, at the buffer's start; or that reading failed, as of a directory.
 pub enum Input {
@@ -16,7 +16,7 @@ pub enum Input {
 
 // Reads an open file until the buffer is full, the file ends or a read fails.
 pub fn read(fd: i32, buf: &mut [u8]) -> Input
-    ensures { λ r. ⌜ Holds r (now (buf .exit)) ⌝ }
+    ensures { λ r. ⌜ InBuffer r (now (buf .exit)) ⌝ }
 {
     let mut done: usize = 0;
     while done < buf.len() {

@@ -4,8 +4,7 @@ use Prim.Native.Nat.{_+_, _-_, _*_, _≤_, min}
 use native.Mathlib.Nat.{mul-le-mul}
 use native.Mathlib.Omega.{arith}
 use Rattle.names.specs.Limits.{constant, bits}
-use Rattle.costs.specs.Costs.{overheadsOf}
-use Rattle.costs.specs.Claims.{VAndUWithin}
+use Rattle.costs.specs.Costs.{overheadsOf, VAndUWithin}
 
 pub v-and-u-within : VAndUWithin
 unfolding overheadsOf

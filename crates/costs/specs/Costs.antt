@@ -1,8 +1,10 @@
 -- V and U of every timing, and how large they are within the limits.
-use Prim.Native.Nat.{ℕ, _+_, _-_, _*_, min}
+use Prim.Native.Nat.{ℕ, _+_, _-_, _*_, min, _≤_}
+use mathlib.Core.Path.{_≡_}
 use Rattle.names.specs.Limits.{constant, bits}
 use Rattle.plan.specs.declared.Timing.{Timing}
 use Rattle.plan.specs.Rules.{«V», U}
+use Rattle.plan.specs.Plan.{TimingWithin}
 use Rattle.costs.specs.declared.Overheads.{Overheads}
 
 -- more than 32 priority bits count as 32, so that U fits its word
@@ -30,3 +32,16 @@ mostV = constant + constant + constant + constant
 -- the most that U can be: G + (H + G) × (NB - 1) + ETG + LAG
 abbrev pub mostU : ℕ
 mostU = constant + (constant + constant) * (bits - 1) + constant + constant
+
+-- ---- What is proved of V and U; the proof is in proofs/Costs.antt.
+
+-- document 01's V and U, and no larger than they can be
+pub record VAndU (t : Timing) (o : Overheads) : Type 0 where
+  pub v : o .v ≡ «V» t
+  pub u : o .u ≡ U t
+  pub little : o .v ≤ mostV
+  pub small : o .u ≤ mostU
+
+-- of a timing within the limits
+abbrev pub VAndUWithin : Type 0
+VAndUWithin = (t : Timing) → TimingWithin t → VAndU t (overheadsOf t)

@@ -1,7 +1,7 @@
 -- Terms that are covered have a busy period and a bound no larger than their cover's: each right side is no larger at any point, so its least fixed
 -- point is no higher, there are no more instances, and each term is no larger. Assumes nothing.
 use mathlib.Core.Path.{_≡_, sym, subst}
-use Prim.Native.Nat.{ℕ, _+_, _-_, _*_, _≤_, _<_}
+use Prim.Native.Nat.{ℕ, _+_, _*_, _≤_, _<_}
 use native.Mathlib.Nat.{le-trans, le-refl, mul-le-mul, mul-le-mul-left}
 use native.Mathlib.Omega.{arith}
 use lib.Dec.{T, leb→le}

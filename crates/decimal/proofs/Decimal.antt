@@ -9,8 +9,7 @@ use native.Mathlib.Omega.{arith}
 use borrow.Author.Tests.{lt-ltb, le-ltb, ltb-true, ltb-false}
 use lib.Dec.{ltb}
 use lib.ListN.{length, getD, length-append}
-use Rattle.decimal.specs.Decimal.{digit, digitsOf, digits, valueFrom}
-use Rattle.decimal.specs.Claims.{DigitsAreNumeral, ValueOfDigits, DigitsOfValue, FewDigits}
+use Rattle.decimal.specs.Decimal.{digit, digitsOf, digits, valueFrom, DigitsAreNumeral, ValueOfDigits, DigitsOfValue, FewDigits}
 
 below : (n : ℕ) → (n < 10) ⊎ (10 ≤ n)
 below n = go (ltb n 10) refl

@@ -27,8 +27,7 @@ use Rattle.text.specs.Listing.{refusedOf}
 use Rattle.text.specs.Put.{put, Puts}
 use Rattle.text.proofs.Laying.{all-put, none-put}
 use Rattle.text.proofs.Size.{largest-refusal}
-use Rattle.desk.specs.Desk.{fileAs, shownFile}
-use Rattle.desk.specs.Claims.{SameFile, FileFits, LineIsNoPlan}
+use Rattle.desk.specs.Desk.{fileAs, shownFile, SameFile, FileFits, LineIsNoPlan}
 
 -- ---- what rewriting hands back, and what is then shown
 module _ (bs buf : List ℕ) where
@@ -73,5 +72,5 @@ file-fits bs buffer below fine room =
 pub line-is-no-plan : LineIsNoPlan
 line-is-no-plan r n p =
     let short : length (refusedOf r) ≤ 43 = largest-refusal r n p in
-    let wrong : sizeRight (refusedOf r) ≡ false = simp (lt-leb (layout.word * layout.contents) (length (refusedOf r)) (omega arith)) in
+    let wrong : sizeRight (refusedOf r) ≡ false = simp (lt-leb (layout.word * layout.contentsLength) (length (refusedOf r)) (omega arith)) in
     ap (λ f. f .answer) (counts-refused (refusedOf r) _ (said-size (refusedOf r) wrong))

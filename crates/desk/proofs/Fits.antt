@@ -16,8 +16,7 @@ use Rattle.text.specs.Claims.{Printed, Listed}
 use Rattle.text.specs.Listing.{listingOf}
 use Rattle.text.proofs.Laying.{all-put}
 use Rattle.text.proofs.Size.{largest-listing}
-use Rattle.desk.specs.Desk.{shownAs, shown}
-use Rattle.desk.specs.Claims.{ListingFits}
+use Rattle.desk.specs.Desk.{shownAs, shown, ListingFits}
 
 -- a row's value, whatever stands past the last row
 in-row : {A B : Type 0} (f : B → ℕ) (g : A → B) (l : List A) (k : ℕ) (d : A) → k < length l → getD (map f (map g l)) k 0 ≡ f (g (getD l k d))

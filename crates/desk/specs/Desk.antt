@@ -1,6 +1,8 @@
 -- What is shown of a plan file: its listing, whether it is fine, or the file again; of a refused file always the one line of its refusal.
 use mathlib.Core.List.{List}
-use Prim.Native.Nat.{ℕ}
+use Prim.Native.Nat.{ℕ, _^_, _≤_, _<_}
+use mathlib.Core.Path.{_≡_}
+use lib.ListN.{length}
 use Rattle.plan.specs.Plan.{Plan, planOf}
 use Rattle.plan.specs.Rules.{answers}
 use Rattle.judge.specs.declared.Checked.{Checked}
@@ -8,6 +10,13 @@ use Rattle.judge.specs.declared.Checked.the-variants.{Fine, Refused}
 use Rattle.file.specs.File.{fileOf, readOf}
 use Rattle.ascii.specs.Ascii.{ascii}
 use Rattle.text.specs.Listing.{listingOf, refusedOf}
+use Rattle.names.specs.Limits.{streams, sources, ticks}
+use Rattle.names.specs.declared.Refusal.{Refusal}
+use Rattle.words.specs.Words.{Below}
+use Rattle.carried.specs.Layout as layout
+use Rattle.text.specs.declared.Put.the-variants.{At}
+use Rattle.text.specs.Claims.{most}
+use Rattle.text.specs.Put.{put}
 
 -- the listing of a plan with its rows' answers
 abbrev pub shownAs : Checked → Plan → List ℕ
@@ -33,3 +42,26 @@ shownRefusal bs = refusalAs (readOf bs .answer)
 
 unfoldable pub shownFile : List ℕ → List ℕ
 shownFile bs = fileAs (readOf bs .answer) (planOf (readOf bs .sheet))
+
+-- ---- What is proved of what is shown; the proofs are in proofs/Fits.antt and proofs/Again.antt.
+
+-- every file that is not refused is shown in full where the largest listing has room, since no bound has more than 10 digits
+abbrev pub ListingFits : Type 0
+ListingFits =
+    (bs buffer : List ℕ) → readOf bs .answer ≡ Fine → most 10 ≤ length buffer
+    → put buffer 0 (shown bs) .0 ≡ At (length (shown bs))
+
+-- a file that is not refused is shown again byte for byte, ..
+abbrev pub SameFile : Type 0
+SameFile = (bs : List ℕ) → Below 256 bs → readOf bs .answer ≡ Fine → shownFile bs ≡ bs
+
+-- .. in full where the largest file has room, ..
+abbrev pub FileFits : Type 0
+FileFits =
+    (bs buffer : List ℕ) → Below 256 bs → readOf bs .answer ≡ Fine → layout.size streams sources ≤ length buffer
+    → put buffer 0 (shownFile bs) .0 ≡ At (length bs)
+
+-- .. and the line that is shown of a refused one is no plan file: it is too short for one
+abbrev pub LineIsNoPlan : Type 0
+LineIsNoPlan =
+    (r : Refusal) → r .number ≤ ticks → r .place < 2 ^ 64 → readOf (refusedOf r) .answer ≡ Refused (record { number = 1; place = 0 })

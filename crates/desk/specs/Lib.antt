@@ -1,2 +1,1 @@
 pub mod Desk
-pub mod Claims

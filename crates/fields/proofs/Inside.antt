@@ -13,7 +13,7 @@ use Rattle.laws.specs.declared.Found.{Found}
 use Rattle.laws.specs.declared.Found.the-variants.{At, Nothing}
 use Rattle.laws.proofs.Tests.{both}
 use Rattle.fields.specs.Fields.{Field, inside, lowest}
-use Rattle.fields.specs.Claims.{fieldAt, LowestOutside, AllInside, AtTheLowest, NothingIfInside, InsideIfWithin}
+use Rattle.fields.specs.Claims.{fieldAt, LowestOutside, AllInside, LowestExactly, NothingIfInside, InsideIfWithin}
 use Rattle.fields.proofs.Lowest.{within}
 
 pub inside-if-within : InsideIfWithin
@@ -66,7 +66,7 @@ one k fs (At p) Nothing a b = absurd (true≢false (sym (b (a .i) (a .among)) �
 one k fs Nothing (At q) a b = absurd (true≢false (sym (a (b .i) (b .among)) ∙ b .outside))
 one k fs Nothing Nothing a b = refl
 
-pub at-the-lowest : AtTheLowest
+pub at-the-lowest : LowestExactly
 at-the-lowest k fs p = (λ e. subst (Said k fs) e (said k fs), λ h. one k fs _ (At p) (said k fs) h)
 
 pub nothing-if-inside : NothingIfInside

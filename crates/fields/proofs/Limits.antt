@@ -30,7 +30,7 @@ within-next {w} {a} {b} h k s = next (within w a b h k) s
 -- ---- the three bodies
 timing-to : (t : Timing) → AllInside (timingFields t) → TimingWithin t
 timing-to t a =
-    let limits : (i : ℕ) → i < layout.timing → (fieldAt (timingFields t) i .least ≤ fieldAt (timingFields t) i .word) × (fieldAt (timingFields t) i .word ≤ fieldAt (timingFields t) i .most) = λ i h. inside-if-within (fieldAt (timingFields t) i) .0 (a i h) in
+    let limits : (i : ℕ) → i < layout.timingLength → (fieldAt (timingFields t) i .least ≤ fieldAt (timingFields t) i .word) × (fieldAt (timingFields t) i .word ≤ fieldAt (timingFields t) i .most) = λ i h. inside-if-within (fieldAt (timingFields t) i) .0 (a i h) in
     record {
       f = limits 0 (omega arith) .1;
       e = limits 1 (omega arith) .1;
@@ -55,7 +55,7 @@ timing-back t w =
 
 stream-to : (nb : ℕ) (s : Stream) → AllInside (streamFields nb s) → StreamWithin nb s × (s .label .0 ≤ ticks)
 stream-to nb s a =
-    let limits : (i : ℕ) → i < layout.stream → (fieldAt (streamFields nb s) i .least ≤ fieldAt (streamFields nb s) i .word) × (fieldAt (streamFields nb s) i .word ≤ fieldAt (streamFields nb s) i .most) = λ i h. inside-if-within (fieldAt (streamFields nb s) i) .0 (a i h) in (
+    let limits : (i : ℕ) → i < layout.streamLength → (fieldAt (streamFields nb s) i .least ≤ fieldAt (streamFields nb s) i .word) × (fieldAt (streamFields nb s) i .word ≤ fieldAt (streamFields nb s) i .most) = λ i h. inside-if-within (fieldAt (streamFields nb s) i) .0 (a i h) in (
       record {
         priority = omega (arith, limits 1 (omega arith) .1, pow-pos nb);
         some-period = limits 2 (omega arith) .0;

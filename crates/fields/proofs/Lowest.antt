@@ -76,7 +76,7 @@ module _ (nb : ℕ) (streams : List Stream) (r : ℕ) (d : Stream) (h : r < leng
   pub stream-not-here : lowest (layout.streamAt r) (streamFields nb (getD streams r d)) ≡ Nothing
       → lowest (layout.streamAt 0) (flatMap (streamFields nb) streams) ≡ lowest (layout.streamAt (r + 1)) (flatMap (streamFields nb) (drop (r + 1) streams))
   stream-not-here e =
-      let n : layout.streamAt r + layout.stream ≡ layout.streamAt (r + 1) = omega arith in
+      let n : layout.streamAt r + layout.streamLength ≡ layout.streamAt (r + 1) = omega arith in
       so-far ∙ ap (lowest (layout.streamAt r)) next-stream ∙ append-none (layout.streamAt r) (streamFields nb (getD streams r d)) _ e ∙ ap (λ j. lowest j (flatMap (streamFields nb) (drop (r + 1) streams))) n
 
 pub streams-done : (nb : ℕ) (streams : List Stream) (k r : ℕ) → length streams ≤ r → lowest k (flatMap (streamFields nb) (drop r streams)) ≡ Nothing
@@ -84,7 +84,7 @@ unfolding flatMap lowest
 streams-done nb streams k r h = rw (drop-of-length-le streams h) refl
 
 -- ---- a whole plan: its timing, then its streams, then its gaps
-pub length-streams : (nb : ℕ) (streams : List Stream) → length (flatMap (streamFields nb) streams) ≡ layout.stream * length streams
+pub length-streams : (nb : ℕ) (streams : List Stream) → length (flatMap (streamFields nb) streams) ≡ layout.streamLength * length streams
 unfolding flatMap
 length-streams nb [] = refl
 length-streams nb (s ∷ streams) = omega (arith, length-streams nb streams)

@@ -7,7 +7,7 @@ use Prim.Native.Nat.{ℕ, _+_, _≤_, _<_}
 use lib.ListN.{length, getD}
 use Rattle.laws.specs.declared.Found.the-variants.{At, Nothing}
 use Rattle.names.specs.Limits.{ticks}
-use Rattle.plan.specs.Plan.{Plan, blank, TimingWithin, StreamWithin, GapWithin}
+use Rattle.plan.specs.Plan.{Plan, at, TimingWithin, StreamWithin, GapWithin}
 use Rattle.carried.specs.Carried.{valuesOf}
 use Rattle.fields.specs.Fields.{Field, _from_to_, fields, inside, lowest}
 
@@ -22,8 +22,8 @@ pub record LowestOutside (k : ℕ) (fs : List Field) (p : ℕ) : Type 0 where
   pub outside : inside (fieldAt fs i) ≡ false
   pub before : (j : ℕ) → j < i → inside (fieldAt fs j) ≡ true
 
-abbrev pub AtTheLowest : Type 0
-AtTheLowest = (k : ℕ) (fs : List Field) (p : ℕ) → (lowest k fs ≡ At p) ↔ LowestOutside k fs p
+abbrev pub LowestExactly : Type 0
+LowestExactly = (k : ℕ) (fs : List Field) (p : ℕ) → (lowest k fs ≡ At p) ↔ LowestOutside k fs p
 
 -- nothing exactly if every field is inside
 abbrev pub AllInside : List Field → Type 0
@@ -39,8 +39,8 @@ InsideIfWithin = (f : Field) → (inside f ≡ true) ↔ ((f .least ≤ f .word)
 -- a plan's fields are all inside exactly if its timing, its streams and its gaps are within document 01's limits, and each label is a word
 pub record FieldsWithin (p : Plan) : Type 0 where
   pub timing : TimingWithin (p .timing)
-  pub stream : (k : ℕ) → k < length (p .streams) → StreamWithin (p .timing .nb) (getD (p .streams) k blank)
-  pub label : (k : ℕ) → k < length (p .streams) → getD (p .streams) k blank .label .0 ≤ ticks
+  pub stream : (k : ℕ) → k < length (p .streams) → StreamWithin (p .timing .nb) (at p k)
+  pub label : (k : ℕ) → k < length (p .streams) → at p k .label .0 ≤ ticks
   pub gap : (k : ℕ) → k < length (p .gaps) → GapWithin (getD (p .gaps) k 0)
 
 abbrev pub InsideIfFieldsWithin : Type 0

@@ -18,7 +18,7 @@ use Rattle.laws.proofs.Tests.{both}
 use Rattle.laws.specs.Rows.{some}
 use Rattle.repeats.specs.Repeats.{firstRepeat}
 use Rattle.bound.specs.Terms.{Terms}
-use Rattle.bound.specs.Bound.{E, demand, sideL, busy, sideW, w, bound, answerOf, answer}
+use Rattle.bound.specs.Bound.{E, demand, sideL, busy, sideW, w, bound, answerFor, answer}
 use Rattle.plan.specs.Rules.{«V», U, C″, B, hit, terms, answers}
 use Rattle.fields.specs.Fields.{fields, lowest}
 use Rattle.judge.specs.Table.{judge}
@@ -33,7 +33,8 @@ use Rattle.tournament.specs.Rule.{begunOf, heardAt, silencedAt, marksAfter, low
 use Rattle.tournament.specs.Answers.{startOf, runOf}
 use Rattle.figures.specs.Load.{load, delayed}
 use Rattle.figures.specs.Figures.{Entry, ofTiming, ofPlan, ofRow, ofListing, ofBytes, ofTournament}
-use Rattle.figures.specs.Figures.{values, file, refusal, at, count, instance, states, Holds, table, All, Figures}
+use Rattle.plan.specs.Plan.{at}
+use Rattle.figures.specs.Figures.{values, file, refusal, instances, instance, states, Holds, table, All, Figures}
 use Rattle.figures.proofs.Load.{full-is-none}
 
 -- ---- a stream: where its own period is full there is no busy period, and elsewhere it is searched for
@@ -65,7 +66,7 @@ again (ofPlan p c d) = ofPlan p (values p) (file (fileOf p))
 again (ofRow p k c L q is a) =
     let r = terms p (at p k) in
     let f = sought r (full r (r .own .T)) in
-    ofRow p k (C″ p (at p k)) f (count r f) (rows (count r f) (instance r)) (answerOf r (at p k .deadline) f)
+    ofRow p k (C″ p (at p k)) f (instances r f) (rows (instances r f) (instance r)) (answerFor r (at p k .deadline) f)
 again (ofListing p size text) = ofListing p (length (fileOf p)) (listingOf p (answers p))
 again (ofBytes bs size number) = ofBytes bs (length bs) (bySize (sizeRight bs) number)
 again (ofTournament NB n places a b ss) =
@@ -101,7 +102,7 @@ same-again : map again table ≡ table
 unfolding again full load delayed sumOf largestOf those rows first largestTo some firstRepeat
     E demand sideL busy sideW w bound answer B hit terms
     fields lowest flatMap judge wordsOf bytesOf fileWords planIn same readOf
-    listingOf text.rowLines text.row digits digitsOf
+    listingOf text.listedRows text.row digits digitsOf
     lowestUnfit verdictOf begunOf heardAt silencedAt marksAfter lowestMarked winnerOf nextAt steps startOf runOf
 same-again = refl
 

@@ -5,7 +5,7 @@ use mathlib.Core.Bool.{Bool, true, false}
 use mathlib.Core.List.{List, [], _∷_, _++_}
 use Prim.Native.Nat.{ℕ}
 use lib.IntN.{ℤ, pos}
-use lib.ListN.{length, getD, take}
+use lib.ListN.{length, take}
 use Rattle.names.specs.declared.Priority.{Priority}
 use Rattle.laws.specs.declared.Found.{Found}
 use Rattle.laws.specs.declared.Found.the-variants.{At, Nothing}
@@ -15,8 +15,7 @@ use Rattle.bound.specs.declared.Verdict.the-variants.{Met, Missed, None}
 use Rattle.bound.specs.Terms.{Terms}
 use Rattle.bound.specs.Bound.{busy, Q, w, term}
 use Rattle.plan.specs.declared.Timing.{Timing}
-use Rattle.plan.specs.declared.Stream.{Stream}
-use Rattle.plan.specs.Plan.{Plan, blank}
+use Rattle.plan.specs.Plan.{Plan, at}
 use Rattle.plan.specs.Rules.{«V», U, C″, terms, rowAnswer, answers}
 use Rattle.judge.specs.declared.Checked.{Checked}
 use Rattle.judge.specs.declared.Checked.the-variants.{Fine, Refused}
@@ -58,14 +57,10 @@ file bs = readOf bs .answer
 abbrev pub refusal : ℕ → ℕ → Checked
 refusal number place = Refused (record { number = number; place = place })
 
--- the stream in row k
-abbrev pub at : Plan → ℕ → Stream
-at p k = getD (p .streams) k blank
-
 -- Q, which is 0 for none; and of an instance w(q), and the bound that q alone gives
-abbrev pub count : Terms → Found → ℕ
-count r (At L) = Q r L
-count r Nothing = 0
+abbrev pub instances : Terms → Found → ℕ
+instances r (At L) = Q r L
+instances r Nothing = 0
 
 abbrev pub instance : Terms → ℕ → ℕ × ℤ
 instance r q = (w r q, term r q)
@@ -83,7 +78,7 @@ Holds (ofTiming t v u) = («V» t ≡ v) × (U t ≡ u)
 Holds (ofPlan p c d) = (values p ≡ c) × (file (fileOf p) ≡ d)
 Holds (ofRow p k c L q is a) =
     let r = terms p (at p k) in
-    (C″ p (at p k) ≡ c) × (busy r ≡ L) × (count r L ≡ q) × (rows q (instance r) ≡ is) × (rowAnswer p (at p k) ≡ a)
+    (C″ p (at p k) ≡ c) × (busy r ≡ L) × (instances r L ≡ q) × (rows q (instance r) ≡ is) × (rowAnswer p (at p k) ≡ a)
 Holds (ofListing p size text) = (length (fileOf p) ≡ size) × (listingOf p (answers p) ≡ text)
 Holds (ofBytes bs size number) = (length bs ≡ size) × ((any : List ℕ) → length any ≡ size → file any ≡ refusal number 0)
 Holds (ofTournament NB n places a b ss) =
@@ -104,8 +99,8 @@ met b = record { verdict = Met; bound = b }
 abbrev missed : ℕ → Answer
 missed b = record { verdict = Missed; bound = b }
 
-abbrev none : Answer
-none = record { verdict = None; bound = 0 }
+abbrev noBound : Answer
+noBound = record { verdict = None; bound = 0 }
 
 -- of three contenders, all are in, and row 1 alone
 abbrev three : List Bool
@@ -142,10 +137,10 @@ table =
     ∷ ofRow P3 0 23 (At 23) 1 (0 gives 23 ∷ []) (met 23)
     -- P4: none
     ∷ ofPlan P4 Fine Fine
-    ∷ ofRow P4 0 23 Nothing 0 [] none
+    ∷ ofRow P4 0 23 Nothing 0 [] noBound
     -- P5: none
     ∷ ofPlan P5 Fine Fine
-    ∷ ofRow P5 0 23 Nothing 0 [] none
+    ∷ ofRow P5 0 23 Nothing 0 [] noBound
     -- P6: L = 115, Q = 5, bound 53
     ∷ ofPlan P6 Fine Fine
     ∷ ofRow P6 0 23 (At 115) 5 (0 gives 53 ∷ 23 gives 46 ∷ 46 gives 39 ∷ 69 gives 32 ∷ 92 gives 25 ∷ []) (met 53)

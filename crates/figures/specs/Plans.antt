@@ -9,7 +9,7 @@ use Rattle.plan.specs.declared.Stream.{Stream}
 use Rattle.plan.specs.Plan.{Plan}
 use Rattle.file.specs.File.{fileOf}
 use Rattle.text.specs.Listing.{group}
-use Rattle.tournament_state.specs.Refusals.{none}
+use Rattle.tournament_state.specs.Refusals.{priority, none}
 
 -- F, E, TFCS, SWX, H, G, ETG, LAG, NB
 abbrev pub constants : ℕ → ℕ → ℕ → ℕ → ℕ → ℕ → ℕ → ℕ → ℕ → Timing
@@ -84,8 +84,5 @@ abbrev pub P11 : Plan
 P11 = plan base (stream 10 1 1 100 0 0 60 ∷ stream 10 10 2 150 10 7 120 ∷ stream 11 2 3 400 0 2 200 ∷ []) []
 
 -- P12: contenders 5, 3, 6 in 4 bits, in the first of the 128 places that a start is lent; the others are 0
-abbrev priority : ℕ → Priority
-priority p = record { 0 = p }
-
 abbrev pub P12 : List Priority
 P12 = (priority 5 ∷ priority 3 ∷ priority 6 ∷ []) ++ replicate (contenders - 3) none

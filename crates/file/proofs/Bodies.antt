@@ -13,7 +13,7 @@ use Rattle.carried.specs.Carried.{planIn, valuesOf}
 use Rattle.carried.proofs.Plans.{length-values, values-back}
 use Rattle.file.specs.File.{contents, fileWords}
 
-pub length-words : (p : Plan) → length (fileWords p) ≡ layout.contents + layout.gapAt (length (p .streams)) (length (p .gaps))
+pub length-words : (p : Plan) → length (fileWords p) ≡ layout.contentsLength + layout.gapAt (length (p .streams)) (length (p .gaps))
 unfolding fileWords
 length-words p = omega (arith, length-values p)
 
@@ -24,11 +24,11 @@ words-in n m ws h =
     ap₂ (λ a b. contents a b ++ valuesOf (planIn n m ws)) (length-rows n _) (length-rows m _)
     ∙ ap (λ v. contents n m ++ v) (values-back n m ws h)
 
-pub words-of-plan : (ws : List ℕ) (n m : ℕ) → length ws ≡ layout.contents + layout.gapAt n m → take layout.contents ws ≡ contents n m
-    → fileWords (planIn n m (drop layout.contents ws)) ≡ ws
+pub words-of-plan : (ws : List ℕ) (n m : ℕ) → length ws ≡ layout.contentsLength + layout.gapAt n m → take layout.contentsLength ws ≡ contents n m
+    → fileWords (planIn n m (drop layout.contentsLength ws)) ≡ ws
 words-of-plan ws n m long e =
-    let bodies = drop layout.contents ws in
-    let k : length bodies ≡ layout.gapAt n m = length-drop layout.contents ws ∙ omega arith in
+    let bodies = drop layout.contentsLength ws in
+    let k : length bodies ≡ layout.gapAt n m = length-drop layout.contentsLength ws ∙ omega arith in
     words-in n m bodies (omega arith)
     ∙ ap₂ _++_ (sym e) (take-all (layout.gapAt n m) bodies (omega arith))
-    ∙ take-append-drop layout.contents ws
+    ∙ take-append-drop layout.contentsLength ws

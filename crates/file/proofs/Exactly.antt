@@ -9,9 +9,8 @@ use Rattle.words.specs.Words.{wordsOf}
 use Rattle.plan.specs.Plan.{Plan}
 use Rattle.judge.specs.declared.Checked.{Checked}
 use Rattle.judge.specs.declared.Checked.the-variants.{Fine, Refused}
-use Rattle.judge.specs.Table.{Line, judge}
+use Rattle.judge.specs.Table.{Line, judge, lineAt}
 use Rattle.checks.specs.Checks.{valueLines}
-use Rattle.judge.specs.Claims.{lineAt}
 use Rattle.judge.proofs.Table.{fine-then, refused-by-the-first}
 use Rattle.file.specs.declared.Counts.{Counts}
 use Rattle.file.specs.declared.Counts.the-variants.{Of, Refused as Counts·Refused}

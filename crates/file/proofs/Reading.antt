@@ -88,9 +88,9 @@ counts-refused bs r e =
 
 -- ---- the lines of the contents are not given
 -- what right contents say
-right-contents : (n m : ℕ) (bs : List ℕ) → contentsRight n m bs ≡ true → (take layout.contents (wordsOf bs) ≡ contents n m) × (length bs ≡ layout.size n m)
+right-contents : (n m : ℕ) (bs : List ℕ) → contentsRight n m bs ≡ true → (take layout.contentsLength (wordsOf bs) ≡ contents n m) × (length bs ≡ layout.size n m)
 right-contents n m bs e =
-    let (c, d) = both (same (take layout.contents (wordsOf bs)) (contents n m)) (eqb (length bs) (layout.size n m)) e in
+    let (c, d) = both (same (take layout.contentsLength (wordsOf bs)) (contents n m)) (eqb (length bs) (layout.size n m)) e in
     (same-eq _ _ c, eqb-true (length bs) (layout.size n m) d)
 
 module _ (bs : List ℕ) (n m : ℕ) (e : countsOf bs ≡ Of n m) where
@@ -133,7 +133,7 @@ pub record ReadFine (bs : List ℕ) : Type 0 where
   pub n : ℕ
   pub m : ℕ
   pub size : length bs ≡ layout.size n m
-  pub contents : take layout.contents (wordsOf bs) ≡ contents n m
+  pub contents : take layout.contentsLength (wordsOf bs) ≡ contents n m
   pub values : judge (lines n m (planAt n m bs)) ≡ Fine
   pub read : readOf bs ≡ record { answer = Fine; sheet = sheetOf (planAt n m bs) }
 

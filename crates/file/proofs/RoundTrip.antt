@@ -45,7 +45,7 @@ fit {x} {b} h t = lt-of-le-of-lt h (ltb→lt b (2 ^ 32) t)
 
 contents-fit : (n m : ℕ) → n ≤ streams → m ≤ sources → All Fits 0 (contents n m)
 contents-fit n m a b =
-    let x : Fits (layout.word * (layout.stream * n)) = omega arith in
+    let x : Fits (layout.word * (layout.streamLength * n)) = omega arith in
     let y : Fits (layout.byteOf (layout.streamAt n)) = omega arith in
     let z : Fits (layout.word * m) = omega arith in
     shown Fits 0
@@ -97,8 +97,8 @@ reads-as-its-values p few quiet fits =
     let long : length (fileOf p) ≡ layout.size n m = length-file p in
     let n-is : countIn (contents n m ++ valuesOf p) ≡ n = omega arith in
     let m-is : sourcesIn (contents n m ++ valuesOf p) ≡ m = omega arith in
-    let head : take layout.contents (wordsOf (fileOf p)) ≡ contents n m = ap (take layout.contents) ws in
-    let bodies : bodiesIn (fileOf p) ≡ valuesOf p ++ [] = ap (drop layout.contents) ws ∙ sym (append-nil (valuesOf p)) in
+    let head : take layout.contentsLength (wordsOf (fileOf p)) ≡ contents n m = ap (take layout.contentsLength) ws in
+    let bodies : bodiesIn (fileOf p) ≡ valuesOf p ++ [] = ap (drop layout.contentsLength) ws ∙ sym (append-nil (valuesOf p)) in
     let back : planAt n m (fileOf p) ≡ p = ap (planIn n m) bodies ∙ plan-in-values p [] in
     read-values (fileOf p) n m (ap countIn ws ∙ n-is) (ap sourcesIn ws ∙ m-is)
     (simp (le-leb (layout.byteOf 0) (length (fileOf p)) (omega arith), le-leb (length (fileOf p)) (layout.size streams sources) (omega arith)))
@@ -139,7 +139,7 @@ reads-one-sheet bs e =
 -- the bytes of the plan that was read are the bytes that were read
 pub file-back : (bs : List ℕ) → Below 256 bs → (f : ReadFine bs) → fileOf (planAt (f .n) (f .m) bs) ≡ bs
 file-back bs small f =
-    let k = layout.contents + layout.gapAt (f .n) (f .m) in
+    let k = layout.contentsLength + layout.gapAt (f .n) (f .m) in
     let long : length (wordsOf bs) ≡ k = W.length-words bs ∙ omega (arith, f .size) in
     ap bytesOf (words-of-plan (wordsOf bs) (f .n) (f .m) long (f .contents)) ∙ W.bytes-words k bs small (f .size)
 

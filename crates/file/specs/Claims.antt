@@ -67,4 +67,4 @@ SizesAre = ((n m : ℕ) → layout.size n m ≡ 80 + 24 * n + 4 * m) × (layout.
 abbrev pub PlaceIsOffset : Type 0
 PlaceIsOffset =
     (p : Plan) (i : ℕ) → i < length (fields p)
-    → (layout.byteOf i ≡ 4 * (11 + i)) × (getD (fileWords p) (layout.contents + i) 0 ≡ fieldAt (fields p) i .word)
+    → (layout.byteOf i ≡ 4 * (11 + i)) × (getD (fileWords p) (layout.contentsLength + i) 0 ≡ fieldAt (fields p) i .word)

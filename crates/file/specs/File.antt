@@ -26,8 +26,8 @@ use Rattle.file.specs.declared.Written.the-variants.{Bytes, Refused as W
 abbrev pub contents : ℕ → ℕ → List ℕ
 contents n m =
     1 ∷ 3
-    ∷ 1 ∷ layout.byteOf 0 ∷ layout.word * layout.timing
-    ∷ 2 ∷ layout.byteOf (layout.streamAt 0) ∷ layout.word * (layout.stream * n)
+    ∷ 1 ∷ layout.byteOf 0 ∷ layout.word * layout.timingLength
+    ∷ 2 ∷ layout.byteOf (layout.streamAt 0) ∷ layout.word * (layout.streamLength * n)
     ∷ 3 ∷ layout.byteOf (layout.streamAt n) ∷ layout.word * m
     ∷ []
 
@@ -42,14 +42,14 @@ fileOf p = bytesOf (fileWords p)
 
 -- n and m, from the lengths of the second and the third entry
 abbrev pub countIn : List ℕ → ℕ
-countIn ws = getD ws 7 0 / (layout.word * layout.stream)
+countIn ws = getD ws 7 0 / (layout.word * layout.streamLength)
 
 abbrev pub sourcesIn : List ℕ → ℕ
 sourcesIn ws = getD ws 10 0 / layout.word
 
 -- the words of the bodies
 abbrev pub bodiesIn : List ℕ → List ℕ
-bodiesIn bs = drop layout.contents (wordsOf bs)
+bodiesIn bs = drop layout.contentsLength (wordsOf bs)
 
 -- ---- reading
 
@@ -66,7 +66,7 @@ sizeRight bs = leb (layout.byteOf 0) (length bs) && leb (length bs) (layout.size
 
 -- 2: any contents word differs from the rule, or the last body doesn't end at the file's end
 abbrev pub contentsRight : ℕ → ℕ → List ℕ → Bool
-contentsRight n m bs = same (take layout.contents (wordsOf bs)) (contents n m) && eqb (length bs) (layout.size n m)
+contentsRight n m bs = same (take layout.contentsLength (wordsOf bs)) (contents n m) && eqb (length bs) (layout.size n m)
 
 -- the lines of the contents, before any value is read; also 2: n or m is outside its range
 abbrev pub contentsLines : ℕ → ℕ → List ℕ → List Line

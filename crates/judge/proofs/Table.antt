@@ -9,12 +9,11 @@ use Rattle.names.specs.declared.Refusal.{Refusal}
 use Rattle.laws.specs.declared.Found.{Found}
 use Rattle.laws.specs.declared.Found.the-variants.{At, Nothing}
 use Rattle.laws.proofs.Tests.{apart}
-use Rattle.repeats.specs.declared.Repeat.{Repeat}
-use Rattle.repeats.specs.declared.Repeat.the-variants.{At as Repeat·At, Nothing as Repeat·Nothing}
+use Rattle.names.specs.declared.FoundRow.{FoundRow}
+use Rattle.names.specs.declared.FoundRow.the-variants.{At as FoundRow·At, Nothing as FoundRow·Nothing}
 use Rattle.judge.specs.declared.Checked.{Checked}
 use Rattle.judge.specs.declared.Checked.the-variants.{Fine, Refused}
-use Rattle.judge.specs.Table.{Line, judge, unless, rowIn, _then_}
-use Rattle.judge.specs.Claims.{lineAt, FirstGiven, RefusedByTheFirst, FineIfNone, JudgedInTurn}
+use Rattle.judge.specs.Table.{Line, judge, unless, rowIn, _then_, lineAt, FirstGiven, RefusedByTheFirst, FineIfNone, JudgedInTurn}
 
 -- ---- one line
 pub given : (l : Line) (ls : List Line) (p : ℕ) → l .place ≡ At p → judge (l ∷ ls) ≡ Refused (record { number = l .number; place = p })
@@ -45,9 +44,9 @@ pub unless-not : (t : Bool) → unless t ≡ Nothing → t ≡ true
 unless-not true e = refl
 unless-not false e = absurd (apart e)
 
-pub row-not : (r : Repeat) → rowIn r ≡ Nothing → r ≡ Repeat·Nothing
-row-not (Repeat·At r) e = absurd (apart e)
-row-not Repeat·Nothing e = refl
+pub row-not : (r : FoundRow) → rowIn r ≡ Nothing → r ≡ FoundRow·Nothing
+row-not (FoundRow·At r) e = absurd (apart e)
+row-not FoundRow·Nothing e = refl
 
 -- ---- the first line that is given
 later : (l : Line) (ls : List Line) (r : Refusal) → l .place ≡ Nothing → FirstGiven ls r → FirstGiven (l ∷ ls) r

@@ -1,7 +1,7 @@
 -- The chain s, f s, f (f s), .. of a function that never falls, once for every such function: it finds the least fixed point from s on, or
 -- shows that there is none in range. Assumes nothing.
 use mathlib.Core.Path.{_≡_, refl, sym, _∙_}
-use mathlib.Core.Logic.{_⊎_, ⊎-elim}
+use mathlib.Core.Logic.{⊎-elim}
 use Prim.Native.Nat.{ℕ, zero, suc, _+_, _-_, _≤_, _<_}
 use native.Mathlib.Nat.{le-refl, le-trans, le-antisymm, lt-of-not-le, eq-or-lt-of-le}
 use native.Mathlib.Omega.{arith}

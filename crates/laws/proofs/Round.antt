@@ -1,6 +1,6 @@
 -- Laws of rounding up: order, range, the count that is known already, and least multiples. Assumes nothing.
 use mathlib.Core.Path.{_≡_, refl, ap, _∙_}
-use mathlib.Core.Logic.{_⊎_, ⊎-elim}
+use mathlib.Core.Logic.{⊎-elim}
 use Prim.Native.Nat.{ℕ, suc, _+_, _-_, _*_, _/_, _≤_, _<_}
 use native.Mathlib.Nat.{le-trans, le-refl, div-lt-iff-lt-mul, le-mul-of-pos-right, mul-le-mul-left, suc-mul, le-div-iff-mul-le, div-mul-le-self, div-zero, div-eq-of-lt, eq-zero-or-pos, lt-div-mul-add, mul-add-div-right, lt-of-not-le}
 use native.Mathlib.Decide.{decLe}

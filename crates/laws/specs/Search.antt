@@ -16,6 +16,11 @@ first t lo (suc n) = elim (t lo) [ true ↦ At lo | false ↦ first t (suc lo) n
 abbrev pub firstFixed : (ℕ → ℕ) → ℕ → ℕ → Found
 firstFixed f lo n = first (λ x. eqb (f x) x) lo n
 
+-- what was found, or 0
+abbrev pub orZero : Found → ℕ
+orZero (At x) = x
+orZero Nothing = 0
+
 -- x is the least fixed point of f from lo on
 pub record Least (f : ℕ → ℕ) (lo x : ℕ) : Type 0 where
   pub above : lo ≤ x

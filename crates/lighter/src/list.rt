@@ -2,7 +2,7 @@
 use crate::files;
 use console::print;
 use console::print_number;
-use pairs::Line;
+use pairs::Named;
 use pairs::line_at;
 use pairs::name_in;
 use pairs::next_line;
@@ -16,9 +16,9 @@ fn wrong(number: u64) {
 // The line at a place of the list, by its number.
 fn line(text: &[u8], at: usize, number: u64) {
     match line_at(text, at) {
-        Line::Names(old, new, _) => files(name_in(text, old), name_in(text, new)),
-        Line::Wrong(_) => wrong(number),
-        Line::Over => {}
+        Named::Names(old, new, _) => files(name_in(text, old), name_in(text, new)),
+        Named::Wrong(_) => wrong(number),
+        Named::Over => {}
     }
 }
 

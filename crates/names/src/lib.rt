@@ -11,6 +11,12 @@ pub struct Priority(pub u32);
 // A place in a plan or a tournament, counted from 0.
 pub struct Row(pub usize);
 
+// A row that was looked for, the lowest of its kind, or that there is none.
+pub enum FoundRow {
+    At(Row),
+    Nothing,
+}
+
 // group * 65,536 + number, painted on the node as group.number.
 #[repr(C)]
 pub struct Label(pub u32);

@@ -18,7 +18,7 @@ use Rattle.laws.proofs.Rows.{some-passes}
 use Rattle.bound.specs.declared.Verdict.{Verdict}
 use Rattle.bound.specs.declared.Verdict.the-variants.{Met, Missed, None}
 use Rattle.bound.specs.Bound.{E, demand, sideL, busy, sideW, w, bound, answer}
-use Rattle.plan.specs.Plan.{Plan}
+use Rattle.plan.specs.Plan.{Plan, at}
 use Rattle.plan.specs.Rules.{B, hit, terms, rowAnswer}
 use Rattle.cover.specs.Cover.{Partnered}
 use Rattle.fields.specs.Fields.{fields, lowest}
@@ -27,9 +27,9 @@ use Rattle.judge.specs.declared.Checked.the-variants.{Fine, Refused}
 use Rattle.judge.specs.Table.{judge}
 use Rattle.checks.specs.Checks.{lines}
 use Rattle.checks.proofs.Fine.{fine-if-right}
-use Rattle.promise.specs.Lighter.{at, NotRefused, NoGreater, Stands}
+use Rattle.promise.specs.Lighter.{NotRefused, NoGreater, Stands}
 use Rattle.compare.specs.Changes.{rowOf}
-use Rattle.needed.specs.Needed.{conditions, count, Pair, pair, Broken, Lost, EachNeeded, easier, NotEmpty}
+use Rattle.needed.specs.Needed.{conditions, howMany, Pair, pair, Broken, Lost, EachNeeded, easier, NotEmpty}
 
 second : (a b : Bool) → a || b ≡ true → (a ≡ true → ⊥) → b ≡ true
 second true b e n = absurd (n refl)
@@ -52,14 +52,14 @@ fine-says p e = fine-if-right _ _ p .0 (go _ e)
 
 -- ---- condition i alone is broken
 abbrev broken : ℕ → Plan → Plan → Bool
-broken i old new = not (getD (conditions old new) i true) && every count (λ j. eqb j i || getD (conditions old new) j false)
+broken i old new = not (getD (conditions old new) i true) && every howMany (λ j. eqb j i || getD (conditions old new) j false)
 
 broken-says : (i : ℕ) (old new : Plan) → broken i old new ≡ true → Broken i old new
 broken-says i old new e =
     let (this, rest) = both (not (getD (conditions old new) i true)) _ e in
     record {
       fails = not-true _ this;
-      others = λ j h n. second (eqb j i) _ (every-each _ count rest j h) (λ q. n (eqb-true j i q));
+      others = λ j h n. second (eqb j i) _ (every-each _ howMany rest j h) (λ q. n (eqb-true j i q));
     }
 
 -- ---- row k of the second plan is not met, and its namesake in row r of the first is
@@ -109,12 +109,12 @@ right-says i p e =
     let (a, b) = both (fine (p .old)) (fine (p .new)) g in
     (fine-says _ a, fine-says _ b, broken-says i _ _ c, lost-says _ _ d)
 
-all-right : every count (λ i. right i (pair i)) ≡ true
+all-right : every howMany (λ i. right i (pair i)) ≡ true
 unfolding every some first those sumOf largestOf largestTo firstRepeat E demand sideL busy sideW w bound answer B hit terms fields lowest flatMap judge rowOf conditions
 all-right = refl
 
 pub each-needed : EachNeeded
-each-needed i h = right-says i (pair i) (every-each (λ j. right j (pair j)) count all-right i h)
+each-needed i h = right-says i (pair i) (every-each (λ j. right j (pair j)) howMany all-right i h)
 
 -- ---- lighter in every respect: 11.2 and 10.1 stand in rows 2 and 0 of the first plan
 both-fine : fine (easier .old) && fine (easier .new) ≡ true

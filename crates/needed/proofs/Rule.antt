@@ -11,13 +11,13 @@ use Rattle.laws.specs.declared.Found.{Found}
 use Rattle.laws.specs.declared.Found.the-variants.{At as Found·At, Nothing as Found·Nothing}
 use Rattle.laws.proofs.Lists.{every-each, every-all}
 use Rattle.plan.specs.declared.Stream.{Stream}
-use Rattle.plan.specs.Plan.{Plan}
-use Rattle.promise.specs.Lighter.{at, NoGreater, Eased}
+use Rattle.plan.specs.Plan.{Plan, at}
+use Rattle.promise.specs.Lighter.{NoGreater, Eased}
 use Rattle.compare.specs.declared.Change.the-variants.{Nothing}
 use Rattle.compare.specs.Changes.{rowOf, inRow}
 use Rattle.compare.proofs.First.{of-not-nothing, must-nothing, must-true}
 use Rattle.compare.proofs.Exactly.{no-greater, constants-nothing, eases, eased-nothing, Unbroken, unbroken, no-changes}
-use Rattle.needed.specs.Needed.{stands, holds, eachBeside, conditions, count, AllHoldExactly}
+use Rattle.needed.specs.Needed.{stands, holds, eachBeside, conditions, howMany, AllHoldExactly}
 
 -- ---- all of a list
 infixr 30 _and_
@@ -54,7 +54,7 @@ module _ (old : Plan) (s : Stream) where
 -- ---- all the conditions
 module _ (old new : Plan) where
   abbrev AllHold : Type 0
-  AllHold = (j : ℕ) → j < count → getD (conditions old new) j false ≡ true
+  AllHold = (j : ℕ) → j < howMany → getD (conditions old new) j false ≡ true
 
   constants-hold : AllHold → NoGreater (old .timing) (new .timing)
   unfolding conditions

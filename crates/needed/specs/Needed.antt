@@ -13,8 +13,8 @@ use Rattle.laws.specs.Lists.{every}
 use Rattle.laws.specs.Rows.{some}
 use Rattle.plan.specs.declared.Timing.{Timing}
 use Rattle.plan.specs.declared.Stream.{Stream}
-use Rattle.plan.specs.Plan.{Plan}
-use Rattle.promise.specs.Lighter.{at, Namesakes, Lighter, NotRefused, Kept}
+use Rattle.plan.specs.Plan.{Plan, at}
+use Rattle.promise.specs.Lighter.{Namesakes, Lighter, NotRefused, Kept}
 use Rattle.compare.specs.declared.Change.the-variants.{Nothing}
 use Rattle.compare.specs.Changes.{rowOf, overtakes, atMost, changes}
 use Rattle.figures.specs.Plans.{constants, stream, plan, base}
@@ -61,8 +61,8 @@ conditions old new =
     ∷ []
 
 -- how many there are
-abbrev pub count : ℕ
-count = 16
+abbrev pub howMany : ℕ
+howMany = 16
 
 -- ---- the pairs
 
@@ -70,13 +70,13 @@ pub record Pair : Type 0 where
   pub old : Plan
   pub new : Plan
 
-infix 20 _then_
-abbrev _then_ : Plan → Plan → Pair
-old then new = record { old = old; new = new }
+infix 20 _becomes_
+abbrev _becomes_ : Plan → Plan → Pair
+old becomes new = record { old = old; new = new }
 
 -- one stream, 10.1: under the base constants its bound is C'' = 23, its deadline
-abbrev alone : Timing → Plan
-alone t = plan t (stream 10 1 1 100 0 5 23 ∷ []) []
+abbrev oneUnder : Timing → Plan
+oneUnder t = plan t (stream 10 1 1 100 0 5 23 ∷ []) []
 
 -- two streams under the base constants, 10.1 with T, J and D as given: with T 100 and J 0 the bound of 10.1 is 14 + 23 = 37, and that of
 -- 10.10 is 23 + 23 = 46, its deadline
@@ -84,55 +84,55 @@ abbrev two : ℕ → ℕ → ℕ → Plan
 two t j d = plan base (stream 10 1 1 t j 5 d ∷ stream 10 10 2 100 0 5 46 ∷ []) []
 
 -- pair i breaks condition i alone
-abbrev pub table : List Pair
-table =
+abbrev pub allPairs : List Pair
+allPairs =
     -- F grows from 4 to 5: V grows from 8 to 9, and the bound of 10.1 from 23 to 24, past its deadline of 23
-    (alone base then alone (constants 5 1 1 2 1 1 2 1 4))
+    (oneUnder base becomes oneUnder (constants 5 1 1 2 1 1 2 1 4))
     -- E grows from 1 to 2: the same
-    ∷ (alone base then alone (constants 4 2 1 2 1 1 2 1 4))
+    ∷ (oneUnder base becomes oneUnder (constants 4 2 1 2 1 1 2 1 4))
     -- TFCS grows from 1 to 3, past SWX, which is 2: the same
-    ∷ (alone base then alone (constants 4 1 3 2 1 1 2 1 4))
+    ∷ (oneUnder base becomes oneUnder (constants 4 1 3 2 1 1 2 1 4))
     -- SWX grows from 2 to 3: the same
-    ∷ (alone base then alone (constants 4 1 1 3 1 1 2 1 4))
+    ∷ (oneUnder base becomes oneUnder (constants 4 1 1 3 1 1 2 1 4))
     -- H grows from 1 to 2: V grows from 8 to 9, U from 10 to 13, and the bound of 10.1 from 23 to 27
-    ∷ (alone base then alone (constants 4 1 1 2 2 1 2 1 4))
+    ∷ (oneUnder base becomes oneUnder (constants 4 1 1 2 2 1 2 1 4))
     -- G grows from 1 to 2: U grows from 10 to 14, and the bound of 10.1 from 23 to 27
-    ∷ (alone base then alone (constants 4 1 1 2 1 2 2 1 4))
+    ∷ (oneUnder base becomes oneUnder (constants 4 1 1 2 1 2 2 1 4))
     -- ETG grows from 2 to 3: U grows from 10 to 11, and the bound of 10.1 from 23 to 24
-    ∷ (alone base then alone (constants 4 1 1 2 1 1 3 1 4))
+    ∷ (oneUnder base becomes oneUnder (constants 4 1 1 2 1 1 3 1 4))
     -- LAG grows from 1 to 2: the same
-    ∷ (alone base then alone (constants 4 1 1 2 1 1 2 2 4))
+    ∷ (oneUnder base becomes oneUnder (constants 4 1 1 2 1 1 2 2 4))
     -- NB grows from 4 to 5: U grows from 10 to 12, and the bound of 10.1 from 23 to 25
-    ∷ (alone base then alone (constants 4 1 1 2 1 1 2 1 5))
+    ∷ (oneUnder base becomes oneUnder (constants 4 1 1 2 1 1 2 1 5))
     -- the label 10.10 is new, and more urgent: the bound of 10.1 grows from 23 to 46, past its deadline of 23
-    ∷ (plan base (stream 10 1 2 100 0 5 23 ∷ []) [] then plan base (stream 10 10 1 100 0 5 60 ∷ stream 10 1 2 100 0 5 23 ∷ []) [])
+    ∷ (plan base (stream 10 1 2 100 0 5 23 ∷ []) [] becomes plan base (stream 10 10 1 100 0 5 60 ∷ stream 10 1 2 100 0 5 23 ∷ []) [])
     -- T of 10.1 falls from 100 to 30: 10.10 waits for two of its messages, and the bound of 10.10 grows from 46 to 69, past its deadline
-    ∷ (two 100 0 37 then two 30 0 37)
+    ∷ (two 100 0 37 becomes two 30 0 37)
     -- J of 10.1 grows from 0 to 90: the same
-    ∷ (two 100 0 200 then two 100 90 200)
+    ∷ (two 100 0 200 becomes two 100 90 200)
     -- C of 10.1 grows from 5 to 6: its bound grows from 23 to 24, past its deadline of 23
-    ∷ (alone base then plan base (stream 10 1 1 100 0 6 23 ∷ []) [])
+    ∷ (oneUnder base becomes plan base (stream 10 1 1 100 0 6 23 ∷ []) [])
     -- D of 10.1 falls from 23 to 22: its bound is still 23
-    ∷ (alone base then plan base (stream 10 1 1 100 0 5 22 ∷ []) [])
+    ∷ (oneUnder base becomes plan base (stream 10 1 1 100 0 5 22 ∷ []) [])
     -- 10.1 and 10.10 swap their priorities: the bound of 10.1 grows from 37 to 46, past its deadline of 37
-    ∷ (two 100 0 37 then plan base (stream 10 1 2 100 0 5 37 ∷ stream 10 10 1 100 0 5 46 ∷ []) [])
+    ∷ (two 100 0 37 becomes plan base (stream 10 1 2 100 0 5 37 ∷ stream 10 10 1 100 0 5 46 ∷ []) [])
     -- a second noise source would have to share the partner of the first: the bound of 10.1 grows from 46 to 69, past its deadline of 46
-    ∷ (plan base (stream 10 1 1 100 0 5 46 ∷ []) (1000 ∷ []) then plan base (stream 10 1 1 100 0 5 46 ∷ []) (1000 ∷ 1000 ∷ []))
+    ∷ (plan base (stream 10 1 1 100 0 5 46 ∷ []) (1000 ∷ []) becomes plan base (stream 10 1 1 100 0 5 46 ∷ []) (1000 ∷ 1000 ∷ []))
     ∷ []
 
 abbrev pub pair : ℕ → Pair
-pair i = getD table i (alone base then alone base)
+pair i = getD allPairs i (oneUnder base becomes oneUnder base)
 
 -- ---- the claims
 
 -- the 16 conditions are the rule: all hold exactly if the test of two plans finds no change
 abbrev pub AllHoldExactly : Type 0
-AllHoldExactly = (old new : Plan) → ((j : ℕ) → j < count → getD (conditions old new) j false ≡ true) ↔ (changes old new ≡ Nothing)
+AllHoldExactly = (old new : Plan) → ((j : ℕ) → j < howMany → getD (conditions old new) j false ≡ true) ↔ (changes old new ≡ Nothing)
 
 -- condition i does not hold, and all others do
 pub record Broken (i : ℕ) (old new : Plan) : Type 0 where
   pub fails : getD (conditions old new) i true ≡ false
-  pub others : (j : ℕ) → j < count → (j ≡ i → ⊥) → getD (conditions old new) j false ≡ true
+  pub others : (j : ℕ) → j < howMany → (j ≡ i → ⊥) → getD (conditions old new) j false ≡ true
 
 -- a stream of the second plan does not keep what its namesake in the first had
 pub record Lost (old new : Plan) : Type 0 where
@@ -145,7 +145,7 @@ pub record Lost (old new : Plan) : Type 0 where
 
 abbrev pub EachNeeded : Type 0
 EachNeeded =
-    (i : ℕ) → i < count
+    (i : ℕ) → i < howMany
     → NotRefused (pair i .old) × NotRefused (pair i .new) × Broken i (pair i .old) (pair i .new) × Lost (pair i .old) (pair i .new)
 
 -- And they can all hold with something eased in each: constants smaller, T and D longer, J and C shorter, a stream fewer, rows in
@@ -156,7 +156,7 @@ easier =
     plan (constants 5 2 2 3 2 2 3 2 5)
     (stream 10 1 7 400 5 6 200 ∷ stream 10 10 13 600 10 7 300 ∷ stream 11 2 20 800 5 3 400 ∷ [])
     (500 ∷ 900 ∷ 500 ∷ [])
-    then plan base (stream 11 2 5 900 0 2 450 ∷ stream 10 1 2 500 0 5 250 ∷ []) (950 ∷ 600 ∷ [])
+    becomes plan base (stream 11 2 5 900 0 2 450 ∷ stream 10 1 2 500 0 5 250 ∷ []) (950 ∷ 600 ∷ [])
 
 abbrev pub NotEmpty : Type 0
 NotEmpty = NotRefused (easier .old) × NotRefused (easier .new) × Lighter (easier .old) (easier .new)

@@ -11,7 +11,7 @@ use ghost.Atoms.{Atoms}
 use contract.Monad.{Fun, fact-mono}
 use denote.Triple.Walked.{needs}
 use Rattle.laws.specs.Determined.{OneOutcome}
-use Rattle.screen.specs.Determined.{OneOutcome as OneOutcome·walked}
+use Rattle.screen.specs.Determined.{OneOutcomeByHand as OneOutcome·walked}
 use Rattle.outside.proofs.livnakesh_answers.Kinds as answers-kinds
 use Rattle.outside.proofs.livnakesh_answers.Reads as answers
 use Rattle.outside.proofs.livnakesh_rewrite.Kinds as rewrite-kinds

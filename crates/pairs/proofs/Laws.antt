@@ -9,8 +9,9 @@ use borrow.Author.Tests.{lt-ltb, le-ltb, eq-eqb, ne-eqb}
 use lib.Dec.{eqb}
 use lib.ListN.{length, getD, take, drop, length-drop}
 use lib.Seq.{length-take-le, take-all, take-add, drop-at, drop-cons, drop-drop}
-use Rattle.pairs.specs.declared.Line.the-variants.{Names, Wrong, Over}
-use Rattle.pairs.specs.Pairs.{space, newline, before, free, lineFrom, nextLine, firstName, secondName, lineAs, lineOf}
+use Rattle.pairs.specs.declared.Named.the-variants.{Names, Wrong, Over}
+use Rattle.ascii.specs.Ascii.{space, newline}
+use Rattle.pairs.specs.Pairs.{before, free, lineFrom, nextLine, firstName, secondName, lineAs, lineOf}
 
 pub length-rest : (n : ℕ) (text : List ℕ) → n ≤ length text → n + length (drop n text) ≡ length text
 length-rest n text h = omega (arith, length-drop n text)

@@ -14,8 +14,9 @@ use lib.ListN.{length, take, drop, length-append, length-drop, take-append-drop}
 use lib.Seq.{drop-append-seam, drop-append-add, take-append-seam, take-all, drop-drop}
 use Rattle.laws.proofs.Tests.{both}
 use Rattle.pairs.specs.declared.Part.{Part}
-use Rattle.pairs.specs.declared.Line.the-variants.{Names, Wrong, Over}
-use Rattle.pairs.specs.Pairs.{space, newline, before, free, lineFrom, nextLine, firstName, secondName, twoNames, part, bytesOf, lineAs, lineOf}
+use Rattle.pairs.specs.declared.Named.the-variants.{Names, Wrong, Over}
+use Rattle.ascii.specs.Ascii.{space, newline}
+use Rattle.pairs.specs.Pairs.{before, free, lineFrom, nextLine, firstName, secondName, twoNames, part, nameIn, lineAs, lineOf}
 use Rattle.pairs.specs.Claims.{Name, ReadsItsNames, ReadsItsLast, Two, OnlyTwoNames, Ordered, InOrder, WrongGoesOn, GoesOn, ends, stops, NothingPassedOver, OverAtTheEnd}
 use Rattle.pairs.proofs.Laws.{length-rest, before-short, before-start, two-names, over, inside}
 
@@ -241,20 +242,20 @@ module _ (text : List ℕ) (at : ℕ) (p q : Part) (next : ℕ) (e : lineOf text
       ∙ ap (λ a. a ++ drop (length l) (drop at text)) (before-start newline (drop at text) ∙ whole)
       ∙ append-assoc (firstName l) (space ∷ secondName l) (drop (length l) (drop at text))
 
-  old-bytes : bytesOf text p ≡ firstName l
+  old-bytes : nameIn text p ≡ firstName l
   old-bytes =
       let k = length (firstName l) in
       let n : at + k - at ≡ k = omega arith in
-      ap (bytesOf text) (sym (read .1)) ∙ ap₂ (λ a b. take a b) n rest ∙ take-append-seam (firstName l) _
+      ap (nameIn text) (sym (read .1)) ∙ ap₂ (λ a b. take a b) n rest ∙ take-append-seam (firstName l) _
 
-  new-bytes : bytesOf text q ≡ secondName l
+  new-bytes : nameIn text q ≡ secondName l
   new-bytes =
       let k = length (firstName l) in
       let from : at + k + 1 ≡ at + (k + 1) = omega arith in
       let n : at + k + 1 + length (secondName l) - (at + k + 1) ≡ length (secondName l) = omega arith in
       let left : drop (at + k + 1) text ≡ secondName l ++ drop (length l) (drop at text) =
       ap (λ a. drop a text) from ∙ sym (drop-drop (k + 1) at text) ∙ ap (drop (k + 1)) rest ∙ drop-append-add (firstName l) _ 1 in
-      ap (bytesOf text) (sym (read .2)) ∙ ap₂ (λ a b. take a b) n left ∙ take-append-seam (secondName l) _
+      ap (nameIn text) (sym (read .2)) ∙ ap₂ (λ a b. take a b) n left ∙ take-append-seam (secondName l) _
 
   names-free : (free newline (firstName l) ≡ true) × (free newline (secondName l) ≡ true)
   unfolding free

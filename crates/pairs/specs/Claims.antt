@@ -4,11 +4,12 @@ use mathlib.Core.Path.{_≡_}
 use mathlib.Core.Bool.{true}
 use mathlib.Core.List.{List, _∷_, _++_}
 use mathlib.Core.Logic.{_↔_}
-use Prim.Native.Nat.{ℕ, _+_, _-_, _≤_, _<_}
+use Prim.Native.Nat.{ℕ, _+_, _≤_, _<_}
 use lib.ListN.{length, drop}
 use Rattle.pairs.specs.declared.Part.{Part}
-use Rattle.pairs.specs.declared.Line.the-variants.{Names, Wrong, Over}
-use Rattle.pairs.specs.Pairs.{space, newline, free, lineFrom, nextLine, part, bytesOf, lineOf}
+use Rattle.pairs.specs.declared.Named.the-variants.{Names, Wrong, Over}
+use Rattle.ascii.specs.Ascii.{space, newline}
+use Rattle.pairs.specs.Pairs.{free, lineFrom, nextLine, part, nameIn, lineOf}
 
 -- a name is not empty, and has neither a space nor a newline
 pub record Name (name : List ℕ) : Type 0 where
@@ -34,9 +35,9 @@ ReadsItsLast =
 
 -- what is read as two names is two names with a space between, and they are the whole line
 pub record Two (text : List ℕ) (at : ℕ) (old new : Part) (next : ℕ) : Type 0 where
-  pub old-name : Name (bytesOf text old)
-  pub new-name : Name (bytesOf text new)
-  pub line : lineFrom text at ≡ bytesOf text old ++ space ∷ bytesOf text new
+  pub old-name : Name (nameIn text old)
+  pub new-name : Name (nameIn text new)
+  pub line : lineFrom text at ≡ nameIn text old ++ space ∷ nameIn text new
   pub next-is : next ≡ nextLine text at
 
 abbrev pub OnlyTwoNames : Type 0

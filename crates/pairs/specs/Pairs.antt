@@ -4,15 +4,10 @@ use mathlib.Core.List.{List, [], _∷_}
 use Prim.Native.Nat.{ℕ, _+_, _-_, min}
 use lib.Dec.{ltb, eqb}
 use lib.ListN.{length, take, drop}
+use Rattle.ascii.specs.Ascii.{space, newline}
 use Rattle.pairs.specs.declared.Part.{Part}
-use Rattle.pairs.specs.declared.Line.{Line}
-use Rattle.pairs.specs.declared.Line.the-variants.{Names, Wrong, Over}
-
-abbrev pub space : ℕ
-space = 32
-
-abbrev pub newline : ℕ
-newline = 10
+use Rattle.pairs.specs.declared.Named.{Named}
+use Rattle.pairs.specs.declared.Named.the-variants.{Names, Wrong, Over}
 
 -- a text up to the first such byte, or all of it
 unfoldable pub before : ℕ → List ℕ → List ℕ
@@ -48,16 +43,16 @@ abbrev pub part : ℕ → List ℕ → Part
 part from name = record { from = from; to = from + length name }
 
 -- the bytes of a part of a text
-abbrev pub bytesOf : List ℕ → Part → List ℕ
-bytesOf text p = take (p .to - p .from) (drop (p .from) text)
+abbrev pub nameIn : List ℕ → Part → List ℕ
+nameIn text p = take (p .to - p .from) (drop (p .from) text)
 
 -- what a line is that starts at a place and is followed by the next line
-unfoldable pub lineAs : List ℕ → ℕ → ℕ → Line
+unfoldable pub lineAs : List ℕ → ℕ → ℕ → Named
 lineAs l at next =
     cond (twoNames l)
     (Names (part at (firstName l)) (part (at + length (firstName l) + 1) (secondName l)) next)
     (Wrong next)
 
 -- what the line is that starts at a place of a text
-unfoldable pub lineOf : List ℕ → ℕ → Line
+unfoldable pub lineOf : List ℕ → ℕ → Named
 lineOf text at = cond (ltb at (length text)) (lineAs (lineFrom text at) at (nextLine text at)) Over

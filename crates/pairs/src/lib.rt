@@ -6,7 +6,7 @@
 ghost use mathlib.Core.Path.{_≡_};
 ghost use Prim.Native.Nat.{_+_, _≤_};
 ghost use lib.ListN.{length, drop};
-ghost use Rattle.pairs.specs.Pairs.{before, bytesOf, nextLine, lineAs, lineOf};
+ghost use Rattle.pairs.specs.Pairs.{before, nameIn, nextLine, lineAs, lineOf};
 use laws::smaller;
 
 // The bytes of a text from a place up to another.
@@ -16,7 +16,7 @@ pub struct Part {
 }
 
 // What a line is: two names, or not two names, each with the place where the next line starts; or the text is over.
-pub enum Line {
+pub enum Named {
     Names(Part, Part, usize),
     Wrong(usize),
     Over,
@@ -39,26 +39,26 @@ fn place_of(text: &[u8], from: usize, byte: u8) -> usize
 }
 
 // What the line is that starts at a place of a text and ends where the text does.
-fn names_in(text: &[u8], at: usize, next: usize) -> Line
+fn names_in(text: &[u8], at: usize, next: usize) -> Named
     requires { ⌜ at ≤ length (now text) ⌝ }
     ensures { λ r. ⌜ r ≡ lineAs (drop at (now (text .entry))) at next ⌝ }
 {
     let end = text.len();
     let space = place_of(text, at, b' ');
     if space == at {
-        return Line::Wrong(next);
+        return Named::Wrong(next);
     }
     if space == end {
-        return Line::Wrong(next);
+        return Named::Wrong(next);
     }
     let second = space + 1;
     if second == end {
-        return Line::Wrong(next);
+        return Named::Wrong(next);
     }
     if place_of(text, second, b' ') < end {
-        return Line::Wrong(next);
+        return Named::Wrong(next);
     }
-    Line::Names(
+    Named::Names(
         Part {
             from: at,
             to: space,
@@ -72,11 +72,11 @@ fn names_in(text: &[u8], at: usize, next: usize) -> Line
 }
 
 // The line that starts at a place of a text.
-pub fn line_at(text: &[u8], at: usize) -> Line
+pub fn line_at(text: &[u8], at: usize) -> Named
     ensures { λ r. ⌜ r ≡ lineOf (now (text .entry)) at ⌝ }
 {
     if text.len() <= at {
-        return Line::Over;
+        return Named::Over;
     }
     let end = place_of(text, at, b'\n');
     if end < text.len() {
@@ -87,7 +87,7 @@ pub fn line_at(text: &[u8], at: usize) -> Line
 
 // The bytes of a part of a text, as far as the text goes.
 pub fn name_in(text: &[u8], part: Part) -> &[u8]
-    ensures { λ r. ⌜ now r ≡ bytesOf (now (text .entry)) part ⌝ }
+    ensures { λ r. ⌜ now r ≡ nameIn (now (text .entry)) part ⌝ }
 {
     let to = smaller(part.to, text.len());
     let from = smaller(part.from, to);

@@ -13,13 +13,13 @@ use Rattle.laws.specs.declared.Found.{Found}
 use Rattle.laws.specs.declared.Found.the-variants.{At, Nothing}
 use Rattle.laws.proofs.Lists.{sum-same}
 use Rattle.bound.specs.declared.Verdict.the-variants.{Met, Missed, None}
-use Rattle.bound.specs.Bound.{E, demand, sideL, sideW, busy, w, bound, answerOf, answer, verdictNumber}
+use Rattle.bound.specs.Bound.{E, demand, sideL, sideW, busy, w, bound, answerFor, answer, verdictNumber}
 use Rattle.bound.proofs.Sides.{busy-is-least, none-exactly}
 use Rattle.bound.proofs.Instances.{w-exists}
 use Rattle.plan.specs.declared.Stream.{Stream}
 use Rattle.plan.specs.Plan.{Plan, blank, StreamWithin}
 use Rattle.plan.specs.Rules.{«V», C″, hp, B, share, terms, rowAnswer}
-use Rattle.plan.specs.Claims.{noise, rightL, rightW, RightSides, RowNoneExactly, BusyPeriod, HasW, RowWExists}
+use Rattle.plan.specs.Claims.{noiseCost, rightL, rightW, RightSides, RowNoneExactly, BusyPeriod, HasW, RowWExists}
 use Rattle.plan.proofs.Rules.{terms-sound}
 
 sum-map : {A C : Type 0} (f : C → ℕ) (g : A → C) (xs : List A) → sumOf f (map g xs) ≡ sumOf (λ x. f (g x)) xs
@@ -40,8 +40,8 @@ in-order p js w v =
 pub right-sides : RightSides
 unfolding sideL sideW terms E
 right-sides p i = (
-  λ L. ap (λ z. B p i + z + noise p i L) (asked p (i ∷ hp p i) L),
-  λ q w. ap (λ z. B p i + q * C″ p i + z + noise p i (w + C″ p i)) (asked p (hp p i) (w + «V» (p .timing) + 1) ∙ in-order p (hp p i) w («V» (p .timing))),
+  λ L. ap (λ z. B p i + z + noiseCost p i L) (asked p (i ∷ hp p i) L),
+  λ q w. ap (λ z. B p i + q * C″ p i + z + noiseCost p i (w + C″ p i)) (asked p (hp p i) (w + «V» (p .timing) + 1) ∙ in-order p (hp p i) w («V» (p .timing))),
 )
 
 least-same : (f g : ℕ → ℕ) (s x : ℕ) → ((y : ℕ) → f y ≡ g y) → Least f s x → Least g s x
@@ -57,13 +57,13 @@ module _ (p : Plan) (i : Stream) where
   not-none true e = omega (arith, ap verdictNumber e)
   not-none false e = omega (arith, ap verdictNumber e)
 
-  found-none : (f : Found) → busy (terms p i) ≡ f → answerOf (terms p i) (i .deadline) f .verdict ≡ None → busy (terms p i) ≡ Nothing
+  found-none : (f : Found) → busy (terms p i) ≡ f → answerFor (terms p i) (i .deadline) f .verdict ≡ None → busy (terms p i) ≡ Nothing
   found-none (At L) e d = absurd (not-none (leb (bound (terms p i) L) (i .deadline)) d)
   found-none Nothing e d = e
 
   none : (rowAnswer p i .verdict ≡ None) ↔ (busy (terms p i) ≡ Nothing)
   unfolding answer
-  none = (found-none (busy (terms p i)) refl, λ e. ap (λ f. answerOf (terms p i) (i .deadline) f .verdict) e)
+  none = (found-none (busy (terms p i)) refl, λ e. ap (λ f. answerFor (terms p i) (i .deadline) f .verdict) e)
 
 pub row-none-exactly : RowNoneExactly
 row-none-exactly p i =

@@ -6,7 +6,7 @@ use native.Mathlib.Omega.{arith}
 use Rattle.names.specs.Limits.{ticks}
 use Rattle.laws.specs.declared.Found.{Found}
 use Rattle.laws.specs.declared.Found.the-variants.{At, Nothing}
-use Rattle.bound.specs.Bound.{busy, answerOf, answer}
+use Rattle.bound.specs.Bound.{busy, answerFor, answer}
 use Rattle.bound.proofs.Sides.{busy-is-least}
 use Rattle.bound.proofs.Largest.{bound-within}
 use Rattle.plan.specs.Rules.{terms}
@@ -21,6 +21,6 @@ pub row-within : RowWithin
 unfolding answer terms
 row-within p i s = go (busy (terms p i)) refl
   where
-    go : (f : Found) → busy (terms p i) ≡ f → answerOf (terms p i) (i .deadline) f .bound ≤ ticks + ticks
+    go : (f : Found) → busy (terms p i) ≡ f → answerFor (terms p i) (i .deadline) f .bound ≤ ticks + ticks
     go (At L) e = omega (arith, bound-within (terms p i) (terms-sound p i s) L e, busy-is-least (terms p i) L .0 e .0, s .jitter)
     go Nothing e = omega arith

@@ -3,7 +3,7 @@ use mathlib.Core.Path.{_≡_}
 use mathlib.Core.List.{_∷_}
 use mathlib.Core.Logic.{_↔_}
 use Prim.Native.Nat.{ℕ, _+_, _-_, _*_, _≤_, _<_}
-use lib.ListN.{length, getD}
+use lib.ListN.{length}
 use Rattle.names.specs.Limits.{ticks}
 use Rattle.laws.specs.Lists.{ceil, sumOf}
 use Rattle.laws.specs.Search.{Least}
@@ -11,21 +11,21 @@ use Rattle.bound.specs.declared.Verdict.the-variants.{None}
 use Rattle.bound.specs.Bound.{sideL, sideW, w}
 use Rattle.bound.specs.Claims.{Sound}
 use Rattle.plan.specs.declared.Stream.{Stream}
-use Rattle.plan.specs.Plan.{Plan, blank, StreamWithin, Within}
+use Rattle.plan.specs.Plan.{Plan, at, StreamWithin, Within}
 use Rattle.plan.specs.Rules.{«V», C″, hp, B, hit, terms, rowAnswer}
 
 -- E(t) is the sum over sources of ceil(t / N), times the largest C'' among i and hp(i)
-abbrev pub noise : Plan → Stream → ℕ → ℕ
-noise p i t = sumOf (λ N. ceil t N) (p .gaps) * hit p i
+abbrev pub noiseCost : Plan → Stream → ℕ → ℕ
+noiseCost p i t = sumOf (λ N. ceil t N) (p .gaps) * hit p i
 
 -- B + sum over i and hp(i) of ceil((L + J) / T) × C'' + E(L)
 abbrev pub rightL : Plan → Stream → ℕ → ℕ
-rightL p i L = B p i + sumOf (λ j. ceil (L + j .jitter) (j .period) * C″ p j) (i ∷ hp p i) + noise p i L
+rightL p i L = B p i + sumOf (λ j. ceil (L + j .jitter) (j .period) * C″ p j) (i ∷ hp p i) + noiseCost p i L
 
 -- B + q × C'' + sum over hp(i) of ceil((w + V + J + 1) / T) × C'' + E(w + C'')
 abbrev pub rightW : Plan → Stream → ℕ → ℕ → ℕ
 rightW p i q w =
-    B p i + q * C″ p i + sumOf (λ j. ceil (w + «V» (p .timing) + j .jitter + 1) (j .period) * C″ p j) (hp p i) + noise p i (w + C″ p i)
+    B p i + q * C″ p i + sumOf (λ j. ceil (w + «V» (p .timing) + j .jitter + 1) (j .period) * C″ p j) (hp p i) + noiseCost p i (w + C″ p i)
 
 -- these are the right sides of the terms of i
 abbrev pub RightSides : Type 0
@@ -47,7 +47,7 @@ HasW p i =
 
 -- w(q) always exists: each stream of a plan within the limits has it
 abbrev pub RowWExists : Type 0
-RowWExists = (p : Plan) → Within p → (k : ℕ) → k < length (p .streams) → HasW p (getD (p .streams) k blank)
+RowWExists = (p : Plan) → Within p → (k : ℕ) → k < length (p .streams) → HasW p (at p k)
 
 -- the terms of a stream within the limits are such as the theorems of the bound take
 abbrev pub TermsSound : Type 0

@@ -1,6 +1,6 @@
 -- A plan as document 01 speaks of it: timing, streams and noise gaps, with no unused places.
 use mathlib.Core.List.{List}
-use Prim.Native.Nat.{ℕ, _-_, _^_, _≤_, _<_}
+use Prim.Native.Nat.{ℕ, _^_, _≤_, _<_}
 use lib.ListN.{length, take, getD}
 use Rattle.names.specs.Limits.{streams, sources, constant, payload, bits, ticks}
 use Rattle.plan.specs.declared.Timing.{Timing}
@@ -27,6 +27,10 @@ blank =
       payload = 0;
       deadline = 0;
     }
+
+-- the stream in row k
+abbrev pub at : Plan → ℕ → Stream
+at p k = getD (p .streams) k blank
 
 -- F to LAG are 0 to 65,535, NB is 1 to 32
 pub record TimingWithin (t : Timing) : Type 0 where
@@ -63,5 +67,5 @@ pub record Within (p : Plan) : Type 0 where
   pub count : length (p .streams) ≤ streams
   pub sources : length (p .gaps) ≤ sources
   pub timing : TimingWithin (p .timing)
-  pub stream : (k : ℕ) → k < length (p .streams) → StreamWithin (p .timing .nb) (getD (p .streams) k blank)
+  pub stream : (k : ℕ) → k < length (p .streams) → StreamWithin (p .timing .nb) (at p k)
   pub gap : (k : ℕ) → k < length (p .gaps) → GapWithin (getD (p .gaps) k 0)

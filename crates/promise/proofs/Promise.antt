@@ -12,15 +12,15 @@ use Rattle.laws.specs.declared.Found.the-variants.{At, Nothing}
 use Rattle.laws.specs.Lists.{largestOf, those}
 use Rattle.bound.specs.declared.Verdict.{Verdict}
 use Rattle.bound.specs.declared.Verdict.the-variants.{Met, Missed, None}
-use Rattle.bound.specs.Bound.{busy, bound, verdict, answer, answerOf}
+use Rattle.bound.specs.Bound.{busy, bound, verdict, answer, answerFor}
 use Rattle.cover.specs.Cover.{Partnered, NoHeavier, NoShorter, Covers}
 use Rattle.cover.proofs.Cover.{covered-keeps}
 use Rattle.plan.specs.declared.Timing.{Timing}
 use Rattle.plan.specs.declared.Stream.{Stream}
-use Rattle.plan.specs.Plan.{Plan, blank}
+use Rattle.plan.specs.Plan.{Plan, blank, at}
 use Rattle.plan.specs.Rules as rule
 use Rattle.plan.proofs.Rules.{terms-sound}
-use Rattle.promise.specs.Lighter.{at, NoGreater, Eased, Lighter, NotRefused, LighterKeeps}
+use Rattle.promise.specs.Lighter.{NoGreater, Eased, Lighter, NotRefused, LighterKeeps}
 use Rattle.promise.proofs.Partners.{Split, Apart, all-index, split-index, those-split, all-those, apart-those, apart-index, by-name, map-partners, largest-partners, partners-have}
 
 -- ---- the constants
@@ -46,14 +46,14 @@ met-says p s e = go (busy (rule.terms p s)) refl e
     within L true q d = leb-true _ _ q
     within L false q d = absurd (not-both Missed refl d)
 
-    go : (f : Found) → busy (rule.terms p s) ≡ f → answerOf (rule.terms p s) (s .deadline) f .verdict ≡ Met → (L : ℕ) × (busy (rule.terms p s) ≡ At L) × (bound (rule.terms p s) L ≤ s .deadline)
+    go : (f : Found) → busy (rule.terms p s) ≡ f → answerFor (rule.terms p s) (s .deadline) f .verdict ≡ Met → (L : ℕ) × (busy (rule.terms p s) ≡ At L) × (bound (rule.terms p s) L ≤ s .deadline)
     go (At L) q d = (L, q, within L (leb (bound (rule.terms p s) L) (s .deadline)) refl d)
     go Nothing q d = absurd (never None refl d)
 
 -- and is said where that is so
 says-met : (p : Plan) (s : Stream) (L : ℕ) → busy (rule.terms p s) ≡ At L → bound (rule.terms p s) L ≤ s .deadline → rule.rowAnswer p s .verdict ≡ Met
 unfolding answer
-says-met p s L e g = ap (λ f. answerOf (rule.terms p s) (s .deadline) f .verdict) e ∙ ap (λ t. cond t Met Missed) (le-leb _ _ g)
+says-met p s L e g = ap (λ f. answerFor (rule.terms p s) (s .deadline) f .verdict) e ∙ ap (λ t. cond t Met Missed) (le-leb _ _ g)
 
 -- ---- a stream and its namesake in the first plan
 pub record Partner (new old : Stream) : Type 0 where

@@ -3,20 +3,16 @@
 use mathlib.Core.Path.{_≡_}
 use mathlib.Core.List.{List, _∷_, _++_}
 use Prim.Native.Nat.{ℕ, _≤_, _<_}
-use lib.ListN.{length, getD}
+use lib.ListN.{length}
 use Rattle.laws.specs.declared.Found.the-variants.{At}
 use Rattle.bound.specs.Bound.{busy, bound}
 use Rattle.bound.specs.declared.Verdict.the-variants.{Met}
 use Rattle.cover.specs.Cover.{Partnered}
 use Rattle.plan.specs.declared.Timing.{Timing}
 use Rattle.plan.specs.declared.Stream.{Stream}
-use Rattle.plan.specs.Plan.{Plan, blank}
+use Rattle.plan.specs.Plan.{Plan, at}
 use Rattle.plan.specs.Rules.{terms, rowAnswer}
 use Rattle.checks.specs.Claims.{Right}
-
--- the stream in row k of a plan
-abbrev pub at : Plan → ℕ → Stream
-at p k = getD (p .streams) k blank
 
 -- two streams are under one label
 abbrev pub Namesakes : Stream → Stream → Type 0

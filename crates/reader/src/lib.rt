@@ -41,7 +41,7 @@ fn contents_in(bytes: &[u8], n: usize, m: usize) -> bool
     requires { ⌜ n ≤ limit.streams ⌝ }
     requires { ⌜ m ≤ limit.sources ⌝ }
     requires { ⌜ layout.byteOf 0 ≤ length (now bytes) ⌝ }
-    ensures { λ r. ⌜ r ≡ spec.same (take layout.contents (wordsOf (now (bytes .entry)))) (spec.contents n m) ⌝ }
+    ensures { λ r. ⌜ r ≡ spec.same (take layout.contentsLength (wordsOf (now (bytes .entry)))) (spec.contents n m) ⌝ }
 {
     let right = contents(n as u16, m as u16);
     for k in 0..CONTENTS {

@@ -14,8 +14,8 @@ use lib.ListN.{length, getD}
 use Rattle.names.specs.declared.Row.{Row}
 use Rattle.laws.specs.declared.Found.{Found}
 use Rattle.laws.specs.declared.Found.the-variants.{At as Found·At, Nothing as Found·Nothing}
-use Rattle.repeats.specs.declared.Repeat.the-variants.{At, Nothing}
-use Rattle.repeats.specs.Repeats.{repeatsAt, rowOf, firstRepeat, Repeats, AtTheLowest, NothingIfDistinct}
+use Rattle.names.specs.declared.FoundRow.the-variants.{At, Nothing}
+use Rattle.repeats.specs.Repeats.{repeatsAt, asRow, firstRepeat, Repeats, AtTheLowest, NothingIfDistinct}
 use Rattle.laws.proofs.Rows.{is-false, not-below, some-passes, finds-lowest, finds-nothing}
 
 repeats : (xs : List ℕ) (i : ℕ) → i < length xs → repeatsAt xs i ≡ true → Repeats xs i
@@ -26,12 +26,12 @@ repeats xs i h e =
 repeated : (xs : List ℕ) (i : ℕ) → Repeats xs i → repeatsAt xs i ≡ true
 repeated xs i r = some-passes (λ j. eqb (getD xs j 0) (getD xs i 0)) i .1 (r .j, r .earlier, eq-eqb _ _ (r .same))
 
--- an answer comes from what was found
-at-found : (f : Found) (r : Row) → rowOf f ≡ At r → f ≡ Found·At (r .0)
+-- a row comes from the number that was found
+pub at-found : (f : Found) (r : Row) → asRow f ≡ At r → f ≡ Found·At (r .0)
 at-found (Found·At i) r e = let q : _≡_ {A = Row} (record { 0 = i }) r = cc in ap (λ (x : Row). Found·At (x .0)) q
 at-found Found·Nothing r e = absurd (let z : _≡_ {A = ℕ} 0 1 = cc in omega arith)
 
-nothing-found : (f : Found) → rowOf f ≡ Nothing → f ≡ Found·Nothing
+pub nothing-found : (f : Found) → asRow f ≡ Nothing → f ≡ Found·Nothing
 nothing-found (Found·At i) e = absurd (let z : _≡_ {A = ℕ} 0 1 = cc in omega arith)
 nothing-found Found·Nothing e = refl
 
@@ -46,7 +46,7 @@ at-the-lowest xs r = (to, from)
 
     from : Repeats xs (r .0) × ((i : ℕ) → Repeats xs i → r .0 ≤ i) → firstRepeat xs ≡ At r
     from h =
-        ap rowOf
+        ap asRow
         (finds-lowest (repeatsAt xs) 0 (length xs) (r .0) .1
         (record {
           above = omega arith;
@@ -71,6 +71,6 @@ nothing-if-distinct xs = (to, from)
 
     from : ((i j : ℕ) → i < length xs → j < length xs → getD xs i 0 ≡ getD xs j 0 → i ≡ j) → firstRepeat xs ≡ Nothing
     from h =
-        ap rowOf
+        ap asRow
         (finds-nothing (repeatsAt xs) 0 (length xs) .1
         (λ i a b. is-false (repeatsAt xs i) (λ e. let p = repeats xs i (omega arith) e in omega (arith, p .earlier, h (p .j) i (omega (arith, p .earlier)) (omega arith) (p .same)))))

@@ -10,8 +10,8 @@ use Rattle.names.specs.declared.Row.{Row}
 use Rattle.laws.specs.declared.Found.{Found}
 use Rattle.laws.specs.declared.Found.the-variants.{At as Found·At, Nothing as Found·Nothing}
 use Rattle.laws.specs.Search.{first}
-use Rattle.repeats.specs.declared.Repeat.{Repeat}
-use Rattle.repeats.specs.declared.Repeat.the-variants.{At, Nothing}
+use Rattle.names.specs.declared.FoundRow.{FoundRow}
+use Rattle.names.specs.declared.FoundRow.the-variants.{At, Nothing}
 use Rattle.laws.specs.Rows.{some}
 
 -- row i has the value of an earlier row
@@ -19,13 +19,13 @@ abbrev pub repeatsAt : List ℕ → ℕ → Bool
 repeatsAt xs i = some (λ j. eqb (getD xs j 0) (getD xs i 0)) i
 
 -- a number that was found, as a row
-abbrev pub rowOf : Found → Repeat
-rowOf (Found·At i) = At (record { 0 = i })
-rowOf Found·Nothing = Nothing
+abbrev pub asRow : Found → FoundRow
+asRow (Found·At i) = At (record { 0 = i })
+asRow Found·Nothing = Nothing
 
 -- the lowest row that does
-unfoldable pub firstRepeat : List ℕ → Repeat
-firstRepeat xs = rowOf (first (repeatsAt xs) 0 (length xs))
+unfoldable pub firstRepeat : List ℕ → FoundRow
+firstRepeat xs = asRow (first (repeatsAt xs) 0 (length xs))
 
 -- What it means, proved in proofs/Repeats.antt. Row i repeats an earlier row j:
 pub record Repeats (xs : List ℕ) (i : ℕ) : Type 0 where

@@ -2,17 +2,12 @@
 //
 // `first_repeat` answers for a slice of any length, and its contract determines the answer. Nothing is
 // assumed. This crate must not know what the values stand for: refusals 4, 5 and 9 all ask it.
+use names::FoundRow;
 use names::Row;
 ghost use mathlib.Core.Path.{_≡_};
 ghost use Prim.Native.Nat.{_+_, _<_};
 ghost use lib.ListN.{length};
 ghost use Rattle.repeats.specs.Repeats.{repeatsAt, firstRepeat};
-
-// The lowest row that has the value of an earlier row, or that all rows differ.
-pub enum Repeat {
-    At(Row),
-    Nothing,
-}
 
 // Whether each of two rows has the value of an earlier row.
 struct Pair {
@@ -46,7 +41,8 @@ fn stand_before(values: &[u32], i: usize) -> Pair
     Pair { first, second }
 }
 
-pub fn first_repeat(values: &[u32]) -> Repeat
+// The lowest row that has the value of an earlier row, or that all rows differ.
+pub fn first_repeat(values: &[u32]) -> FoundRow
     ensures { λ r. ⌜ r ≡ firstRepeat (now (values .entry)) ⌝ }
 {
     let n = values.len();
@@ -55,12 +51,12 @@ pub fn first_repeat(values: &[u32]) -> Repeat
     while i < n {
         let found = stand_before(values, i);
         if found.first {
-            return Repeat::At(Row(i));
+            return FoundRow::At(Row(i));
         }
         if found.second {
-            return Repeat::At(Row(i + 1));
+            return FoundRow::At(Row(i + 1));
         }
         i += 2;
     }
-    Repeat::Nothing
+    FoundRow::Nothing
 }

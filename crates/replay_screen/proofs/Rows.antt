@@ -7,7 +7,7 @@ use lib.ListN.{getD}
 use Rattle.laws.specs.Lists.{rows, those}
 use Rattle.laws.proofs.Lists.{rows-more, those-yes, those-no}
 use Rattle.decimal.specs.Decimal.{digits}
-use Rattle.replay_screen.specs.Phrases as word
+use Rattle.ascii.specs.Ascii.{ascii}
 use Rattle.replay_screen.specs.Shown.{spaced, rowsText}
 
 -- the marked rows among the first k places
@@ -15,7 +15,7 @@ abbrev pub markedTo : List Bool → ℕ → List ℕ
 markedTo marks k = those (λ i. getD marks i false) (rows k (λ i. i))
 
 abbrev pub rowText : Bool → ℕ → List ℕ
-rowText mark i = cond mark (word.space ++ digits i) []
+rowText mark i = cond mark (ascii " " ++ digits i) []
 
 -- whether there are some
 unfoldable pub some? : List ℕ → Bool
@@ -25,7 +25,7 @@ some? (r ∷ rs) = true
 spaced-append : (l m : List ℕ) → spaced (l ++ m) ≡ spaced l ++ spaced m
 unfolding spaced
 spaced-append [] m = refl
-spaced-append (r ∷ l) m = ap (λ t. word.space ++ digits r ++ t) (spaced-append l m) ∙ sym (append-assoc (word.space ++ digits r) (spaced l) (spaced m))
+spaced-append (r ∷ l) m = ap (λ t. ascii " " ++ digits r ++ t) (spaced-append l m) ∙ sym (append-assoc (ascii " " ++ digits r) (spaced l) (spaced m))
 
 some-append : (l : List ℕ) (r : ℕ) → some? (l ++ (r ∷ [])) ≡ true
 unfolding some?
@@ -50,7 +50,7 @@ module _ (marks : List Bool) (k : ℕ) where
 
   pub spaced-more : (b : Bool) → getD marks k false ≡ b → spaced (markedTo marks k) ++ rowText b k ≡ spaced (markedTo marks (k + 1))
   unfolding spaced
-  spaced-more true e = sym (ap spaced (to-yes e) ∙ spaced-append (markedTo marks k) (k ∷ []) ∙ ap (λ t. spaced (markedTo marks k) ++ t) (append-nil (word.space ++ digits k)))
+  spaced-more true e = sym (ap spaced (to-yes e) ∙ spaced-append (markedTo marks k) (k ∷ []) ∙ ap (λ t. spaced (markedTo marks k) ++ t) (append-nil (ascii " " ++ digits k)))
   spaced-more false e = append-nil (spaced (markedTo marks k)) ∙ sym (ap spaced (to-no e))
 
   pub some-more : (b : Bool) → getD marks k false ≡ b → some? (markedTo marks k) || b ≡ some? (markedTo marks (k + 1))
@@ -58,7 +58,7 @@ module _ (marks : List Bool) (k : ℕ) where
   some-more false e = sym (or-false (some? (markedTo marks k))) ∙ sym (ap some? (to-no e))
 
 -- all rows, or that there are none
-pub all-rows : (l : List ℕ) → spaced l ++ cond (some? l) [] word.nobody ≡ rowsText l
+pub all-rows : (l : List ℕ) → spaced l ++ cond (some? l) [] (ascii " none") ≡ rowsText l
 unfolding spaced rowsText some?
 all-rows [] = refl
 all-rows (r ∷ l) = append-nil (spaced (r ∷ l))

@@ -3,7 +3,7 @@ use mathlib.Core.Path.{_≡_, refl}
 use mathlib.Core.Bool.{Bool, true, false, cond}
 use native.Mathlib.Decide.{decLe}
 use mathlib.Core.List.{List, [], _∷_, _++_}
-use Prim.Native.Nat.{ℕ, zero, suc, _+_, _*_, _^_, _≤_, _<_}
+use Prim.Native.Nat.{ℕ, zero, suc, _*_, _^_, _≤_, _<_}
 use native.Mathlib.Nat.{lt-of-not-le, suc-mul, mul-le-mul-right}
 use native.Mathlib.Omega.{arith}
 use borrow.Author.Tests.{leb-true}
@@ -21,13 +21,13 @@ use Rattle.tournament_state.specs.declared.Phase.{Phase}
 use Rattle.tournament_state.specs.declared.Phase.the-variants.{AtBit, Finished, NoWinner}
 use Rattle.tournament_state.specs.declared.Tournament.{Tournament}
 use Rattle.tournament_state.specs.Refusals.{number, none, verdictOf}
-use Rattle.tournament_state.specs.Meaning.{at, PhaseWithin}
+use Rattle.tournament_state.specs.Meaning.{numberAt, PhaseWithin}
 use Rattle.tournament_state.proofs.Meaning.{fine-passed}
 use Rattle.tournament_state.proofs.Ranges.{refusal-range}
 use Rattle.tournament.specs.Rule.{begunOf, heardAt, steps}
 use Rattle.tournament.specs.Answers.{outcome, nobody, startOf}
 use Rattle.tournament_laws.proofs.Start.{start-priority, kept, unused-at-start}
-use Rattle.replay_screen.specs.Phrases as word
+use Rattle.ascii.specs.Ascii.{ascii}
 use Rattle.replay_screen.specs.Shown.{marked, gone, spaced, rowsText, carrierText, bitLine, bitLines, winsLine, winnerLine, playedOf, shownBy, shownOf}
 use Rattle.replay_screen.specs.private.Begun.{Begun}
 use Rattle.replay_screen.specs.Claims.{mostRows, mostOfBit, mostOfWinner, mostShown, LargestShown, MostIs}
@@ -39,16 +39,16 @@ unfolding spaced those
 some-of t [] = omega arith
 some-of t (r ∷ l) = by-test (t r) (some-of t l)
   where
-    by-test : (b : Bool) → length (spaced (those t l)) ≤ length (spaced l) → length (spaced (cond b (r ∷ those t l) (those t l))) ≤ length (word.space ++ digits r ++ spaced l)
-    by-test true h = omega (arith, length-append (word.space ++ digits r) (spaced (those t l)), length-append (word.space ++ digits r) (spaced l))
-    by-test false h = omega (arith, length-append (word.space ++ digits r) (spaced l))
+    by-test : (b : Bool) → length (spaced (those t l)) ≤ length (spaced l) → length (spaced (cond b (r ∷ those t l) (those t l))) ≤ length (ascii " " ++ digits r ++ spaced l)
+    by-test true h = omega (arith, length-append (ascii " " ++ digits r) (spaced (those t l)), length-append (ascii " " ++ digits r) (spaced l))
+    by-test false h = omega (arith, length-append (ascii " " ++ digits r) (spaced l))
 
-text-size : (n : ℕ) (l : List ℕ) → length word.nobody ≤ n → length (spaced l) ≤ n → length (rowsText l) ≤ n
+text-size : (n : ℕ) (l : List ℕ) → length (ascii " none") ≤ n → length (spaced l) ≤ n → length (rowsText l) ≤ n
 unfolding rowsText
 text-size n [] h g = h
 text-size n (r ∷ l) h g = g
 
-none-size : length word.nobody ≤ mostRows
+none-size : length (ascii " none") ≤ mostRows
 unfolding spaced rows digits digitsOf
 none-size = leb-true _ _ refl
 
@@ -57,7 +57,7 @@ unfolding marked
 rows-size m = text-size mostRows _ none-size (some-of (λ i. getD m i false) (rows contenders (λ i. i)))
 
 -- ---- the lines
-carrier-size : (h : Bool) → length (carrierText h) ≤ length word.heard
+carrier-size : (h : Bool) → length (carrierText h) ≤ length (ascii "carrier heard")
 carrier-size true = omega arith
 carrier-size false = omega arith
 
@@ -85,7 +85,7 @@ unfolding winsLine
 wins-size row p h g =
     simp length-append (omega (arith, few-digits 3 (row .0) (omega arith) (omega arith), few-digits 10 (number p) (omega arith) (omega arith)))
 
-winner-size : (places : List Priority) (phase : Phase) (NB n : ℕ) → PhaseWithin NB n phase → n ≤ contenders → ((i : ℕ) → at places i ≤ ticks)
+winner-size : (places : List Priority) (phase : Phase) (NB n : ℕ) → PhaseWithin NB n phase → n ≤ contenders → ((i : ℕ) → numberAt places i ≤ ticks)
     → length (winnerLine places phase) ≤ mostOfWinner
 unfolding winnerLine
 winner-size places (AtBit k) NB n w h p = omega arith
@@ -93,7 +93,7 @@ winner-size places (Finished row) NB n w h p = wins-size row (getD places (row .
 winner-size places NoWinner NB n w h p = omega arith
 
 -- ---- a tournament that was begun
-played-size : (t : Tournament) → Begun t → ((i : ℕ) → at (t .priorities) i ≤ ticks) → length (playedOf t) ≤ mostShown
+played-size : (t : Tournament) → Begun t → ((i : ℕ) → numberAt (t .priorities) i ≤ ticks) → length (playedOf t) ≤ mostShown
 unfolding playedOf
 played-size t b p =
     let s = steps (t .bits) t in
@@ -109,7 +109,7 @@ played-size t b p =
     )
 
 -- ---- what is shown
-begun-small : (NB n : ℕ) (places : List Priority) → n ≤ length places → ((i : ℕ) → at places i ≤ ticks) → (i : ℕ) → at (begunOf NB n places .priorities) i ≤ ticks
+begun-small : (NB n : ℕ) (places : List Priority) → n ≤ length places → ((i : ℕ) → numberAt places i ≤ ticks) → (i : ℕ) → numberAt (begunOf NB n places .priorities) i ≤ ticks
 unfolding steps
 begun-small NB n places h p i =
     elim (decLe n i) [

@@ -9,11 +9,11 @@ use Rattle.names.specs.Limits.{contenders, bits, ticks}
 use Rattle.laws.specs.Lists.{rows}
 use Rattle.judge.specs.declared.Checked.the-variants.{Fine}
 use Rattle.tournament_state.specs.Refusals.{none}
-use Rattle.tournament_state.specs.Meaning.{at}
+use Rattle.tournament_state.specs.Meaning.{numberAt}
 use Rattle.tournament.specs.Rule.{begunOf}
 use Rattle.tournament.specs.Answers.{startOf}
 use Rattle.tournament_laws.specs.Facts.{Smallest}
-use Rattle.replay_screen.specs.Phrases as word
+use Rattle.ascii.specs.Ascii.{ascii}
 use Rattle.replay_screen.specs.Shown.{spaced, bitLines, winsLine, shownOf}
 
 -- a start that is not refused: a line for each of the NB bits, and the row and the priority of the smallest
@@ -30,24 +30,24 @@ mostRows = length (spaced (rows contenders (λ i. i)))
 -- the longest line of a bit, whose number has two digits at most, with every row in both places
 abbrev pub mostOfBit : ℕ
 mostOfBit =
-    length word.bit + 2 + length word.colon + length word.heard + length word.goesSilent + mostRows + length word.stillIn + mostRows
-    + length word.newline
+    length (ascii "bit ") + 2 + length (ascii ": ") + length (ascii "carrier heard") + length (ascii "; goes silent:") + mostRows + length (ascii "; still in:") + mostRows
+    + length (ascii "\n")
 
 -- the longest line of a winner, whose row has three digits and whose priority has ten
 abbrev pub mostOfWinner : ℕ
-mostOfWinner = length word.row + 3 + length word.wins + 10 + length word.newline
+mostOfWinner = length (ascii "row ") + 3 + length (ascii " wins with priority ") + 10 + length (ascii "\n")
 
 abbrev pub mostShown : ℕ
 mostShown = bits * mostOfBit + mostOfWinner
 
 -- 128 places with priorities of 32 bits, as a call is lent them
-pub record Lent (places : List Priority) : Type 0 where
+pub record LentPlaces (places : List Priority) : Type 0 where
   pub long : length places ≡ contenders
-  pub small : (i : ℕ) → at places i ≤ ticks
+  pub small : (i : ℕ) → numberAt places i ≤ ticks
 
 -- no replay is longer, ..
 abbrev pub LargestShown : Type 0
-LargestShown = (NB n : ℕ) (places : List Priority) → Lent places → length (shownOf NB n places) ≤ mostShown
+LargestShown = (NB n : ℕ) (places : List Priority) → LentPlaces places → length (shownOf NB n places) ≤ mostShown
 
 -- .. and that is 27,270 bytes
 abbrev pub MostIs : Type 0

@@ -1,4 +1,3 @@
-pub mod Phrases
 pub mod Shown
 pub mod Claims
 pub mod private

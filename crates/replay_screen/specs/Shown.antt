@@ -17,7 +17,7 @@ use Rattle.judge.specs.declared.Checked.the-variants.{Fine, Refused}
 use Rattle.tournament_state.specs.Refusals.{none}
 use Rattle.tournament.specs.Rule.{heardAt, steps}
 use Rattle.tournament.specs.Answers.{startOf}
-use Rattle.replay_screen.specs.Phrases as word
+use Rattle.ascii.specs.Ascii.{ascii}
 
 -- texts, one after the other
 abbrev pub joined : List (List ℕ) → List ℕ
@@ -35,30 +35,30 @@ gone before after = rows contenders (λ i. getD before i false && not (getD afte
 -- each row after a space, ..
 unfoldable pub spaced : List ℕ → List ℕ
 spaced [] = []
-spaced (r ∷ rs) = word.space ++ digits r ++ spaced rs
+spaced (r ∷ rs) = ascii " " ++ digits r ++ spaced rs
 
 -- .. or that there is none
 unfoldable pub rowsText : List ℕ → List ℕ
-rowsText [] = word.nobody
+rowsText [] = ascii " none"
 rowsText (r ∷ rs) = spaced (r ∷ rs)
 
 abbrev pub carrierText : Bool → List ℕ
-carrierText true = word.heard
-carrierText false = word.unheard
+carrierText true = ascii "carrier heard"
+carrierText false = ascii "no carrier"
 
 -- "bit 2: carrier heard; goes silent: 0 2; still in: 1", from the marks before the bit and after it
 unfoldable pub bitLine : ℕ → Bool → List Bool → List Bool → List ℕ
 bitLine k heard before after =
     joined
-    (word.bit
+    (ascii "bit "
     ∷ digits k
-    ∷ word.colon
+    ∷ ascii ": "
     ∷ carrierText heard
-    ∷ word.goesSilent
+    ∷ ascii "; goes silent:"
     ∷ rowsText (marked (gone before after))
-    ∷ word.stillIn
+    ∷ ascii "; still in:"
     ∷ rowsText (marked after)
-    ∷ word.newline
+    ∷ ascii "\n"
     ∷ [])
 
 -- the lines of the first k bits; bit k + 1 is handled by the step from the state after k steps
@@ -68,7 +68,7 @@ bitLines t (suc k) = bitLines t k ++ bitLine (suc k) (heardAt (steps k t) (suc k
 
 -- "row 1 wins with priority 3", ..
 unfoldable pub winsLine : Row → Priority → List ℕ
-winsLine row priority = joined (word.row ∷ digits (row .0) ∷ word.wins ∷ digits (priority .0) ∷ word.newline ∷ [])
+winsLine row priority = joined (ascii "row " ∷ digits (row .0) ∷ ascii " wins with priority " ∷ digits (priority .0) ∷ ascii "\n" ∷ [])
 
 -- .. of the winner; a start always ends with one
 unfoldable pub winnerLine : List Priority → Phase → List ℕ

@@ -10,7 +10,7 @@ ghost use Rattle.text.specs.Put.{Lays};
 ghost use Rattle.decimal.specs.Decimal.{digits};
 ghost use Rattle.tournament_state.specs.Refusals.{none as Refusals·none};
 ghost use Rattle.tournament.specs.Answers.{carrierOf};
-ghost use Rattle.replay_screen.specs.Phrases as word;
+ghost use Rattle.ascii.specs.Ascii.{ascii};
 ghost use Rattle.replay_screen.specs.Shown.{marked, gone as Shown·gone, rowsText, carrierText};
 ghost use Rattle.replay_screen.specs.Shown.{bitLine, winsLine, winnerLine, playedOf, shownOf};
 ghost use Rattle.replay_screen.specs.private.Begun.{Begun, isHeard};
@@ -49,7 +49,7 @@ fn either(a: bool, b: bool) -> bool
 
 // A row after a space, if it is marked.
 fn lay_row(out: &mut [u8], at: usize, row: Row, mark: bool) -> usize
-    ensures { λ r. ⌜ Lays (now (out .entry)) at (cond mark (word.space ++ digits (row .0)) []) r (now (out .exit)) ⌝ }
+    ensures { λ r. ⌜ Lays (now (out .entry)) at (cond mark (ascii " " ++ digits (row .0)) []) r (now (out .exit)) ⌝ }
 {
     if mark {
         let at = lay_text(out, at, b" ");
@@ -60,7 +60,7 @@ fn lay_row(out: &mut [u8], at: usize, row: Row, mark: bool) -> usize
 
 // That there are none, unless there are some.
 fn lay_none(out: &mut [u8], at: usize, some: bool) -> usize
-    ensures { λ r. ⌜ Lays (now (out .entry)) at (cond some [] word.nobody) r (now (out .exit)) ⌝ }
+    ensures { λ r. ⌜ Lays (now (out .entry)) at (cond some [] (ascii " none")) r (now (out .exit)) ⌝ }
 {
     if some {
         return at;

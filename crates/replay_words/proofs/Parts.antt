@@ -13,7 +13,7 @@ use Rattle.laws.specs.declared.Found.{Found}
 use Rattle.laws.specs.declared.Found.the-variants.{At, Nothing}
 use Rattle.laws.specs.Search.{first}
 use Rattle.laws.proofs.Rows.{finds-lowest}
-use Rattle.replay_words.specs.Handwritten.{parts}
+use Rattle.replay_words.specs.Handwritten.{separates}
 use Rattle.replay_words.specs.Parts.{hasWord, endsWith, endsAfter, over, orAll, firstEnd}
 use Rattle.replay_words.specs.Claims.{EndWithin, EndGoesOn}
 
@@ -29,10 +29,10 @@ pub or-true : (a : Bool) → true ≡ a || true
 or-true true = refl
 or-true false = refl
 
-has-snoc : (text : List ℕ) (b : ℕ) → hasWord (text ++ (b ∷ [])) ≡ hasWord text || not (parts b)
+has-snoc : (text : List ℕ) (b : ℕ) → hasWord (text ++ (b ∷ [])) ≡ hasWord text || not (separates b)
 unfolding hasWord
-has-snoc [] b = sym (or-false (not (parts b)))
-has-snoc (c ∷ text) b = ap (λ h. not (parts c) || h) (has-snoc text b) ∙ or-assoc (not (parts c)) (hasWord text) (not (parts b))
+has-snoc [] b = sym (or-false (not (separates b)))
+has-snoc (c ∷ text) b = ap (λ h. not (separates c) || h) (has-snoc text b) ∙ or-assoc (not (separates c)) (hasWord text) (not (separates b))
 
 ends-snoc : (n : ℕ) (text : List ℕ) (b : ℕ) → endsAfter n (text ++ (b ∷ [])) ≡ endsWith (endsAfter n text) b
 unfolding endsAfter
@@ -44,22 +44,22 @@ module _ (text : List ℕ) (i : ℕ) (h : i < length text) where
   taken : take (i + 1) text ≡ take i text ++ (getD text i 0 ∷ [])
   taken = rw (add-one i) (take-suc text i 0 h)
 
-  pub has-more : hasWord (take i text) || not (parts (getD text i 0)) ≡ hasWord (take (i + 1) text)
+  pub has-more : hasWord (take i text) || not (separates (getD text i 0)) ≡ hasWord (take (i + 1) text)
   has-more = sym (ap hasWord taken ∙ has-snoc (take i text) (getD text i 0))
 
   pub ends-more : endsWith (endsAfter 0 (take i text)) (getD text i 0) ≡ endsAfter 0 (take (i + 1) text)
   ends-more = sym (ap (endsAfter 0) taken ∙ ends-snoc 0 (take i text) (getD text i 0))
 
 -- a word that is met
-pub has-at : (text : List ℕ) (i : ℕ) → i < length text → parts (getD text i 0) ≡ false → hasWord text ≡ true
+pub has-at : (text : List ℕ) (i : ℕ) → i < length text → separates (getD text i 0) ≡ false → hasWord text ≡ true
 unfolding hasWord
 has-at [] i h e = absurd (omega arith)
 has-at (b ∷ text) zero h e = rw e refl
-has-at (b ∷ text) (suc i) h e = ap (λ t. not (parts b) || t) (has-at text i (omega arith) e) ∙ sym (or-true (not (parts b)))
+has-at (b ∷ text) (suc i) h e = ap (λ t. not (separates b) || t) (has-at text i (omega arith) e) ∙ sym (or-true (not (separates b)))
 
 -- a byte more adds one line end at most
 pub ends-few : (n b i : ℕ) → n ≤ i → endsWith n b ≤ i + 1
-ends-few n b i h = by-tests (parts b) (eqb b 10)
+ends-few n b i h = by-tests (separates b) (eqb b 10)
   where
     by-tests : (p q : Bool) → cond p (cond q (n + 1) n) 0 ≤ i + 1
     by-tests true true = omega arith

@@ -9,7 +9,7 @@ use lib.ListN.{length, getD}
 use Rattle.names.specs.Limits.{ticks}
 use Rattle.decimal.specs.Decimal.{digit, digits}
 use Rattle.decimal.proofs.Decimal.{value-of-digits, digits-are-numeral}
-use Rattle.replay_words.specs.Handwritten.{parts, ended, wordsAfter, textWords, allDigits, isNumber, numberOf}
+use Rattle.replay_words.specs.Handwritten.{separates, ended, wordsAfter, textWords, allDigits, isNumber, numberOf}
 use Rattle.replay_words.specs.Claims.{NumberRead, WordRead}
 
 all-digits : (bs : List ℕ) → ((i : ℕ) → i < length bs → (digit 0 ≤ getD bs i 0) × (getD bs i 0 ≤ digit 9)) → allDigits bs ≡ true
@@ -28,7 +28,7 @@ unfolding numberOf
 number-read n h = (is-number n h, rw (is-number n h, value-of-digits n) refl)
 
 -- a word that has begun goes on
-goes-on : (front word : List ℕ) (b : ℕ) (text : List ℕ) → ((i : ℕ) → i < length word → parts (getD word i 0) ≡ false) → parts b ≡ true
+goes-on : (front word : List ℕ) (b : ℕ) (text : List ℕ) → ((i : ℕ) → i < length word → separates (getD word i 0) ≡ false) → separates b ≡ true
     → wordsAfter front (word ++ b ∷ text) ≡ ended (front ++ word) ++ textWords text
 unfolding wordsAfter
 goes-on front [] b text h e = ap (λ p. cond p (ended front ++ wordsAfter [] text) (wordsAfter (front ++ (b ∷ [])) text)) e ∙ ap (λ w. ended w ++ wordsAfter [] text) (sym (append-nil front))

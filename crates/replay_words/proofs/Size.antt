@@ -14,12 +14,12 @@ use Rattle.decimal.proofs.Decimal.{few-digits}
 use Rattle.text.specs.Put.{lastPlace}
 use Rattle.text.proofs.Laying.{all-put}
 use Rattle.tournament_state.specs.Refusals.{none}
-use Rattle.tournament_state.specs.Meaning.{at}
-use Rattle.replay_screen.specs.Claims.{mostShown, Lent}
+use Rattle.tournament_state.specs.Meaning.{numberAt}
+use Rattle.replay_screen.specs.Claims.{mostShown, LentPlaces}
 use Rattle.replay_screen.specs.Shown.{shownOf}
 use Rattle.replay_screen.proofs.Size.{largest-shown}
-use Rattle.replay_words.specs.Handwritten.{parts, ended, wordsAfter, textWords, allDigits, isNumber, numberOf, wrongFrom, placesOf, usage, wrongLine, replayOf}
-use Rattle.replay_words.specs.Claims.{NeverFull}
+use Rattle.replay_words.specs.Handwritten.{separates, ended, wordsAfter, textWords, allDigits, isNumber, numberOf, wrongFrom, placesOf, usage, wrongLine, replayOf}
+use Rattle.replay_words.specs.Claims.{ReplayFits}
 use Rattle.replay_words.proofs.Words.{asPriority, few-ended}
 
 -- ---- the priorities fit in 32 bits
@@ -32,18 +32,18 @@ number-small word = by-tests (allDigits word) (leb (valueOf word) ticks) refl
     by-tests true false e = omega arith
     by-tests false small e = omega arith
 
-none-small : (n i : ℕ) → at (replicate n none) i ≤ ticks
+none-small : (n i : ℕ) → numberAt (replicate n none) i ≤ ticks
 none-small zero i = omega arith
 none-small (suc n) zero = omega arith
 none-small (suc n) (suc i) = none-small n i
 
-placed-small : (n m : ℕ) (words : List (List ℕ)) (i : ℕ) → at (take n (map asPriority words) ++ replicate m none) i ≤ ticks
+placed-small : (n m : ℕ) (words : List (List ℕ)) (i : ℕ) → numberAt (take n (map asPriority words) ++ replicate m none) i ≤ ticks
 placed-small zero m words i = none-small m i
 placed-small (suc n) m [] i = none-small m i
 placed-small (suc n) m (w ∷ words) zero = number-small w
 placed-small (suc n) m (w ∷ words) (suc i) = placed-small n m words i
 
-lent : (words : List (List ℕ)) → Lent (placesOf words)
+lent : (words : List (List ℕ)) → LentPlaces (placesOf words)
 unfolding placesOf placed
 lent words =
     let l = map asPriority (drop 1 words) in
@@ -56,7 +56,7 @@ lent words =
 few-words : (word text : List ℕ) → length (wordsAfter word text) ≤ length word + length text
 unfolding wordsAfter
 few-words word [] = omega (arith, few-ended word)
-few-words word (b ∷ text) = by-test (parts b) (few-words [] text) (few-words (word ++ (b ∷ [])) text)
+few-words word (b ∷ text) = by-test (separates b) (few-words [] text) (few-words (word ++ (b ∷ [])) text)
   where
     by-test : (p : Bool) → length (wordsAfter [] text) ≤ 0 + length text → length (wordsAfter (word ++ (b ∷ [])) text) ≤ length (word ++ (b ∷ [])) + length text
         → length (cond p (ended word ++ wordsAfter [] text) (wordsAfter (word ++ (b ∷ [])) text)) ≤ length word + suc (length text)
@@ -87,7 +87,7 @@ replay-size words h = by-tests (eqb (length words) 0) (eqb (wrongFrom 1 words) 0
     by-tests false true = largest-shown (numberOf (getD words 0 [])) (length words - 1) (placesOf words) (lent words)
     by-tests false false = wrong-size (wrongFrom 1 words) (omega (arith, wrong-small 1 words))
 
-pub never-full : NeverFull
+pub never-full : ReplayFits
 never-full text buffer h g =
     let n = replay-size (textWords text) (omega (arith, few-words [] text)) in
     ap (λ x. x .0) (all-put (replayOf (textWords text)) buffer (omega arith))

@@ -20,8 +20,8 @@ use Rattle.decimal.proofs.Decimal.{value-snoc}
 use Rattle.tournament_state.specs.Refusals.{none}
 use Rattle.replay_screen.specs.Shown.{shownOf}
 use Rattle.replay_words.specs.declared.Reader.{Reader}
-use Rattle.replay_words.specs.Handwritten.{parts, ended, wordsAfter, textWords, isDigit, allDigits, isNumber, numberOf, wrongFrom, placesOf, usage, wrongLine, replayOf}
-use Rattle.replay_words.specs.private.Reading.{noNumber, orNone, soFar, withDigit, orZero, bitsWith, placesWith, wrongWith, closed, closedIf, withByte, begun, readerOf}
+use Rattle.replay_words.specs.Handwritten.{separates, ended, wordsAfter, textWords, isDigit, allDigits, isNumber, numberOf, wrongFrom, placesOf, usage, wrongLine, replayOf}
+use Rattle.replay_words.specs.private.Reading.{noNumber, orNone, soFar, withDigit, smallOrZero, bitsWith, placesWith, wrongWith, closed, closedIf, withByte, begun, readerOf}
 
 -- ---- the number that a word is
 digits-snoc : (word : List ℕ) (b : ℕ) → allDigits (word ++ (b ∷ [])) ≡ allDigits word && isDigit b
@@ -62,8 +62,8 @@ so-far-small word = by-tests (allDigits word) (leb (valueOf word) ticks) refl
     by-tests true false e = refl
     by-tests false small e = refl
 
-so-far-number : (word : List ℕ) → orZero (soFar word) ≡ numberOf word
-unfolding orZero numberOf soFar
+so-far-number : (word : List ℕ) → smallOrZero (soFar word) ≡ numberOf word
+unfolding smallOrZero numberOf soFar
 so-far-number word = rw (so-far-small word) (by-test (isNumber word) refl)
   where
     by-test : (b : Bool) → isNumber word ≡ b → cond b (cond (isNumber word) (valueOf word) noNumber) 0 ≡ cond b (valueOf word) 0
@@ -150,11 +150,11 @@ begun-snoc : (word : List ℕ) (b : ℕ) → begun (word ++ (b ∷ [])) ≡ true
 begun-snoc [] b = refl
 begun-snoc (c ∷ word) b = refl
 
-with-letter : (words : List (List ℕ)) (word : List ℕ) (b : ℕ) → parts b ≡ false → withByte (readerOf words word) b ≡ readerOf words (word ++ (b ∷ []))
+with-letter : (words : List (List ℕ)) (word : List ℕ) (b : ℕ) → separates b ≡ false → withByte (readerOf words word) b ≡ readerOf words (word ++ (b ∷ []))
 unfolding withByte readerOf
 with-letter words word b e = rw (e, so-far-more word b, begun-snoc word b) refl
 
-with-parting : (words : List (List ℕ)) (word : List ℕ) (b : ℕ) → parts b ≡ true → withByte (readerOf words word) b ≡ readerOf (words ++ ended word) []
+with-parting : (words : List (List ℕ)) (word : List ℕ) (b : ℕ) → separates b ≡ true → withByte (readerOf words word) b ≡ readerOf (words ++ ended word) []
 unfolding withByte
 with-parting words word b e = rw e (closed-if-is words word)
 
@@ -176,7 +176,7 @@ few-ended (b ∷ word) = omega arith
 
 module _ (text : List ℕ) (i : ℕ) (h : i < length text) {r : Reader} (t : ReadTo text i r) where
   -- the words go on with the byte at i
-  on : (p : Bool) → parts (getD text i 0) ≡ p
+  on : (p : Bool) → separates (getD text i 0) ≡ p
       → textWords text ≡ t .words ++ cond p (ended (t .word) ++ wordsAfter [] (drop (i + 1) text)) (wordsAfter (t .word ++ (getD text i 0 ∷ [])) (drop (i + 1) text))
   unfolding wordsAfter
   on p q =
@@ -186,9 +186,9 @@ module _ (text : List ℕ) (i : ℕ) (h : i < length text) {r : Reader} (t : Rea
       ∙ ap (λ b. t .words ++ cond b (ended (t .word) ++ wordsAfter [] (drop (i + 1) text)) (wordsAfter (t .word ++ (getD text i 0 ∷ [])) (drop (i + 1) text))) q
 
   pub read-more : {s : Reader} → s ≡ withByte r (getD text i 0) → ReadTo text (i + 1) s
-  read-more {s} e = by-test (parts (getD text i 0)) refl
+  read-more {s} e = by-test (separates (getD text i 0)) refl
     where
-      by-test : (p : Bool) → parts (getD text i 0) ≡ p → ReadTo text (i + 1) s
+      by-test : (p : Bool) → separates (getD text i 0) ≡ p → ReadTo text (i + 1) s
       by-test true q =
           record {
             words = t .words ++ ended (t .word);

@@ -9,7 +9,7 @@ use Rattle.decimal.specs.Decimal.{digits}
 use Rattle.text.specs.declared.Put.the-variants.{At}
 use Rattle.text.specs.Put.{lastPlace, put}
 use Rattle.replay_screen.specs.Claims.{mostShown}
-use Rattle.replay_words.specs.Handwritten.{parts, textWords, isNumber, numberOf, replayOf}
+use Rattle.replay_words.specs.Handwritten.{separates, textWords, isNumber, numberOf, replayOf}
 use Rattle.replay_words.specs.Parts.{hasWord, firstEnd}
 
 -- a number's digits are a word that is that number, ..
@@ -19,12 +19,12 @@ NumberRead = (n : ℕ) → n ≤ ticks → (isNumber (digits n) ≡ true) × (nu
 -- .. and bytes that part nothing are a word, where a byte that parts words comes next
 abbrev pub WordRead : Type 0
 WordRead =
-    (word : List ℕ) (b : ℕ) (text : List ℕ) → 1 ≤ length word → ((i : ℕ) → i < length word → parts (getD word i 0) ≡ false) → parts b ≡ true
+    (word : List ℕ) (b : ℕ) (text : List ℕ) → 1 ≤ length word → ((i : ℕ) → i < length word → separates (getD word i 0) ≡ false) → separates b ≡ true
     → textWords (word ++ b ∷ text) ≡ word ∷ textWords text
 
 -- a buffer that holds the longest replay holds what is shown of any text that can be lent
-abbrev pub NeverFull : Type 0
-NeverFull =
+abbrev pub ReplayFits : Type 0
+ReplayFits =
     (text buffer : List ℕ) → length text ≤ lastPlace → mostShown ≤ length buffer
     → put buffer 0 (replayOf (textWords text)) .0 ≡ At (length (replayOf (textWords text)))
 

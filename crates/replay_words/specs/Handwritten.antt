@@ -7,14 +7,14 @@ use lib.ListN.{length, getD, drop}
 use Rattle.names.specs.declared.Priority.{Priority}
 use Rattle.names.specs.Limits.{contenders, ticks}
 use Rattle.laws.specs.Lists.{placed}
-use Rattle.ascii.specs.Ascii.{ascii}
+use Rattle.ascii.specs.Ascii.{ascii, space}
 use Rattle.decimal.specs.Decimal.{digit, digits, valueOf}
 use Rattle.tournament_state.specs.Refusals.{none}
 use Rattle.replay_screen.specs.Shown.{shownOf}
 
 -- words are parted by the space and by the bytes below it
-abbrev pub parts : ℕ → Bool
-parts b = leb b 32
+abbrev pub separates : ℕ → Bool
+separates b = leb b space
 
 -- a word that has come to its end
 abbrev pub ended : List ℕ → List (List ℕ)
@@ -24,7 +24,7 @@ ended (b ∷ bs) = (b ∷ bs) ∷ []
 -- the words of a text that goes on after the first bytes of a word
 unfoldable pub wordsAfter : List ℕ → List ℕ → List (List ℕ)
 wordsAfter word [] = ended word
-wordsAfter word (b ∷ text) = cond (parts b) (ended word ++ wordsAfter [] text) (wordsAfter (word ++ (b ∷ [])) text)
+wordsAfter word (b ∷ text) = cond (separates b) (ended word ++ wordsAfter [] text) (wordsAfter (word ++ (b ∷ [])) text)
 
 -- the words of a text
 abbrev pub textWords : List ℕ → List (List ℕ)

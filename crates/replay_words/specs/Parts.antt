@@ -7,16 +7,17 @@ use lib.ListN.{length, take}
 use Rattle.laws.specs.declared.Found.{Found}
 use Rattle.laws.specs.declared.Found.the-variants.{At, Nothing}
 use Rattle.laws.specs.Search.{first}
-use Rattle.replay_words.specs.Handwritten.{parts}
+use Rattle.ascii.specs.Ascii.{newline}
+use Rattle.replay_words.specs.Handwritten.{separates}
 
 -- some byte is in a word
 unfoldable pub hasWord : List ℕ → Bool
 hasWord [] = false
-hasWord (b ∷ text) = not (parts b) || hasWord text
+hasWord (b ∷ text) = not (separates b) || hasWord text
 
 -- line ends since the last word, after n of them and one byte more, ..
 abbrev pub endsWith : ℕ → ℕ → ℕ
-endsWith n b = cond (parts b) (cond (eqb b 10) (n + 1) n) 0
+endsWith n b = cond (separates b) (cond (eqb b newline) (n + 1) n) 0
 
 -- .. and after all bytes of a text
 unfoldable pub endsAfter : ℕ → List ℕ → ℕ

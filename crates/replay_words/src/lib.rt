@@ -8,9 +8,9 @@ ghost use mathlib.Core.List.{[]};
 ghost use Prim.Native.Nat.{_<_};
 ghost use lib.Dec.{leb};
 ghost use Rattle.text.specs.Put.{lastPlace, Lays, Puts};
-ghost use Rattle.replay_words.specs.Handwritten.{parts, textWords, wrongLine, replayOf};
+ghost use Rattle.replay_words.specs.Handwritten.{separates, textWords, wrongLine, replayOf};
 ghost use Rattle.replay_words.specs.Parts.{hasWord, endsWith, firstEnd};
-ghost use Rattle.replay_words.specs.private.Reading.{withDigit, orZero, bitsWith, placesWith, wrongWith};
+ghost use Rattle.replay_words.specs.private.Reading.{withDigit, smallOrZero, bitsWith, placesWith, wrongWith};
 ghost use Rattle.replay_words.specs.private.Reading.{closed as Reading·closed, closedIf, withByte, readerOf};
 use names::CONTENDERS;
 use names::Priority;
@@ -64,7 +64,7 @@ fn with_digit(value: u64, c: u8) -> u64
 }
 
 fn or_zero(value: u64) -> u32
-    ensures { λ r. ⌜ r ≡ orZero value ⌝ }
+    ensures { λ r. ⌜ r ≡ smallOrZero value ⌝ }
 {
     if TICKS < value {
         return 0;
@@ -232,7 +232,7 @@ fn ends_with(ends: usize, c: u8) -> usize
 }
 
 fn some_with(some: bool, c: u8) -> bool
-    ensures { λ r. ⌜ r ≡ some || not (parts c) ⌝ }
+    ensures { λ r. ⌜ r ≡ some || not (separates c) ⌝ }
 {
     if b' ' < c {
         return true;

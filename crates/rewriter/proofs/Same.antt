@@ -21,8 +21,7 @@ use Rattle.file.proofs.Bodies.{length-words}
 use Rattle.file.proofs.Reading.{planAt, fine-read, checked-sheet}
 use Rattle.file.proofs.Writing.{write-no-room, write-fine}
 use Rattle.file.proofs.RoundTrip.{writes-what-was-read}
-use Rattle.rewriter.specs.Rewriter.{rewriteAs, rewriteOf}
-use Rattle.rewriter.specs.Claims.{RewritesTheSame}
+use Rattle.rewriter.specs.Rewriter.{rewriteAs, rewriteOf, RewritesTheSame}
 
 module _ (bs buf : List ℕ) where
   -- a refused file

@@ -1,2 +1,1 @@
 pub mod Rewriter
-pub mod Claims

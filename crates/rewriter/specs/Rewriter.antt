@@ -1,12 +1,15 @@
 -- The plan in a file, written again.
-use mathlib.Core.List.{List}
-use Prim.Native.Nat.{ℕ}
+use mathlib.Core.List.{List, _++_}
+use Prim.Native.Nat.{ℕ, _≤_}
+use mathlib.Core.Path.{_≡_}
+use lib.ListN.{length, drop}
 use Rattle.plan.specs.declared.Sheet.{Sheet}
 use Rattle.judge.specs.declared.Checked.{Checked}
 use Rattle.judge.specs.declared.Checked.the-variants.{Fine, Refused}
 use Rattle.file.specs.declared.Written.{Written}
-use Rattle.file.specs.declared.Written.the-variants.{Refused as Written·Refused}
+use Rattle.file.specs.declared.Written.the-variants.{Refused as Written·Refused, Bytes}
 use Rattle.file.specs.File.{readOf, writeOf}
+use Rattle.words.specs.Words.{Below}
 
 -- what was read is written, and a refused file is refused, with the lent bytes as they were
 abbrev pub rewriteAs : Checked → Sheet → List ℕ → Written × List ℕ
@@ -16,3 +19,11 @@ rewriteAs (Refused r) s buf = (Written·Refused r, buf)
 -- of a file's bytes and lent ones
 unfoldable pub rewriteOf : List ℕ → List ℕ → Written × List ℕ
 rewriteOf bytes buf = rewriteAs (readOf bytes .answer) (readOf bytes .sheet) buf
+
+-- ---- What is proved of a plan that is written again; the proof is in proofs/Same.antt.
+
+-- a file that is not refused is written again byte for byte, wherever as many bytes are lent
+abbrev pub RewritesTheSame : Type 0
+RewritesTheSame =
+    (bs buf : List ℕ) → Below 256 bs → readOf bs .answer ≡ Fine → length bs ≤ length buf
+    → rewriteOf bs buf ≡ (Bytes (length bs), bs ++ drop (length bs) buf)

@@ -14,8 +14,7 @@ use Rattle.bound.specs.declared.Answer.{Answer}
 use Rattle.bound.specs.declared.Verdict.{Verdict}
 use Rattle.bound.specs.declared.Verdict.the-variants.{Met, Missed, None}
 use Rattle.bound.specs.Bound.{verdictNumber}
-use Rattle.row_words.specs.RowWords.{rowWords, wordsPerRow, withAnswer, verdictAt, boundAt, verdictOfNumber, answerAt}
-use Rattle.row_words.specs.Claims.{ReadBack, RowsReadBack}
+use Rattle.row_words.specs.RowWords.{rowWords, wordsPerRow, withAnswer, verdictAt, boundAt, verdictOfNumber, answerAt, ReadBack, RowsReadBack}
 
 -- the number of words of some rows
 pub length-words : (l : List Answer) → length (flatMap rowWords l) ≡ wordsPerRow * length l

@@ -1,9 +1,10 @@
 -- How a row's answer is laid into words, and how it is read from them.
-use mathlib.Core.Bool.{Bool, cond}
-use mathlib.Core.List.{List, [], _∷_, _++_}
+use mathlib.Core.Bool.{Bool, cond, true}
+use mathlib.Core.List.{List, [], _∷_, _++_, flatMap}
 use Prim.Native.Nat.{ℕ, _+_, _*_, _/_}
 use lib.Dec.{ltb, eqb}
 use lib.ListN.{length, take, drop, getD}
+use mathlib.Core.Path.{_≡_}
 use Rattle.laws.specs.Lists.{rows}
 use Rattle.bound.specs.declared.Verdict.{Verdict}
 use Rattle.bound.specs.declared.Verdict.the-variants.{Met, Missed, None}
@@ -48,3 +49,13 @@ answerAt ws k =
 -- the answers of the first n rows
 abbrev pub answersIn : ℕ → List ℕ → List Answer
 answersIn n ws = rows n (answerAt ws)
+
+-- ---- What is proved of a row's words; the proofs are in proofs/RowWords.antt.
+
+-- an answer that was put is read back, ..
+abbrev pub ReadBack : Type 0
+ReadBack = (ws : List ℕ) (k : ℕ) (a : Answer) → hasRow ws k ≡ true → answerAt (withAnswer ws k a) k ≡ a
+
+-- .. and so are the rows of a plan, one after the other, whatever stands after them
+abbrev pub RowsReadBack : Type 0
+RowsReadBack = (l : List Answer) (after : List ℕ) → answersIn (length l) (flatMap rowWords l ++ after) ≡ l

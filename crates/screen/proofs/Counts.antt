@@ -10,9 +10,9 @@ use Rattle.checks.proofs.Counts.{too-few, too-many, too-noisy, out-of-range}
 use Rattle.answers.specs.Answers.{answerOf}
 use Rattle.answers.proofs.Values.{sheet-refused}
 use Rattle.screen.specs.Screen.{sheetFor}
-use Rattle.screen.specs.Claims.{WrongCounts}
+use Rattle.screen.specs.Claims.{WrongLists}
 
-pub wrong-counts : WrongCounts
+pub wrong-counts : WrongLists
 unfolding sheetFor checkedOf
 wrong-counts xs t gaps out =
     let s = sheetFor xs t gaps in

@@ -1,6 +1,5 @@
 -- The sheet of a lent list has that list's plan, and so the answers of its file. Assumes nothing.
 use mathlib.Core.Path.{refl, sym}
-use Prim.Native.Nat.{_-_}
 use Rattle.answer_files.proofs.Alike.{file-alike}
 use Rattle.carried.proofs.Plans.{one-sheet}
 use Rattle.screen.specs.Screen.{planFor, sheetFor}

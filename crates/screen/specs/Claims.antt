@@ -28,8 +28,8 @@ SameAsFile =
     → (out : List ℕ) → answerOf (sheetFor (p .streams) (p .timing) (p .gaps)) out ≡ answerFileOf (fileOf p) out
 
 -- an empty or over-long list is refused 2 at 0, whatever else is wrong, and the lent words are as they were
-abbrev pub WrongCounts : Type 0
-WrongCounts =
+abbrev pub WrongLists : Type 0
+WrongLists =
     (xs : List Stream) (t : Timing) (gaps out : List ℕ)
     → let refused-2 = answerOf (sheetFor xs t gaps) out ≡ (Refused (record { number = 2; place = 0 }), out) in
     (length xs < 1 → refused-2) × (streams < length xs → refused-2) × (sources < length gaps → refused-2)

@@ -8,8 +8,8 @@ use contract.Monad.{fact}
 use denote.Triple.Entry.{Args, Res}
 use denote.Triple.Clauses.{Clauses, Ended, Lasts, atExit}
 
-abbrev pub OneOutcome : {M : Type 1} (𝓤 : URA M) (T : Ended) → Clauses 𝓤 T → Type 1
-OneOutcome 𝓤 T c =
+abbrev pub OneOutcomeByHand : {M : Type 1} (𝓤 : URA M) (T : Ended) → Clauses 𝓤 T → Type 1
+OneOutcomeByHand 𝓤 T c =
     (κs : Lfts (T .signature .lifetimes)) (a : Args (T .signature) κs) (g : c κs a .ghost) (x y : Res (T .signature) κs)
     (ws us : Lasts T κs a)
     → ent 𝓤 (sep 𝓤 (c κs a .ensures g x (atExit T κs a ws)) (c κs a .ensures g y (atExit T κs a us))) (fact 𝓤 ((x ≡ y) × (ws ≡ us)))

@@ -10,10 +10,7 @@ use Rattle.laws.specs.Lists.{rows, placed}
 use Rattle.tournament_state.specs.declared.Phase.{Phase}
 use Rattle.tournament_state.specs.declared.Phase.the-variants.{AtBit, Finished, NoWinner}
 use Rattle.tournament_state.specs.declared.Tournament.{Tournament}
-use Rattle.tournament_state.specs.Refusals.{none}
-
-abbrev pub priority : ℕ → Priority
-priority p = record { 0 = p }
+use Rattle.tournament_state.specs.Refusals.{priority, none}
 
 -- in 128 places, with 0 in those that are not lent
 abbrev pub prioritiesFrom : List ℕ → List Priority

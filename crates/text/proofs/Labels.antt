@@ -6,13 +6,13 @@ use native.Mathlib.Omega.{arith}
 use lib.ListN.{length, getD, drop}
 use Rattle.decimal.specs.Decimal.{digits, valueOf}
 use Rattle.decimal.proofs.Decimal.{value-of-digits, digits-are-numeral}
-use Rattle.text.specs.Vocabulary as word
+use Rattle.ascii.specs.Ascii.{point}
 use Rattle.text.specs.Listing.{group}
 use Rattle.text.specs.Claims.{LabelsApart}
 
 -- every byte is above the point
 abbrev Above : List ℕ → Type 0
-Above l = (i : ℕ) → i < length l → word.point < getD l i 0
+Above l = (i : ℕ) → i < length l → point < getD l i 0
 
 first-byte : {a b : ℕ} {l m : List ℕ} → _≡_ {A = List ℕ} (a ∷ l) (b ∷ m) → a ≡ b
 first-byte e = ap (λ l. getD l 0 0) e
@@ -21,7 +21,7 @@ rest-of : {a b : ℕ} {l m : List ℕ} → _≡_ {A = List ℕ} (a ∷ l) (b ∷
 rest-of e = ap (drop 1) e
 
 -- the first point parts a text in one way
-parted : (a b c d : List ℕ) → Above a → Above c → a ++ word.point ∷ b ≡ c ++ word.point ∷ d → (a ≡ c) × (b ≡ d)
+parted : (a b c d : List ℕ) → Above a → Above c → a ++ point ∷ b ≡ c ++ point ∷ d → (a ≡ c) × (b ≡ d)
 parted [] b [] d h g e = (refl, rest-of e)
 parted [] b (y ∷ c) d h g e = absurd (omega (arith, g 0 (omega arith), first-byte e))
 parted (x ∷ a) b [] d h g e = absurd (omega (arith, h 0 (omega arith), first-byte e))

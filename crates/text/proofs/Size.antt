@@ -11,7 +11,7 @@ use Rattle.bound.specs.declared.Answer.{Answer}
 use Rattle.plan.specs.declared.Stream.{Stream}
 use Rattle.plan.specs.Plan.{blank}
 use Rattle.decimal.proofs.Decimal.{few-digits}
-use Rattle.text.specs.Listing.{group, boundText, verdictText, header, row, rowLines, listingOf, refusedOf}
+use Rattle.text.specs.Listing.{group, boundText, verdictText, header, row, listedRows, listingOf, refusedOf}
 use Rattle.text.proofs.Laying.{all-put}
 use Rattle.text.specs.Claims.{beside, Printed, LargestListing, NeverFull, LargestRefusal}
 
@@ -43,14 +43,14 @@ row-size w s a h p l =
 
 rows-size : (w : ℕ) (ss : List Stream) (answers : List Answer) → 1 ≤ w
     → ((k : ℕ) → k < length ss → Printed (getD ss k blank)) → ((k : ℕ) → k < length answers → getD (map (λ a. a .bound) answers) k 0 < 10 ^ w)
-    → length (rowLines ss answers) ≤ length ss * (beside + w)
-unfolding rowLines
+    → length (listedRows ss answers) ≤ length ss * (beside + w)
+unfolding listedRows
 rows-size w [] answers h p l = omega arith
 rows-size w (s ∷ ss) [] h p l = omega arith
 rows-size w (s ∷ ss) (a ∷ answers) h p l =
     omega (
       arith,
-      length-append (row s a) (rowLines ss answers),
+      length-append (row s a) (listedRows ss answers),
       suc-mul (length ss) (beside + w),
       row-size w s a h (p 0 (omega arith)) (l 0 (omega arith)),
       rows-size w ss answers h (λ k g. p (suc k) (omega arith)) (λ k g. l (suc k) (omega arith)),
@@ -62,7 +62,7 @@ unfolding listingOf
 largest-listing w p answers h l =
     omega (
       arith,
-      length-append header (rowLines (p .streams) answers),
+      length-append header (listedRows (p .streams) answers),
       rows-size w (p .streams) answers h (l .stream) (l .bound),
       mul-le-mul-right (beside + w) (l .count),
     )

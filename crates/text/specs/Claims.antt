@@ -9,7 +9,7 @@ use Rattle.names.specs.declared.Label.{Label}
 use Rattle.names.specs.declared.Refusal.{Refusal}
 use Rattle.bound.specs.declared.Answer.{Answer}
 use Rattle.plan.specs.declared.Stream.{Stream}
-use Rattle.plan.specs.Plan.{Plan, blank}
+use Rattle.plan.specs.Plan.{Plan, at}
 use Rattle.text.specs.declared.Put.the-variants.{At}
 use Rattle.text.specs.Listing.{labelText, header, listingOf, refusedOf}
 use Rattle.text.specs.Put.{lastPlace, laid, put}
@@ -37,7 +37,7 @@ pub record Printed (s : Stream) : Type 0 where
 -- a plan of at most 64 streams with such words, and answers whose bounds have at most w digits
 pub record Listed (w : ℕ) (p : Plan) (answers : List Answer) : Type 0 where
   pub count : length (p .streams) ≤ streams
-  pub stream : (k : ℕ) → k < length (p .streams) → Printed (getD (p .streams) k blank)
+  pub stream : (k : ℕ) → k < length (p .streams) → Printed (at p k)
   pub bound : (k : ℕ) → k < length answers → getD (map (λ a. a .bound) answers) k 0 < 10 ^ w
 
 -- what a row has at most beside its bound: 11 bytes of its label, 10 of its priority, 10 of its deadline, 6 of its verdict, 4 spaces and

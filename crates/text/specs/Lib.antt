@@ -1,4 +1,3 @@
-pub mod Vocabulary
 pub mod Listing
 pub mod Put
 pub mod Claims

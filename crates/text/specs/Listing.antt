@@ -11,13 +11,13 @@ use Rattle.plan.specs.declared.Stream.{Stream}
 use Rattle.plan.specs.declared.Sheet.{Sheet}
 use Rattle.plan.specs.Plan.{Plan, planOf}
 use Rattle.decimal.specs.Decimal.{digits}
-use Rattle.text.specs.Vocabulary as word
+use Rattle.ascii.specs.Ascii.{ascii, space, newline, point}
 
 -- a line of fields: they are parted by one space, and the line ends in one newline
 abbrev pub line : List (List ℕ) → List ℕ
-line [] = word.newline ∷ []
-line (f ∷ []) = f ++ word.newline ∷ []
-line (f ∷ g ∷ fs) = f ++ word.space ∷ line (g ∷ fs)
+line [] = newline ∷ []
+line (f ∷ []) = f ++ newline ∷ []
+line (f ∷ g ∷ fs) = f ++ space ∷ line (g ∷ fs)
 
 -- a label is group × 65,536 + number
 abbrev pub group : ℕ
@@ -25,23 +25,23 @@ group = 65536
 
 -- .. and is printed as group.number: 10.1 and 10.10 are two labels
 abbrev pub labelText : Label → List ℕ
-labelText l = digits (l .0 / group) ++ word.point ∷ digits (l .0 % group)
+labelText l = digits (l .0 / group) ++ point ∷ digits (l .0 % group)
 
 -- a row that is none prints "-" as its bound ..
 abbrev pub boundText : Verdict → ℕ → List ℕ
 boundText Met b = digits b
 boundText Missed b = digits b
-boundText None b = word.dash
+boundText None b = ascii "-"
 
 -- .. and "none" as its verdict
 abbrev pub verdictText : Verdict → List ℕ
-verdictText Met = word.met
-verdictText Missed = word.missed
-verdictText None = word.none
+verdictText Met = ascii "met"
+verdictText Missed = ascii "missed"
+verdictText None = ascii "none"
 
 -- the first line
 abbrev pub header : List ℕ
-header = line (word.label ∷ word.priority ∷ word.bound ∷ word.deadline ∷ word.verdict ∷ [])
+header = line (ascii "label" ∷ ascii "priority" ∷ ascii "bound" ∷ ascii "deadline" ∷ ascii "verdict" ∷ [])
 
 -- the line of a stream and its answer
 unfoldable pub row : Stream → Answer → List ℕ
@@ -55,14 +55,14 @@ row s a =
     ∷ [])
 
 -- a line for each stream that has an answer, in file order
-unfoldable pub rowLines : List Stream → List Answer → List ℕ
-rowLines [] answers = []
-rowLines (s ∷ ss) [] = []
-rowLines (s ∷ ss) (a ∷ answers) = row s a ++ rowLines ss answers
+unfoldable pub listedRows : List Stream → List Answer → List ℕ
+listedRows [] answers = []
+listedRows (s ∷ ss) [] = []
+listedRows (s ∷ ss) (a ∷ answers) = row s a ++ listedRows ss answers
 
 -- the whole listing of a plan and its rows' answers
 unfoldable pub listingOf : Plan → List Answer → List ℕ
-listingOf p answers = header ++ rowLines (p .streams) answers
+listingOf p answers = header ++ listedRows (p .streams) answers
 
 -- of a sheet's plan, with the answers of its rows from their words
 abbrev pub listingIn : Sheet → List ℕ → List ℕ
@@ -70,4 +70,4 @@ listingIn s words = listingOf (planOf s) (answersIn (s .count) words)
 
 -- a refused plan prints one line, "refused 4 at 1"
 unfoldable pub refusedOf : Refusal → List ℕ
-refusedOf r = line (word.refused ∷ digits (r .number) ∷ word.at ∷ digits (r .place) ∷ [])
+refusedOf r = line (ascii "refused" ∷ digits (r .number) ∷ ascii "at" ∷ digits (r .place) ∷ [])

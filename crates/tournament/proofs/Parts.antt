@@ -10,9 +10,10 @@ use borrow.Author.Tests.{eqb-true, not-false}
 use lib.Dec.{eqb}
 use Rattle.names.specs.declared.Priority.{Priority}
 use Rattle.laws.proofs.Rows.{finds-lowest}
+use Rattle.laws.specs.Search.{orZero}
 use Rattle.tournament_state.specs.Refusals.{number}
 use Rattle.tournament.specs.Rule.{bitAt}
-use Rattle.tournament.specs.Answers.{numberOf, partingBit}
+use Rattle.tournament.specs.Answers.{partingBit}
 use Rattle.tournament.proofs.Bits.{same-number}
 
 -- a and b differ at bit k
@@ -32,7 +33,7 @@ none-before-more NB a b k n d j p q = ⊎-elim (λ (e : j ≡ k). rw e d) (λ l.
 pub parts-at : (NB : ℕ) (a b : Priority) (k : ℕ) → NoneBefore NB a b k → 1 ≤ k → k ≤ NB → differ NB a b k ≡ true → k ≡ partingBit NB a b
 unfolding partingBit
 parts-at NB a b k n p q d =
-    sym (ap numberOf (finds-lowest (differ NB a b) 1 NB k .1 (record { above = p; below = omega arith; passes = d; lowest = n })))
+    sym (ap orZero (finds-lowest (differ NB a b) 1 NB k .1 (record { above = p; below = omega arith; passes = d; lowest = n })))
 
 -- where no bit before the last differs, the last does
 pub parts-last : (NB : ℕ) (a b : Priority) → NoneBefore NB a b NB → number a < 2 ^ NB → number b < 2 ^ NB → (number a ≡ number b → ⊥) → 1 ≤ NB → NB ≡ partingBit NB a b

@@ -6,9 +6,7 @@ use lib.Dec.{eqb}
 use lib.ListN.{replicate}
 use Rattle.names.specs.declared.Priority.{Priority}
 use Rattle.names.specs.Limits.{contenders}
-use Rattle.laws.specs.declared.Found.{Found}
-use Rattle.laws.specs.declared.Found.the-variants.{At as Found·At, Nothing as Found·Nothing}
-use Rattle.laws.specs.Search.{first}
+use Rattle.laws.specs.Search.{first, orZero}
 use Rattle.judge.specs.declared.Checked.{Checked}
 use Rattle.judge.specs.declared.Checked.the-variants.{Fine, Refused}
 use Rattle.tournament_state.specs.declared.Phase.{Phase}
@@ -60,12 +58,8 @@ unfoldable pub carrierOf : Tournament → Carrier
 carrierOf t = heardUnless (judgedOf t) (heardNow t (t .phase))
 
 -- At which bit two priorities part: the first bit from the top, counted from 1, at which they differ (0, no bit's number, if there is none)
-abbrev pub numberOf : Found → ℕ
-numberOf (Found·At k) = k
-numberOf Found·Nothing = 0
-
 unfoldable pub partingBit : ℕ → Priority → Priority → ℕ
-partingBit NB a b = numberOf (first (λ k. not (eqb (bitAt NB k a) (bitAt NB k b))) 1 NB)
+partingBit NB a b = orZero (first (λ k. not (eqb (bitAt NB k a) (bitAt NB k b))) 1 NB)
 
 -- here 8 and 9 apply, with rows 0 and 1
 abbrev pub partUnless : Checked → ℕ → Parting

@@ -17,7 +17,7 @@ use Rattle.tournament_state.specs.declared.Phase.{Phase}
 use Rattle.tournament_state.specs.declared.Phase.the-variants.{AtBit, Finished, NoWinner}
 use Rattle.tournament_state.specs.declared.Tournament.{Tournament}
 use Rattle.tournament_state.specs.Refusals.{verdictOf}
-use Rattle.tournament_state.specs.Meaning.{at, PhaseWithin}
+use Rattle.tournament_state.specs.Meaning.{numberAt, PhaseWithin}
 use Rattle.tournament_state.proofs.Meaning.{fine-passed, fine-if-playable}
 use Rattle.tournament.specs.Rule.{begunOf, marksAfter, lowestMarked, finishedBy, winnerOf, nextAt, next, steps}
 use Rattle.tournament.specs.Answers.{judgedOf, outcome, nobody, startOf, stepOf, runOf}
@@ -131,7 +131,7 @@ module _ (NB n : ℕ) (places : List Priority) where
   start-judged long e =
       let s = fine-if-playable NB n places (AtBit 1) long .0 e in
       let f = s .fair in
-      let here : (i : ℕ) → i < n → at (begunOf NB n places .priorities) i ≡ at places i = λ i h. ap (λ (p : Priority). p .0) (start-priority NB n places i (omega (arith, f .few)) h) in
+      let here : (i : ℕ) → i < n → numberAt (begunOf NB n places .priorities) i ≡ numberAt places i = λ i h. ap (λ (p : Priority). p .0) (start-priority NB n places i (omega (arith, f .few)) h) in
       same-verdict (start-bits NB n places) (start-count NB n places) refl (start-phase NB n places)
       ∙ fine-if-playable NB n (begunOf NB n places .priorities) (AtBit 1) (start-long NB n places (f .few) (omega (arith, f .few))) .1
       (record {

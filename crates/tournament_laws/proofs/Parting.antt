@@ -9,7 +9,7 @@ use lib.Dec.{eqb}
 use Rattle.names.specs.declared.Priority.{Priority}
 use Rattle.laws.specs.declared.Found.{Found}
 use Rattle.laws.specs.declared.Found.the-variants.{At, Nothing}
-use Rattle.laws.specs.Search.{first}
+use Rattle.laws.specs.Search.{first, orZero}
 use Rattle.laws.proofs.Rows.{finds-lowest, finds-nothing}
 use Rattle.judge.specs.declared.Checked.{Checked}
 use Rattle.judge.specs.declared.Checked.the-variants.{Fine, Refused}
@@ -18,7 +18,7 @@ use Rattle.tournament_state.specs.Meaning.{PlayablePair}
 use Rattle.tournament_state.proofs.Meaning.{fine-if-playable-pair}
 use Rattle.tournament.specs.declared.Parting.the-variants.{At as Parting·At}
 use Rattle.tournament.specs.Rule.{bitAt}
-use Rattle.tournament.specs.Answers.{numberOf, partingBit, partUnless, partingOf}
+use Rattle.tournament.specs.Answers.{partingBit, partUnless, partingOf}
 use Rattle.tournament.proofs.Bits.{same-number}
 use Rattle.tournament.proofs.Parts.{differ, agree, parts-at}
 use Rattle.tournament_laws.specs.Facts.{FirstDifference, PartingIsFirst, PartingAnswer}
@@ -27,7 +27,7 @@ pub first-difference : (NB : ℕ) (a b : Priority) → number a < 2 ^ NB → num
 unfolding partingBit
 first-difference NB a b fa fb d = by-found (first (differ NB a b) 1 NB) refl
   where
-    by-found : (f : Found) → first (differ NB a b) 1 NB ≡ f → FirstDifference NB a b (numberOf f)
+    by-found : (f : Found) → first (differ NB a b) 1 NB ≡ f → FirstDifference NB a b (orZero f)
     by-found (At k) e =
         let l = finds-lowest (differ NB a b) 1 NB k .0 e in
         record {

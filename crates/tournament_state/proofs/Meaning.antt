@@ -12,18 +12,18 @@ use lib.ListN.{length, getD, take, replicate, length-take, length-map, List·get
 use lib.Seq.{getD-take}
 use Rattle.names.specs.declared.Priority.{Priority}
 use Rattle.names.specs.Limits.{contenders, bits}
-use Rattle.laws.specs.declared.Found.the-variants.{Nothing}
 use Rattle.laws.proofs.Rows.{finds-lowest, finds-nothing}
 use Rattle.laws.proofs.Tests.{both}
-use Rattle.repeats.specs.declared.Repeat.the-variants.{Nothing as Repeat·Nothing}
-use Rattle.repeats.proofs.Repeats.{at-the-lowest, nothing-if-distinct}
+use Rattle.names.specs.declared.FoundRow.the-variants.{Nothing as FoundRow·Nothing}
+use Rattle.repeats.specs.Repeats.{asRow}
+use Rattle.repeats.proofs.Repeats.{at-found, nothing-found, at-the-lowest, nothing-if-distinct}
 use Rattle.judge.specs.declared.Checked.the-variants.{Fine}
 use Rattle.judge.specs.Table.{judge, unless, rowIn}
 use Rattle.judge.proofs.Table.{passed, not-given, unless-not, row-not, nothing-given, refused-by-the-first}
 use Rattle.tournament_state.specs.declared.Phase.{Phase}
 use Rattle.tournament_state.specs.declared.Phase.the-variants.{AtBit, Finished, NoWinner}
 use Rattle.tournament_state.specs.Refusals.{number, none, oneTo, fitsIn, lowestUnfit, phaseInside, lowestRepeat, verdictOf, pairVerdictOf}
-use Rattle.tournament_state.specs.Meaning.{at, StateRefused, PairRefused, PlaceOfEight, PlaceOfNine, PhaseWithin, Playable, FineIfPlayable, PlayablePair, FineIfPlayablePair}
+use Rattle.tournament_state.specs.Meaning.{numberAt, StateRefused, PairRefused, PlaceOfEight, PlaceOfNine, PhaseWithin, Playable, FineIfPlayable, PlayablePair, FineIfPlayablePair}
 
 pub state-refused : StateRefused
 unfolding verdictOf
@@ -50,40 +50,41 @@ module _ (NB : ℕ) (ps : List Priority) where
   abbrev unfit : ℕ → Bool
   unfit i = not (fitsIn NB (getD ps i none))
 
-  fits : (i : ℕ) → unfit i ≡ false → at ps i < 2 ^ NB
+  fits : (i : ℕ) → unfit i ≡ false → numberAt ps i < 2 ^ NB
   fits i e = ltb-true _ _ (not-false (fitsIn NB (getD ps i none)) e)
 
-  fitting : (i : ℕ) → at ps i < 2 ^ NB → unfit i ≡ false
-  fitting i h = ap not (lt-ltb (at ps i) (2 ^ NB) h)
+  fitting : (i : ℕ) → numberAt ps i < 2 ^ NB → unfit i ≡ false
+  fitting i h = ap not (lt-ltb (numberAt ps i) (2 ^ NB) h)
 
-  all-fit : (lowestUnfit NB ps ≡ Nothing) ↔ ((i : ℕ) → i < length ps → at ps i < 2 ^ NB)
+  all-fit : (lowestUnfit NB ps ≡ FoundRow·Nothing) ↔ ((i : ℕ) → i < length ps → numberAt ps i < 2 ^ NB)
   unfolding lowestUnfit
   all-fit = (
-    λ e i h. fits i (finds-nothing unfit 0 (length ps) .0 e i (omega arith) (omega arith)),
-    λ h. finds-nothing unfit 0 (length ps) .1 (λ i a b. fitting i (h i (omega arith))),
+    λ e i h. fits i (finds-nothing unfit 0 (length ps) .0 (nothing-found _ e) i (omega arith) (omega arith)),
+    λ h. ap asRow (finds-nothing unfit 0 (length ps) .1 (λ i a b. fitting i (h i (omega arith)))),
   )
 
 pub place-of-eight : PlaceOfEight
 unfolding lowestUnfit
-place-of-eight NB ps i = (
+place-of-eight NB ps row = (
   λ e.
-      let l = finds-lowest (unfit NB ps) 0 (length ps) i .0 e in
-      (omega (arith, l .below), ltb-false _ _ (not-true (fitsIn NB (getD ps i none)) (l .passes)), λ j h. fits NB ps j (l .lowest j (omega arith) h)),
+      let l = finds-lowest (unfit NB ps) 0 (length ps) (row .0) .0 (at-found _ row e) in
+      (omega (arith, l .below), ltb-false _ _ (not-true (fitsIn NB (getD ps (row .0) none)) (l .passes)), λ j h. fits NB ps j (l .lowest j (omega arith) h)),
   λ h.
-      finds-lowest (unfit NB ps) 0 (length ps) i .1
+      ap asRow
+      (finds-lowest (unfit NB ps) 0 (length ps) (row .0) .1
       (record {
         above = omega arith;
         below = omega (arith, h .0);
-        passes = ap not (le-ltb (at ps i) (2 ^ NB) (h .1));
+        passes = ap not (le-ltb (numberAt ps (row .0)) (2 ^ NB) (h .1));
         lowest = λ j a b. fitting NB ps j (h .2 j b);
-      }),
+      })),
 )
 
 -- ---- the rows that repeat an earlier row
 pub place-of-nine : PlaceOfNine
 place-of-nine ps = at-the-lowest (map number ps)
 
-all-differ : (ps : List Priority) → (lowestRepeat ps ≡ Repeat·Nothing) ↔ ((i j : ℕ) → i < length ps → j < length ps → at ps i ≡ at ps j → i ≡ j)
+all-differ : (ps : List Priority) → (lowestRepeat ps ≡ FoundRow·Nothing) ↔ ((i j : ℕ) → i < length ps → j < length ps → numberAt ps i ≡ numberAt ps j → i ≡ j)
 all-differ ps = (
   λ e i j a b s. nothing-if-distinct (map number ps) .0 e i j (rw long a) (rw long b) (rw (value i, value j) s),
   λ h. nothing-if-distinct (map number ps) .1 (λ i j a b s. h i j (rw long at a) (rw long at b) (rw (value i, value j) at s)),
@@ -92,7 +93,7 @@ all-differ ps = (
     long : length (map number ps) ≡ length ps
     long = length-map ps number
 
-    value : (i : ℕ) → getD (map number ps) i 0 ≡ at ps i
+    value : (i : ℕ) → getD (map number ps) i 0 ≡ numberAt ps i
     value i = List·getD-map number ps i none
 
 -- ---- a state that is fine, line by line
@@ -101,9 +102,9 @@ pub record Passed (NB n : ℕ) (places : List Priority) (phase : Phase) : Type 0
   pub few : n ≤ contenders
   pub from : 1 ≤ NB
   pub to : NB ≤ bits
-  pub fit : lowestUnfit NB (take n places) ≡ Nothing
+  pub fit : lowestUnfit NB (take n places) ≡ FoundRow·Nothing
   pub within : PhaseWithin NB n phase
-  pub distinct : lowestRepeat (take n places) ≡ Repeat·Nothing
+  pub distinct : lowestRepeat (take n places) ≡ FoundRow·Nothing
 
 module _ (NB n : ℕ) (places : List Priority) (phase : Phase) where
   pub fine-passed : verdictOf NB n places phase ≡ Fine → Passed NB n places phase
@@ -120,7 +121,7 @@ module _ (NB n : ℕ) (places : List Priority) (phase : Phase) where
         few = a .1;
         from = b .0;
         to = b .1;
-        fit = fit;
+        fit = row-not _ fit;
         within = phase-within NB n phase .0 (unless-not _ inside);
         distinct = row-not _ (not-given _ _ e₄ .0);
       }
@@ -130,7 +131,7 @@ module _ (NB n : ℕ) (places : List Priority) (phase : Phase) where
   passed-fine p =
       passed _ _ (ap unless (one-to contenders n .1 (p .some, p .few)))
       ∙ passed _ _ (ap unless (one-to bits NB .1 (p .from, p .to)))
-      ∙ passed _ _ (p .fit)
+      ∙ passed _ _ (ap rowIn (p .fit))
       ∙ passed _ _ (ap unless (phase-within NB n phase .1 (p .within)))
       ∙ passed _ _ (ap rowIn (p .distinct))
       ∙ nothing-given
@@ -142,7 +143,7 @@ fine-if-playable NB n places phase long = (to, from)
     count : n ≤ contenders → length (take n places) ≡ n
     count h = omega (arith, length-take n places)
 
-    here : (i : ℕ) → i < n → at (take n places) i ≡ at places i
+    here : (i : ℕ) → i < n → numberAt (take n places) i ≡ numberAt places i
     here i h = rw (getD-take n places i none h) refl
 
     to : verdictOf NB n places phase ≡ Fine → Playable NB n places phase
@@ -200,12 +201,12 @@ fine-if-playable-pair NB a b = (to, from)
           differ = λ q. omega (arith, s .fair .distinct 0 1 (omega arith) (omega arith) q);
         }
 
-    fit : PlayablePair NB a b → (i : ℕ) → i < 2 → at (pair a b) i < 2 ^ NB
+    fit : PlayablePair NB a b → (i : ℕ) → i < 2 → numberAt (pair a b) i < 2 ^ NB
     fit s zero h = s .first-fits
     fit s (suc zero) h = s .second-fits
     fit s (suc (suc i)) h = absurd (omega arith)
 
-    distinct : PlayablePair NB a b → (i j : ℕ) → i < 2 → j < 2 → at (pair a b) i ≡ at (pair a b) j → i ≡ j
+    distinct : PlayablePair NB a b → (i j : ℕ) → i < 2 → j < 2 → numberAt (pair a b) i ≡ numberAt (pair a b) j → i ≡ j
     distinct s zero zero h k e = refl
     distinct s zero (suc zero) h k e = absurd (s .differ e)
     distinct s zero (suc (suc j)) h k e = absurd (omega arith)

@@ -10,11 +10,11 @@ use Rattle.names.specs.declared.Refusal.{Refusal}
 use Rattle.names.specs.Limits.{contenders, bits}
 use Rattle.laws.specs.declared.Found.the-variants.{At}
 use Rattle.laws.proofs.Tests.{apart}
-use Rattle.repeats.specs.declared.Repeat.{Repeat}
-use Rattle.repeats.specs.declared.Repeat.the-variants.{At as Repeat·At, Nothing as Repeat·Nothing}
+use Rattle.names.specs.declared.Row.{Row}
+use Rattle.names.specs.declared.FoundRow.{FoundRow}
+use Rattle.names.specs.declared.FoundRow.the-variants.{At as FoundRow·At, Nothing as FoundRow·Nothing}
 use Rattle.judge.specs.declared.Checked.the-variants.{Refused}
-use Rattle.judge.specs.Table.{Line, unless, rowIn}
-use Rattle.judge.specs.Claims.{lineAt}
+use Rattle.judge.specs.Table.{Line, unless, rowIn, lineAt}
 use Rattle.tournament_state.specs.declared.Phase.{Phase}
 use Rattle.tournament_state.specs.Refusals.{number, oneTo, phaseInside, lowestRepeat, stateLines, verdictOf}
 use Rattle.tournament_state.proofs.Meaning.{state-refused, place-of-eight, place-of-nine}
@@ -33,9 +33,10 @@ at-zero : (most : ℕ) (t : Bool) (p : ℕ) → unless t ≡ At p → p ≤ most
 at-zero most true p e = absurd (apart (sym e))
 at-zero most false p e = let z : 0 ≡ p = cc in omega arith
 
-at-row : (ps : List Priority) (r : Repeat) → lowestRepeat ps ≡ r → (p : ℕ) → rowIn r ≡ At p → p ≤ length ps
-at-row ps (Repeat·At row) q p e = let z : row .0 ≡ p = cc in omega (arith, place-of-nine ps row .0 q .0 .among, length-map ps number)
-at-row ps Repeat·Nothing q p e = absurd (apart (sym e))
+-- a place that is a row is one of the rows
+at-row : (n : ℕ) (f : FoundRow) → ((row : Row) → f ≡ FoundRow·At row → row .0 < n) → (p : ℕ) → rowIn f ≡ At p → p ≤ n
+at-row n (FoundRow·At row) among p e = let z : row .0 ≡ p = cc in omega (arith, among row refl)
+at-row n FoundRow·Nothing among p e = absurd (apart (sym e))
 
 module _ (NB n : ℕ) (places : List Priority) (phase : Phase) (r : Refusal) where
   pub refusal-range : verdictOf NB n places phase ≡ Refused r → (7 ≤ r .number) × (r .number ≤ 9) × (r .place ≤ length places)
@@ -47,16 +48,19 @@ module _ (NB n : ℕ) (places : List Priority) (phase : Phase) (r : Refusal) whe
       small : Line → Type 0
       small l = (7 ≤ l .number) × (l .number ≤ 9) × ((p : ℕ) → l .place ≡ At p → p ≤ length places)
 
+      repeat : (row : Row) → lowestRepeat (take n places) ≡ FoundRow·At row → row .0 < length (take n places)
+      repeat row q = omega (arith, place-of-nine (take n places) row .0 q .0 .among, length-map (take n places) number)
+
       each : Each small (stateLines NB n places phase)
       each = (
         (omega arith, omega arith, at-zero (length places) (oneTo contenders n)),
         (
           (omega arith, omega arith, at-zero (length places) (oneTo bits NB)),
           (
-            (omega arith, omega arith, λ p e. omega (arith, place-of-eight NB (take n places) p .0 e .0, length-take n places)),
+            (omega arith, omega arith, λ p e. omega (arith, at-row (length (take n places)) _ (λ row q. place-of-eight NB (take n places) row .0 q .0) p e, length-take n places)),
             (
               (omega arith, omega arith, at-zero (length places) (phaseInside NB n phase)),
-              ((omega arith, omega arith, λ p e. omega (arith, at-row (take n places) _ refl p e, length-take n places)), tt),
+              ((omega arith, omega arith, λ p e. omega (arith, at-row (length (take n places)) _ repeat p e, length-take n places)), tt),
             ),
           ),
         ),

@@ -8,18 +8,17 @@ use Rattle.names.specs.declared.Priority.{Priority}
 use Rattle.names.specs.declared.Refusal.{Refusal}
 use Rattle.names.specs.declared.Row.{Row}
 use Rattle.names.specs.Limits.{contenders, bits}
-use Rattle.laws.specs.declared.Found.the-variants.{At}
-use Rattle.repeats.specs.declared.Repeat.the-variants.{At as Repeat·At}
+use Rattle.names.specs.declared.FoundRow.the-variants.{At as FoundRow·At}
 use Rattle.repeats.specs.Repeats.{Repeats}
 use Rattle.judge.specs.declared.Checked.the-variants.{Fine, Refused}
-use Rattle.judge.specs.Claims.{FirstGiven}
+use Rattle.judge.specs.Table.{FirstGiven}
 use Rattle.tournament_state.specs.declared.Phase.{Phase}
 use Rattle.tournament_state.specs.declared.Phase.the-variants.{AtBit, Finished, NoWinner}
 use Rattle.tournament_state.specs.Refusals.{number, none, lowestUnfit, lowestRepeat, stateLines, verdictOf, pairLines, pairVerdictOf}
 
 -- the number in row i
-abbrev pub at : List Priority → ℕ → ℕ
-at ps i = number (getD ps i none)
+abbrev pub numberAt : List Priority → ℕ → ℕ
+numberAt ps i = number (getD ps i none)
 
 -- a state is refused r exactly if r is the first of its lines that is given, ..
 abbrev pub StateRefused : Type 0
@@ -31,24 +30,25 @@ StateRefused =
 abbrev pub PairRefused : Type 0
 PairRefused = (NB : ℕ) (a b : Priority) (r : Refusal) → (pairVerdictOf NB a b ≡ Refused r) ↔ FirstGiven (pairLines NB a b) r
 
--- the place of 8 for a priority is i exactly if i is the lowest row whose priority does not fit
+-- the place of 8 for a priority is a row exactly if it is the lowest whose priority does not fit
 abbrev pub PlaceOfEight : Type 0
 PlaceOfEight =
-    (NB : ℕ) (ps : List Priority) (i : ℕ)
-    → (lowestUnfit NB ps ≡ At i) ↔ ((i < length ps) × (2 ^ NB ≤ at ps i) × ((j : ℕ) → j < i → at ps j < 2 ^ NB))
+    (NB : ℕ) (ps : List Priority) (row : Row)
+    → (lowestUnfit NB ps ≡ FoundRow·At row)
+    ↔ ((row .0 < length ps) × (2 ^ NB ≤ numberAt ps (row .0)) × ((j : ℕ) → j < row .0 → numberAt ps j < 2 ^ NB))
 
 -- the place of 9 is a row exactly if it is the lowest that repeats an earlier row
 abbrev pub PlaceOfNine : Type 0
 PlaceOfNine =
     (ps : List Priority) (row : Row)
-    → (lowestRepeat ps ≡ Repeat·At row) ↔ (Repeats (map number ps) (row .0) × ((j : ℕ) → Repeats (map number ps) j → row .0 ≤ j))
+    → (lowestRepeat ps ≡ FoundRow·At row) ↔ (Repeats (map number ps) (row .0) × ((j : ℕ) → Repeats (map number ps) j → row .0 ≤ j))
 
 -- 1 to 128 contenders with distinct priorities that fit in NB bits
 pub record Fair (NB n : ℕ) (places : List Priority) : Type 0 where
   pub some : 1 ≤ n
   pub few : n ≤ contenders
-  pub fit : (i : ℕ) → i < n → at places i < 2 ^ NB
-  pub distinct : (i j : ℕ) → i < n → j < n → at places i ≡ at places j → i ≡ j
+  pub fit : (i : ℕ) → i < n → numberAt places i < 2 ^ NB
+  pub distinct : (i j : ℕ) → i < n → j < n → numberAt places i ≡ numberAt places j → i ≡ j
 
 -- the bit number is one of the bits; the winner's row is a contender's
 abbrev pub PhaseWithin : ℕ → ℕ → Phase → Type 0

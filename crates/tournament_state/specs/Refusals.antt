@@ -7,21 +7,23 @@ use lib.Dec.{leb, ltb}
 use lib.ListN.{length, getD, take}
 use Rattle.names.specs.declared.Priority.{Priority}
 use Rattle.names.specs.Limits.{contenders, bits}
-use Rattle.laws.specs.declared.Found.{Found}
 use Rattle.laws.specs.Search.{first}
-use Rattle.repeats.specs.declared.Repeat.{Repeat}
-use Rattle.repeats.specs.Repeats.{firstRepeat}
+use Rattle.names.specs.declared.FoundRow.{FoundRow}
+use Rattle.repeats.specs.Repeats.{asRow, firstRepeat}
 use Rattle.judge.specs.declared.Checked.{Checked}
 use Rattle.judge.specs.Table.{Line, judge, unless, rowIn}
 use Rattle.tournament_state.specs.declared.Phase.{Phase}
 use Rattle.tournament_state.specs.declared.Phase.the-variants.{AtBit, Finished, NoWinner}
 
--- a priority as a number, and the priority of an unused place
+-- a priority as a number, a number as a priority, and the priority of an unused place
 abbrev pub number : Priority → ℕ
 number p = p .0
 
+abbrev pub priority : ℕ → Priority
+priority p = record { 0 = p }
+
 abbrev pub none : Priority
-none = record { 0 = 0 }
+none = priority 0
 
 -- x is 1 to most
 abbrev pub oneTo : ℕ → ℕ → Bool
@@ -31,8 +33,8 @@ abbrev pub fitsIn : ℕ → Priority → Bool
 fitsIn NB p = ltb (number p) (2 ^ NB)
 
 -- the lowest row whose priority does not fit in the bits
-unfoldable pub lowestUnfit : ℕ → List Priority → Found
-lowestUnfit NB ps = first (λ i. not (fitsIn NB (getD ps i none))) 0 (length ps)
+unfoldable pub lowestUnfit : ℕ → List Priority → FoundRow
+lowestUnfit NB ps = asRow (first (λ i. not (fitsIn NB (getD ps i none))) 0 (length ps))
 
 -- the bit number is one of the bits; the winner's row is a contender's
 abbrev pub phaseInside : ℕ → ℕ → Phase → Bool
@@ -41,7 +43,7 @@ phaseInside NB n (Finished row) = ltb (row .0) n
 phaseInside NB n NoWinner = true
 
 -- the lowest row whose priority an earlier row has
-abbrev pub lowestRepeat : List Priority → Repeat
+abbrev pub lowestRepeat : List Priority → FoundRow
 lowestRepeat ps = firstRepeat (map number ps)
 
 -- a state: 7, the contenders; 8, the bit count, a priority, the bit number or the winner's row; 9, two have one priority
@@ -49,7 +51,7 @@ abbrev pub stateLines : ℕ → ℕ → List Priority → Phase → List Line
 stateLines NB n places phase =
     record { number = 7; place = unless (oneTo contenders n) }
     ∷ record { number = 8; place = unless (oneTo bits NB) }
-    ∷ record { number = 8; place = lowestUnfit NB (take n places) }
+    ∷ record { number = 8; place = rowIn (lowestUnfit NB (take n places)) }
     ∷ record { number = 8; place = unless (phaseInside NB n phase) }
     ∷ record { number = 9; place = rowIn (lowestRepeat (take n places)) }
     ∷ []
@@ -61,7 +63,7 @@ verdictOf NB n places phase = judge (stateLines NB n places phase)
 abbrev pub pairLines : ℕ → Priority → Priority → List Line
 pairLines NB a b =
     record { number = 8; place = unless (oneTo bits NB) }
-    ∷ record { number = 8; place = lowestUnfit NB (a ∷ b ∷ []) }
+    ∷ record { number = 8; place = rowIn (lowestUnfit NB (a ∷ b ∷ [])) }
     ∷ record { number = 9; place = rowIn (lowestRepeat (a ∷ b ∷ [])) }
     ∷ []
 

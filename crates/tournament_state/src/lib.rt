@@ -5,12 +5,11 @@
 // must not know how a bit is played.
 use judge::Checked;
 use judge::refused;
-use laws::Found;
 use names::BITS;
 use names::CONTENDERS;
+use names::FoundRow;
 use names::Priority;
 use names::Row;
-use repeats::Repeat;
 use repeats::first_repeat;
 ghost use mathlib.Core.Path.{_≡_};
 ghost use mathlib.Core.List.{map};
@@ -55,17 +54,17 @@ fn fits_in(bits: u32, p: Priority) -> bool
     p.0 >> bits == 0
 }
 
-fn lowest_unfit(bits: u32, priorities: [Priority; CONTENDERS], count: usize) -> Found
+fn lowest_unfit(bits: u32, priorities: [Priority; CONTENDERS], count: usize) -> FoundRow
     requires { ⌜ count ≤ contenders ⌝ }
     ensures { λ r. ⌜ r ≡ lowestUnfit bits (take count priorities) ⌝ }
 {
     for i in 0..count {
         let p = priorities[i];
         if !fits_in(bits, p) {
-            return Found::At(i as u64);
+            return FoundRow::At(Row(i));
         }
     }
-    Found::Nothing
+    FoundRow::Nothing
 }
 
 fn phase_inside(bits: u32, count: usize, phase: Phase) -> bool
@@ -89,7 +88,7 @@ fn numbers(priorities: [Priority; CONTENDERS]) -> [u32; CONTENDERS]
     out
 }
 
-fn lowest_repeat(priorities: [Priority; CONTENDERS], count: usize) -> Repeat
+fn lowest_repeat(priorities: [Priority; CONTENDERS], count: usize) -> FoundRow
     requires { ⌜ count ≤ contenders ⌝ }
     ensures { λ r. ⌜ r ≡ lowestRepeat (take count priorities) ⌝ }
 {
@@ -108,15 +107,15 @@ pub fn verdict(bits: u32, count: usize, priorities: [Priority; CONTENDERS], phas
         return refused(8, 0);
     }
     match lowest_unfit(bits, priorities, count) {
-        Found::At(row) => return refused(8, row as usize),
-        Found::Nothing => {}
+        FoundRow::At(row) => return refused(8, row.0),
+        FoundRow::Nothing => {}
     }
     if !phase_inside(bits, count, phase) {
         return refused(8, 0);
     }
     match lowest_repeat(priorities, count) {
-        Repeat::At(row) => refused(9, row.0),
-        Repeat::Nothing => Checked::Fine,
+        FoundRow::At(row) => refused(9, row.0),
+        FoundRow::Nothing => Checked::Fine,
     }
 }
 

@@ -12,7 +12,7 @@ use lib.ListN.{length, getD, set, take, drop, replicate, length-append, length-d
 use lib.Seq.{length-take-le, take-all, take-suc, take-at, drop-cons, append-snoc, set-at, drop-append-add, drop-drop, sets-eq}
 use Rattle.laws.specs.Lists.{placed}
 use Rattle.laws.proofs.Placed.{drop-replicate}
-use Rattle.words.specs.Words.{joinedOf, wordsOf, laidOnto, bytesOf, put, putWords, Below}
+use Rattle.words.specs.Words.{joinedOf, wordsOf, laidOnto, bytesOf, withWords, putWords, Below}
 
 -- ---- lengths
 pub length-words : (bytes : List ℕ) → length (wordsOf bytes) ≡ length bytes / 4
@@ -137,7 +137,7 @@ unfolding bytesOf
 bytes-append [] vs = refl
 bytes-append (w ∷ ws) vs = rw (bytes-append ws vs) refl
 
-pub put-room : (bytes : List ℕ) (at : ℕ) (ws : List ℕ) → at + 4 * length ws ≤ length bytes → putWords bytes at ws ≡ put bytes at ws
+pub put-room : (bytes : List ℕ) (at : ℕ) (ws : List ℕ) → at + 4 * length ws ≤ length bytes → putWords bytes at ws ≡ withWords bytes at ws
 unfolding putWords
 put-room bytes at ws h = rw (le-leb _ _ h) refl
 
@@ -145,8 +145,8 @@ pub put-no-room : (bytes : List ℕ) (at : ℕ) (ws : List ℕ) → length bytes
 unfolding putWords
 put-no-room bytes at ws h = rw (lt-leb _ _ h) refl
 
-pub put-none : (bytes : List ℕ) (at : ℕ) → put bytes at [] ≡ bytes
-unfolding put bytesOf
+pub put-none : (bytes : List ℕ) (at : ℕ) → withWords bytes at [] ≡ bytes
+unfolding withWords bytesOf
 put-none bytes at =
     let e : at + 0 ≡ at = omega arith in
     rw e (take-append-drop at bytes)
@@ -156,16 +156,16 @@ module _ (bytes : List ℕ) (at : ℕ) (ws : List ℕ) (fits : at + 4 * length w
   front : length (take at bytes ++ bytesOf ws) ≡ at + 4 * length ws
   front = length-append (take at bytes) (bytesOf ws) ∙ omega (arith, length-take-le at bytes (omega arith), length-bytes ws)
 
-  pub length-put : length (put bytes at ws) ≡ length bytes
-  unfolding put
+  pub length-put : length (withWords bytes at ws) ≡ length bytes
+  unfolding withWords
   length-put =
       let n = at + 4 * length ws in
       ap length (sym (append-assoc (take at bytes) (bytesOf ws) (drop n bytes)))
       ∙ length-append (take at bytes ++ bytesOf ws) (drop n bytes)
       ∙ omega (arith, front, length-drop n bytes)
 
-  pub put-more : (vs : List ℕ) (n : ℕ) → n ≡ at + 4 * length ws → put (put bytes at ws) n vs ≡ put bytes at (ws ++ vs)
-  unfolding put
+  pub put-more : (vs : List ℕ) (n : ℕ) → n ≡ at + 4 * length ws → withWords (withWords bytes at ws) n vs ≡ withWords bytes at (ws ++ vs)
+  unfolding withWords
   put-more vs n e =
       let p = take at bytes ++ bytesOf ws in
       let q = drop (at + 4 * length ws) bytes in
@@ -179,7 +179,7 @@ module _ (bytes : List ℕ) (at : ℕ) (ws : List ℕ) (fits : at + 4 * length w
 
 -- a loop over the words, one word a turn
 pub put-next : (bytes : List ℕ) (at : ℕ) (ws : List ℕ) (i : ℕ) {o : List ℕ} → i < length ws → at + 4 * length ws ≤ length bytes
-    → o ≡ put bytes at (take i ws) → put o (at + 4 * i) (getD ws i 0 ∷ []) ≡ put bytes at (take (i + 1) ws)
+    → o ≡ withWords bytes at (take i ws) → withWords o (at + 4 * i) (getD ws i 0 ∷ []) ≡ withWords bytes at (take (i + 1) ws)
 put-next bytes at ws i h fits e =
     let k : length (take i ws) ≡ i = length-take-le i ws (omega arith) in
     rw (e, add-one i, take-suc ws i 0 h)
@@ -187,8 +187,8 @@ put-next bytes at ws i h fits e =
 
 -- four stores, as the code makes them
 pub put-one : (bytes : List ℕ) (at w : ℕ) → at + 4 ≤ length bytes
-    → set (set (set (set bytes at (w % 256)) (at + 1) (w / 256 % 256)) (at + 2) (w / 65536 % 256)) (at + 3) (w / 16777216 % 256) ≡ put bytes at (w ∷ [])
-unfolding put bytesOf
+    → set (set (set (set bytes at (w % 256)) (at + 1) (w / 256 % 256)) (at + 2) (w / 65536 % 256)) (at + 3) (w / 16777216 % 256) ≡ withWords bytes at (w ∷ [])
+unfolding withWords bytesOf
 put-one bytes at w h =
     let e : at + 1 ≡ suc at = omega arith in
     let f : at + 2 ≡ suc (suc at) = omega arith in

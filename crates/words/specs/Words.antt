@@ -27,12 +27,12 @@ bytesOf [] = []
 bytesOf (w ∷ words) = w % 256 ∷ w / 256 % 256 ∷ w / 65536 % 256 ∷ w / 16777216 % 256 ∷ bytesOf words
 
 -- the bytes with words written from byte `at` on, where they have room
-unfoldable pub put : List ℕ → ℕ → List ℕ → List ℕ
-put bytes at words = take at bytes ++ (bytesOf words ++ drop (at + 4 * length words) bytes)
+unfoldable pub withWords : List ℕ → ℕ → List ℕ → List ℕ
+withWords bytes at words = take at bytes ++ (bytesOf words ++ drop (at + 4 * length words) bytes)
 
 -- .. and as they were where they have none
 unfoldable pub putWords : List ℕ → ℕ → List ℕ → List ℕ
-putWords bytes at words = cond (leb (at + 4 * length words) (length bytes)) (put bytes at words) bytes
+putWords bytes at words = cond (leb (at + 4 * length words) (length bytes)) (withWords bytes at words) bytes
 
 -- every number of a list is below b
 abbrev pub Below : ℕ → List ℕ → Type 0

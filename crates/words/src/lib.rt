@@ -7,7 +7,7 @@ ghost use mathlib.Core.Path.{_≡_};
 ghost use mathlib.Core.List.{[], _∷_};
 ghost use Prim.Native.Nat.{_+_, _≤_};
 ghost use lib.ListN.{length, getD};
-ghost use Rattle.words.specs.Words.{wordsOf, joinedOf, laidOnto, put, putWords};
+ghost use Rattle.words.specs.Words.{wordsOf, joinedOf, laidOnto, withWords, putWords};
 
 // A word of its four bytes, the least first.
 fn joined(a: u8, b: u8, c: u8, d: u8) -> u32
@@ -41,7 +41,7 @@ pub fn words_into(bytes: &[u8], out: &mut [u32])
 // The four bytes of a word, from byte `at` on.
 fn put_word(buf: &mut [u8], at: usize, w: u32)
     requires { ⌜ at + 4 ≤ length (now buf) ⌝ }
-    ensures { λ _. ⌜ now (buf .exit) ≡ put (now (buf .entry)) at (w ∷ []) ⌝ }
+    ensures { λ _. ⌜ now (buf .exit) ≡ withWords (now (buf .entry)) at (w ∷ []) ⌝ }
 {
     buf[at] = (w % 256) as u8;
     buf[at + 1] = (w / 256 % 256) as u8;

@@ -6,7 +6,7 @@ use Prim.Native.Nat.{ℕ, _+_, _*_, _≤_}
 use native.Mathlib.Omega.{arith}
 use lib.ListN.{length, take, drop}
 use lib.Seq.{length-take-le}
-use Rattle.words.specs.Words.{bytesOf, put, putWords}
+use Rattle.words.specs.Words.{bytesOf, withWords, putWords}
 use Rattle.words.proofs.Laws.{put-room, put-more, length-put}
 use Rattle.carried.specs.Layout as layout
 use Rattle.carried.specs.Carried.{planIn}
@@ -24,15 +24,15 @@ module _ (buf ws : List ℕ) (n m : ℕ) (long : layout.gapAt n m ≤ length ws)
 
   pub whole : {a b vs : List ℕ} → a ≡ putWords buf 0 (contents n m) → b ≡ putWords a (layout.byteOf 0) vs → vs ≡ bodies
       → b ≡ fileOf (planIn n m ws) ++ drop (layout.size n m) buf
-  unfolding put
+  unfolding withWords
   whole {a} {b} ea eb e =
       let head = contents n m in
-      let qa : a ≡ put buf 0 head = ea ∙ put-room buf 0 head (omega arith) in
+      let qa : a ≡ withWords buf 0 head = ea ∙ put-room buf 0 head (omega arith) in
       let a-long : length a ≡ length buf = ap length qa ∙ length-put buf 0 head (omega arith) in
-      let qb : b ≡ put a (layout.byteOf 0) bodies =
+      let qb : b ≡ withWords a (layout.byteOf 0) bodies =
       eb ∙ ap (putWords a (layout.byteOf 0)) e ∙ put-room a (layout.byteOf 0) bodies (omega (arith, bodies-long)) in
       let end : 0 + 4 * length (head ++ bodies) ≡ layout.size n m = omega (arith, bodies-long) in
-      qb ∙ ap (λ o. put o (layout.byteOf 0) bodies) qa ∙ put-more buf 0 head (omega arith) bodies (layout.byteOf 0) refl
+      qb ∙ ap (λ o. withWords o (layout.byteOf 0) bodies) qa ∙ put-more buf 0 head (omega arith) bodies (layout.byteOf 0) refl
       ∙ ap (λ k. bytesOf (head ++ bodies) ++ drop k buf) end
       ∙ ap (λ l. bytesOf l ++ drop (layout.size n m) buf) (sym (words-in n m ws long))
 

@@ -12,9 +12,6 @@ use Rattle.analysis.proofs.Waits.{alone-terms}
 use Rattle.analysis.proofs.answer.Statement.{statement}
 use Rattle.analysis.proofs.answer.Tie as tie
 
-terms-fit-requires : tie.Need-terms-fit-requires
-terms-fit-requires c κs = search needs
-
 returns : tie.Need-returns
 returns c = simp (sym (c .before .terms-fit .ensures) ∙ not-true _ (c .if1 .taken))
 
@@ -47,4 +44,4 @@ returns-3 c = simp (known (c .before .before .before)) (ap Exact (c .answer-amon
 pub answer-spec : {M : Type 1} → statement M
 answer-spec =
     tie.close
-    (tie.spec terms-fit-requires returns add-if2 answer-alone-requires returns-2 answer-among-requires returns-3)
+    (tie.spec (λ c κs. search needs) returns add-if2 answer-alone-requires returns-2 answer-among-requires returns-3)

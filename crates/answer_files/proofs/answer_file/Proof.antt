@@ -6,27 +6,12 @@ use Rattle.answer_files.proofs.Files.{file-refused, file-is}
 use Rattle.answer_files.proofs.answer_file.Statement.{statement}
 use Rattle.answer_files.proofs.answer_file.Tie as tie
 
-carry-requires : tie.Need-carry-requires
-carry-requires c κs = search needs
-
-enum-known-r : tie.Need-enum-known-r
-enum-known-r c = search needs
-
-enum-known-n : tie.Need-enum-known-n
-enum-known-n c = search needs
-
-answer-words-requires : tie.Need-answer-words-requires
-answer-words-requires c κs = search needs
-
 returns : tie.Need-returns
 returns c =
     let k = c .before .before .before in
     let a = k .before .before .before .before .args in
     let e = file-refused (now (a .bytes)) (now (a .out)) _ (sym (k .carry .ensures .0) ∙ c .before .r .given .1) in
     (sym (ap (λ o. o .0) e), sym (ap (λ o. o .1) e))
-
-same-length : tie.Need-same-length
-same-length c = search needs
 
 returns-2 : tie.Need-returns-2
 returns-2 c =
@@ -41,10 +26,10 @@ pub answer-file-spec : {M : Type 1} → statement M
 answer-file-spec =
     tie.close
     (tie.spec
-    carry-requires
-    enum-known-r
-    enum-known-n
-    answer-words-requires
+    (λ c κs. search needs)
+    (λ c. search needs)
+    (λ c. search needs)
+    (λ c κs. search needs)
     returns
-    same-length
+    (λ c. search needs)
     returns-2)

@@ -8,15 +8,6 @@ use Rattle.answers.proofs.Outcome.{same-answer}
 use Rattle.answers.proofs.answer_values.Statement.{statement}
 use Rattle.answers.proofs.answer_values.Tie as tie
 
-words-of-requires : tie.Need-words-of-requires
-words-of-requires c κs = search needs
-
-answer-words-requires : tie.Need-answer-words-requires
-answer-words-requires c κs = search needs
-
-same-length : tie.Need-same-length
-same-length c = search needs
-
 returns : tie.Need-returns
 unfolding answerOf
 returns c =
@@ -30,4 +21,4 @@ returns c =
 
 pub answer-values-spec : {M : Type 1} → statement M
 answer-values-spec =
-    tie.close (tie.spec words-of-requires answer-words-requires same-length returns)
+    tie.close (tie.spec (λ c κs. search needs) (λ c κs. search needs) (λ c. search needs) returns)

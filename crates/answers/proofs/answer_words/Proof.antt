@@ -23,12 +23,6 @@ fine c = sym (c .before .before .check-words .ensures) ∙ c .enum-told .given .
 places : (c : tie.After-enum-told) → let a = entry c .args in PlacesWithin (now (a .words)) (a .n) (a .m)
 places c = fine-places _ _ _ (fine c)
 
-check-words-requires : tie.Need-check-words-requires
-check-words-requires c κs = search needs
-
-enum-known-r : tie.Need-enum-known-r
-enum-known-r c = search needs
-
 returns : tie.Need-returns
 returns c =
     let k = c .before .before .before in
@@ -51,9 +45,6 @@ returns-2 c =
 put-rows-requires : tie.Need-put-rows-requires
 put-rows-requires c κs = let d = c .before in (places (d .before), omega (arith, d .if1 .left))
 
-same-length : tie.Need-same-length
-same-length c = search needs
-
 returns-3 : tie.Need-returns-3
 returns-3 c =
     let w = c .before .before in
@@ -66,12 +57,12 @@ pub answer-words-spec : {M : Type 1} → statement M
 answer-words-spec =
     tie.close
     (tie.spec
-    check-words-requires
-    enum-known-r
+    (λ c κs. search needs)
+    (λ c. search needs)
     returns
     enum-told
     mul-if1
     returns-2
     put-rows-requires
-    same-length
+    (λ c. search needs)
     returns-3)

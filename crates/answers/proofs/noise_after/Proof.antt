@@ -19,41 +19,11 @@ abbrev μ-loop : tie.MeasureT-loop
 loop-holds : tie.Need-loop-holds Inv-loop μ-loop
 loop-holds c = (omega arith, after-none _ _ _, after-none _ _ _)
 
-add-costs : tie.Need-add-costs Inv-loop μ-loop
-add-costs c = search needs
-
-mul-costs : tie.Need-mul-costs Inv-loop μ-loop
-mul-costs c = search needs
-
 element-write-costs : tie.Need-element-write-costs Inv-loop μ-loop
 element-write-costs c = omega (arith, c .before .loop .inv .1 .long, c .before .before .pre .1 .1 .1 .0)
 
-add-wide : tie.Need-add-wide Inv-loop μ-loop
-add-wide c = search needs
-
-mul-wide : tie.Need-mul-wide Inv-loop μ-loop
-mul-wide c = search needs
-
-element-copy-out-wide : tie.Need-element-copy-out-wide Inv-loop μ-loop
-element-copy-out-wide c = search needs
-
-wide-requires : tie.Need-wide-requires Inv-loop μ-loop
-wide-requires c κs = search needs
-
-add-periods : tie.Need-add-periods Inv-loop μ-loop
-add-periods c = search needs
-
-mul-periods : tie.Need-mul-periods Inv-loop μ-loop
-mul-periods c = search needs
-
 element-write-periods : tie.Need-element-write-periods Inv-loop μ-loop
 element-write-periods c = omega (arith, c .before .before .before .loop .inv .2 .long, c .before .before .before .before .pre .1 .1 .1 .1)
-
-add-k : tie.Need-add-k Inv-loop μ-loop
-add-k c = search needs
-
-loop-less : tie.Need-loop-less Inv-loop μ-loop
-loop-less c = search needs
 
 loop-again : tie.Need-loop-again Inv-loop μ-loop
 loop-again c =
@@ -73,17 +43,17 @@ noise-after-spec =
     Inv-loop
     μ-loop
     loop-holds
-    add-costs
-    mul-costs
+    (λ c. search needs)
+    (λ c. search needs)
     element-write-costs
-    add-wide
-    mul-wide
-    element-copy-out-wide
-    wide-requires
-    add-periods
-    mul-periods
+    (λ c. search needs)
+    (λ c. search needs)
+    (λ c. search needs)
+    (λ c κs. search needs)
+    (λ c. search needs)
+    (λ c. search needs)
     element-write-periods
-    add-k
-    loop-less
+    (λ c. search needs)
+    (λ c. search needs)
     loop-again
     returns)

@@ -29,9 +29,6 @@ Inv-loop words n q mine u all costs₀ periods₀ jitters₀ urgent₀ blocking�
 abbrev μ-loop : tie.MeasureT-loop
 μ-loop words n q mine u all costs₀ periods₀ jitters₀ urgent₀ blocking₀ hit₀ k₀ costs periods jitters urgent blocking hit k = n - k
 
-wide-requires : tie.Need-wide-requires Inv-loop μ-loop
-wide-requires c κs = search needs
-
 add-hit : tie.Need-add-hit Inv-loop μ-loop
 add-hit c = omega (arith, c .before .pre .1 .1 .0, c .wide .ensures .1)
 
@@ -45,74 +42,11 @@ loop-holds c =
 room : (c : tie.In-loop Inv-loop μ-loop) → c .before .loop .urgent < streams
 room c = omega (arith, c .before .loop .inv .1, c .before .before .before .pre .0 .few, c .loop-test .taken)
 
-mul-at : tie.Need-mul-at Inv-loop μ-loop
-mul-at c = search needs
-
-add-at : tie.Need-add-at Inv-loop μ-loop
-add-at c = search needs
-
-add-priority : tie.Need-add-priority Inv-loop μ-loop
-add-priority c = search needs
-
-mul-priority : tie.Need-mul-priority Inv-loop μ-loop
-mul-priority c = search needs
-
-element-copy-out-priority : tie.Need-element-copy-out-priority Inv-loop μ-loop
-element-copy-out-priority c = search needs
-
-add-payload : tie.Need-add-payload Inv-loop μ-loop
-add-payload c = search needs
-
-mul-payload : tie.Need-mul-payload Inv-loop μ-loop
-mul-payload c = search needs
-
-element-copy-out-payload : tie.Need-element-copy-out-payload Inv-loop μ-loop
-element-copy-out-payload c = search needs
-
-wide-requires-2 : tie.Need-wide-requires-2 Inv-loop μ-loop
-wide-requires-2 c κs = search needs
-
-add-cost : tie.Need-add-cost Inv-loop μ-loop
-add-cost c = search needs
-
-mul-costs : tie.Need-mul-costs Inv-loop μ-loop
-mul-costs c = search needs
-
 element-write-costs : tie.Need-element-write-costs Inv-loop μ-loop
 element-write-costs c = omega (arith, room (c .before .before .before), c .before .before .before .before .loop .inv .2 .of-costs)
 
-add-wide : tie.Need-add-wide Inv-loop μ-loop
-add-wide c = search needs
-
-mul-wide : tie.Need-mul-wide Inv-loop μ-loop
-mul-wide c = search needs
-
-element-copy-out-wide : tie.Need-element-copy-out-wide Inv-loop μ-loop
-element-copy-out-wide c = search needs
-
-wide-requires-3 : tie.Need-wide-requires-3 Inv-loop μ-loop
-wide-requires-3 c κs = search needs
-
-mul-periods : tie.Need-mul-periods Inv-loop μ-loop
-mul-periods c = search needs
-
 element-write-periods : tie.Need-element-write-periods Inv-loop μ-loop
 element-write-periods c = omega (arith, room (c .before .before .before .before .before), c .before .before .before .before .before .before .loop .inv .2 .of-periods)
-
-add-wide-2 : tie.Need-add-wide-2 Inv-loop μ-loop
-add-wide-2 c = search needs
-
-mul-wide-2 : tie.Need-mul-wide-2 Inv-loop μ-loop
-mul-wide-2 c = search needs
-
-element-copy-out-wide-2 : tie.Need-element-copy-out-wide-2 Inv-loop μ-loop
-element-copy-out-wide-2 c = search needs
-
-wide-requires-4 : tie.Need-wide-requires-4 Inv-loop μ-loop
-wide-requires-4 c κs = search needs
-
-mul-jitters : tie.Need-mul-jitters Inv-loop μ-loop
-mul-jitters c = search needs
 
 element-write-jitters : tie.Need-element-write-jitters Inv-loop μ-loop
 element-write-jitters c = omega (arith, room (c .before .before .before .before .before .before .before), c .before .before .before .before .before .before .before .before .loop .inv .2 .of-jitters)
@@ -123,21 +57,6 @@ blocks-requires c κs =
     let s = d .before .before .before in
     let w = s .pre .0 .stream _ (d .loop-test .taken) in
     (w .some-payload, (w .payload, omega (arith, s .pre .1 .0, s .pre .1 .1 .0)))
-
-greater-requires : tie.Need-greater-requires Inv-loop μ-loop
-greater-requires c κs = search needs
-
-add-urgent : tie.Need-add-urgent Inv-loop μ-loop
-add-urgent c = search needs
-
-greater-requires-2 : tie.Need-greater-requires-2 Inv-loop μ-loop
-greater-requires-2 c κs = search needs
-
-add-k : tie.Need-add-k Inv-loop μ-loop
-add-k c = search needs
-
-loop-less : tie.Need-loop-less Inv-loop μ-loop
-loop-less c = search needs
 
 loop-again : tie.Need-loop-again Inv-loop μ-loop
 loop-again c =
@@ -204,38 +123,38 @@ others-of-spec =
     (tie.spec
     Inv-loop
     μ-loop
-    wide-requires
+    (λ c κs. search needs)
     add-hit
     loop-holds
-    mul-at
-    add-at
-    add-priority
-    mul-priority
-    element-copy-out-priority
-    add-payload
-    mul-payload
-    element-copy-out-payload
-    wide-requires-2
-    add-cost
-    mul-costs
+    (λ c. search needs)
+    (λ c. search needs)
+    (λ c. search needs)
+    (λ c. search needs)
+    (λ c. search needs)
+    (λ c. search needs)
+    (λ c. search needs)
+    (λ c. search needs)
+    (λ c κs. search needs)
+    (λ c. search needs)
+    (λ c. search needs)
     element-write-costs
-    add-wide
-    mul-wide
-    element-copy-out-wide
-    wide-requires-3
-    mul-periods
+    (λ c. search needs)
+    (λ c. search needs)
+    (λ c. search needs)
+    (λ c κs. search needs)
+    (λ c. search needs)
     element-write-periods
-    add-wide-2
-    mul-wide-2
-    element-copy-out-wide-2
-    wide-requires-4
-    mul-jitters
+    (λ c. search needs)
+    (λ c. search needs)
+    (λ c. search needs)
+    (λ c κs. search needs)
+    (λ c. search needs)
     element-write-jitters
     blocks-requires
-    greater-requires
-    add-urgent
-    greater-requires-2
-    add-k
-    loop-less
+    (λ c κs. search needs)
+    (λ c. search needs)
+    (λ c κs. search needs)
+    (λ c. search needs)
+    (λ c. search needs)
     loop-again
     returns)

@@ -2,7 +2,7 @@
 use borrow.Author.Needs.{needs}
 use mathlib.Core.Path.{_≡_, refl, sym, ap, ap₂, _∙_}
 use mathlib.Core.List.{_++_, flatMap}
-use Prim.Native.Nat.{_+_, _-_, _*_, _≤_, _<_}
+use Prim.Native.Nat.{_-_, _*_, _≤_, _<_}
 use native.Mathlib.Omega.{arith}
 use lib.ListN.{length, drop}
 use denote.Ref.{now}
@@ -26,12 +26,6 @@ Inv-loop ws n m out₀ c costs₀ periods₀ jitters₀ k₀ out costs periods j
 abbrev μ-loop : tie.MeasureT-loop
 μ-loop ws n m out₀ c costs₀ periods₀ jitters₀ k₀ out costs periods jitters k = n - k
 
-timing-in-requires : tie.Need-timing-in-requires Inv-loop μ-loop
-timing-in-requires c κs = search needs
-
-overheads-of-requires : tie.Need-overheads-of-requires Inv-loop μ-loop
-overheads-of-requires c κs = search needs
-
 loop-holds : tie.Need-loop-holds Inv-loop μ-loop
 unfolding rows flatMap
 loop-holds c = (omega arith, refl, refl, record { of-costs = refl; of-periods = refl; of-jitters = refl })
@@ -42,24 +36,6 @@ gathered-requires c κs =
     let f = d .before .before in
     let s = f .before .before .before in
     (s .pre .0, (rw (f .overheads-of .ensures, f .before .timing-in .ensures) (v-and-u-within _ (s .pre .0 .timing)), (d .loop-test .taken, d .before .loop .inv .3)))
-
-mul-wide : tie.Need-mul-wide Inv-loop μ-loop
-mul-wide c = search needs
-
-add-wide : tie.Need-add-wide Inv-loop μ-loop
-add-wide c = search needs
-
-add-wide-2 : tie.Need-add-wide-2 Inv-loop μ-loop
-add-wide-2 c = search needs
-
-mul-wide-2 : tie.Need-mul-wide-2 Inv-loop μ-loop
-mul-wide-2 c = search needs
-
-element-copy-out-wide : tie.Need-element-copy-out-wide Inv-loop μ-loop
-element-copy-out-wide c = search needs
-
-wide-requires : tie.Need-wide-requires Inv-loop μ-loop
-wide-requires c κs = search needs
 
 row-answer-requires : tie.Need-row-answer-requires Inv-loop μ-loop
 row-answer-requires c κs = c .before .before .before .before .before .gathered .ensures .fits
@@ -85,14 +61,8 @@ row-is c =
     let g = w .before .before in
     c .row-answer .ensures ∙ ap₂ answer (g .gathered .ensures .is) (w .wide .ensures .0)
 
-put-answer-requires : tie.Need-put-answer-requires Inv-loop μ-loop
-put-answer-requires c κs = search needs
-
 add-k : tie.Need-add-k Inv-loop μ-loop
 add-k c = omega (arith, few (c .before .before .before .before .before .before .before .before .before .before))
-
-loop-less : tie.Need-loop-less Inv-loop μ-loop
-loop-less c = search needs
 
 loop-again : tie.Need-loop-again Inv-loop μ-loop
 loop-again c =
@@ -121,20 +91,20 @@ put-rows-spec =
     (tie.spec
     Inv-loop
     μ-loop
-    timing-in-requires
-    overheads-of-requires
+    (λ c κs. search needs)
+    (λ c κs. search needs)
     loop-holds
     gathered-requires
-    mul-wide
-    add-wide
-    add-wide-2
-    mul-wide-2
-    element-copy-out-wide
-    wide-requires
+    (λ c. search needs)
+    (λ c. search needs)
+    (λ c. search needs)
+    (λ c. search needs)
+    (λ c. search needs)
+    (λ c κs. search needs)
     row-answer-requires
-    put-answer-requires
+    (λ c κs. search needs)
     add-k
-    loop-less
+    (λ c. search needs)
     loop-again
     same-length
     returns)

@@ -13,12 +13,6 @@ use Rattle.answers.proofs.row_answer.Tie as tie
 told : (c : tie.After-answer) → let a = c .before .args in c .answer .result ≡ Exact (answer (termsOf (lent (a .g) (a .costs .now) (a .periods .now) (a .jitters .now))) (a .deadline))
 told c = c .answer .ensures ∙ answered-is _ _ (c .before .pre)
 
-answer-requires : tie.Need-answer-requires
-answer-requires c κs = search needs
-
-enum-known-a : tie.Need-enum-known-a
-enum-known-a c = search needs
-
 enum-told : tie.Need-enum-told
 enum-told c = search needs
 
@@ -29,4 +23,4 @@ returns-2 : tie.Need-returns-2
 returns-2 c = absurd (never-outside _ _ (c .enum-told .given .1) (told (c .before .before)))
 
 pub row-answer-spec : {M : Type 1} → statement M
-row-answer-spec = tie.close (tie.spec answer-requires enum-known-a enum-told returns returns-2)
+row-answer-spec = tie.close (tie.spec (λ c κs. search needs) (λ c. search needs) enum-told returns returns-2)

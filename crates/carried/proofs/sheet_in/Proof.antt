@@ -11,21 +11,6 @@ use borrow.Author.Needs.{needs}
 use Rattle.carried.proofs.sheet_in.Statement.{statement}
 use Rattle.carried.proofs.sheet_in.Tie as tie
 
-smaller-requires : tie.Need-smaller-requires
-smaller-requires c κs = search needs
-
-smaller-requires-2 : tie.Need-smaller-requires-2
-smaller-requires-2 c κs = search needs
-
-timing-in-requires : tie.Need-timing-in-requires
-timing-in-requires c κs = search needs
-
-streams-in-requires : tie.Need-streams-in-requires
-streams-in-requires c κs = search needs
-
-gaps-in-requires : tie.Need-gaps-in-requires
-gaps-in-requires c κs = search needs
-
 returns : tie.Need-returns
 unfolding planIn
 returns c =
@@ -44,9 +29,9 @@ pub sheet-in-spec : {M : Type 1} → statement M
 sheet-in-spec =
     tie.close
     (tie.spec
-    smaller-requires
-    smaller-requires-2
-    timing-in-requires
-    streams-in-requires
-    gaps-in-requires
+    (λ c κs. search needs)
+    (λ c κs. search needs)
+    (λ c κs. search needs)
+    (λ c κs. search needs)
+    (λ c κs. search needs)
     returns)

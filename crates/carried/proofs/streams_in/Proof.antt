@@ -20,32 +20,8 @@ Inv-loop words n out₀ r₀ out r =
 abbrev μ-loop : tie.MeasureT-loop
 μ-loop words n out₀ r₀ out r = n - r
 
-no-streams-requires : tie.Need-no-streams-requires Inv-loop μ-loop
-no-streams-requires c κs = search needs
-
 loop-holds : tie.Need-loop-holds Inv-loop μ-loop
 loop-holds c = (omega arith, c .no-streams .ensures ∙ no-rows-placed limit.streams blank _)
-
-mul-stream-in : tie.Need-mul-stream-in Inv-loop μ-loop
-mul-stream-in c = search needs
-
-add-stream-in : tie.Need-add-stream-in Inv-loop μ-loop
-add-stream-in c = search needs
-
-stream-in-requires : tie.Need-stream-in-requires Inv-loop μ-loop
-stream-in-requires c κs = search needs
-
-mul-out : tie.Need-mul-out Inv-loop μ-loop
-mul-out c = search needs
-
-array-set-from-out : tie.Need-array-set-from-out Inv-loop μ-loop
-array-set-from-out c = search needs
-
-add-r : tie.Need-add-r Inv-loop μ-loop
-add-r c = search needs
-
-loop-less : tie.Need-loop-less Inv-loop μ-loop
-loop-less c = search needs
 
 loop-again : tie.Need-loop-again Inv-loop μ-loop
 loop-again c =
@@ -66,14 +42,14 @@ streams-in-spec =
     (tie.spec
     Inv-loop
     μ-loop
-    no-streams-requires
+    (λ c κs. search needs)
     loop-holds
-    mul-stream-in
-    add-stream-in
-    stream-in-requires
-    mul-out
-    array-set-from-out
-    add-r
-    loop-less
+    (λ c. search needs)
+    (λ c. search needs)
+    (λ c κs. search needs)
+    (λ c. search needs)
+    (λ c. search needs)
+    (λ c. search needs)
+    (λ c. search needs)
     loop-again
     returns)

@@ -7,12 +7,6 @@ use Rattle.carried.proofs.Plans.{timing-in-places}
 use Rattle.carried.proofs.timing_from.Statement.{statement}
 use Rattle.carried.proofs.timing_from.Tie as tie
 
-words-from-requires : tie.Need-words-from-requires
-words-from-requires c κs = search needs
-
-timing-in-requires : tie.Need-timing-in-requires
-timing-in-requires c κs = search needs
-
 returns : tie.Need-returns
 returns c =
     c .timing-in .ensures
@@ -20,4 +14,4 @@ returns c =
     ∙ timing-in-places (now (c .before .before .before .before .args .values))
 
 pub timing-from-spec : {M : Type 1} → statement M
-timing-from-spec = tie.close (tie.spec words-from-requires timing-in-requires returns)
+timing-from-spec = tie.close (tie.spec (λ c κs. search needs) (λ c κs. search needs) returns)

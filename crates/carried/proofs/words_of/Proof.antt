@@ -32,24 +32,6 @@ in-room s o =
     omega
     (arith, length-values (planOf s), length-take (s .count) (s .streams), length-take (s .sources) (s .gaps), stream-places s o, gap-places s o)
 
-smaller-requires : tie.Need-smaller-requires Inv-loop μ-loop
-smaller-requires c κs = search needs
-
-smaller-requires-2 : tie.Need-smaller-requires-2 Inv-loop μ-loop
-smaller-requires-2 c κs = search needs
-
-timing-words-requires : tie.Need-timing-words-requires Inv-loop μ-loop
-timing-words-requires c κs = search needs
-
-slice-aggregate-lay : tie.Need-slice-aggregate-lay Inv-loop μ-loop
-slice-aggregate-lay c = search needs
-
-slice-aggregate-lay-2 : tie.Need-slice-aggregate-lay-2 Inv-loop μ-loop
-slice-aggregate-lay-2 c = search needs
-
-lay-requires : tie.Need-lay-requires Inv-loop μ-loop
-lay-requires c κs = search needs
-
 loop-holds : tie.Need-loop-holds Inv-loop μ-loop
 unfolding flatMap
 loop-holds c =
@@ -57,36 +39,6 @@ loop-holds c =
     let w = y .before .before .before in
     let s = w .before .before .before .before .args .t1 in
     (omega arith, y .lay .kept .0, y .lay .ensures ∙ lay-timing (s .timing) refl (w .timing-words .ensures))
-
-mul-s : tie.Need-mul-s Inv-loop μ-loop
-mul-s c = search needs
-
-element-copy-out-s : tie.Need-element-copy-out-s Inv-loop μ-loop
-element-copy-out-s c = search needs
-
-stream-words-requires : tie.Need-stream-words-requires Inv-loop μ-loop
-stream-words-requires c κs = search needs
-
-slice-aggregate-lay-3 : tie.Need-slice-aggregate-lay-3 Inv-loop μ-loop
-slice-aggregate-lay-3 c = search needs
-
-mul-lay : tie.Need-mul-lay Inv-loop μ-loop
-mul-lay c = search needs
-
-add-lay : tie.Need-add-lay Inv-loop μ-loop
-add-lay c = search needs
-
-slice-aggregate-lay-4 : tie.Need-slice-aggregate-lay-4 Inv-loop μ-loop
-slice-aggregate-lay-4 c = search needs
-
-lay-requires-2 : tie.Need-lay-requires-2 Inv-loop μ-loop
-lay-requires-2 c κs = search needs
-
-add-r : tie.Need-add-r Inv-loop μ-loop
-add-r c = search needs
-
-loop-less : tie.Need-loop-less Inv-loop μ-loop
-loop-less c = search needs
 
 loop-again : tie.Need-loop-again Inv-loop μ-loop
 loop-again c =
@@ -99,15 +51,6 @@ loop-again c =
       y .lay2 .kept .0 ∙ l .inv .1,
       y .lay2 .ensures ∙ lay-stream (s .timing) (s .streams) (l .r) (omega (arith, rows-fit b, w .before .before .loop-test .taken)) (l .inv .2) (w .stream-words .ensures),
     )
-
-slice-aggregate-lay-5 : tie.Need-slice-aggregate-lay-5 Inv-loop μ-loop
-slice-aggregate-lay-5 c = search needs
-
-mul-lay-2 : tie.Need-mul-lay-2 Inv-loop μ-loop
-mul-lay-2 c = search needs
-
-add-lay-2 : tie.Need-add-lay-2 Inv-loop μ-loop
-add-lay-2 c = search needs
 
 array-share-prefix-gaps : tie.Need-array-share-prefix-gaps Inv-loop μ-loop
 array-share-prefix-gaps c = gaps-fit (c .before .before .before .before .before .before .before .before .before .before)
@@ -140,27 +83,27 @@ words-of-spec =
     (tie.spec
     Inv-loop
     μ-loop
-    smaller-requires
-    smaller-requires-2
-    timing-words-requires
-    slice-aggregate-lay
-    slice-aggregate-lay-2
-    lay-requires
+    (λ c κs. search needs)
+    (λ c κs. search needs)
+    (λ c κs. search needs)
+    (λ c. search needs)
+    (λ c. search needs)
+    (λ c κs. search needs)
     loop-holds
-    mul-s
-    element-copy-out-s
-    stream-words-requires
-    slice-aggregate-lay-3
-    mul-lay
-    add-lay
-    slice-aggregate-lay-4
-    lay-requires-2
-    add-r
-    loop-less
+    (λ c. search needs)
+    (λ c. search needs)
+    (λ c κs. search needs)
+    (λ c. search needs)
+    (λ c. search needs)
+    (λ c. search needs)
+    (λ c. search needs)
+    (λ c κs. search needs)
+    (λ c. search needs)
+    (λ c. search needs)
     loop-again
-    slice-aggregate-lay-5
-    mul-lay-2
-    add-lay-2
+    (λ c. search needs)
+    (λ c. search needs)
+    (λ c. search needs)
     array-share-prefix-gaps
     slice-aggregate-lay-6
     lay-requires-3

@@ -8,12 +8,6 @@ use Rattle.checks.proofs.Words.{same-check}
 use Rattle.checks.proofs.check.Statement.{statement}
 use Rattle.checks.proofs.check.Tie as tie
 
-words-of-requires : tie.Need-words-of-requires
-words-of-requires c κs = search needs
-
-check-words-requires : tie.Need-check-words-requires
-check-words-requires c κs = search needs
-
 returns : tie.Need-returns
 returns c =
     let b = c .before .before .before in
@@ -23,4 +17,4 @@ returns c =
     ∙ same-check s (_, b .good .0 .1 .1)
 
 pub check-spec : {M : Type 1} → statement M
-check-spec = tie.close (tie.spec words-of-requires check-words-requires returns)
+check-spec = tie.close (tie.spec (λ c κs. search needs) (λ c κs. search needs) returns)

@@ -6,20 +6,11 @@ use borrow.Author.Needs.{needs}
 use Rattle.checks.proofs.check_counts.Statement.{statement}
 use Rattle.checks.proofs.check_counts.Tie as tie
 
-refused-requires : tie.Need-refused-requires
-refused-requires c κs = search needs
-
 returns : tie.Need-returns
 returns c = c .refused .ensures ∙ (let a = c .before .before .args in sym (range-refused (a .n) (a .m) (too-few (a .n) (a .m) (c .before .if1 .taken))))
 
-refused-requires-2 : tie.Need-refused-requires-2
-refused-requires-2 c κs = search needs
-
 returns-2 : tie.Need-returns-2
 returns-2 c = c .refused2 .ensures ∙ (let a = c .before .before .before .args in sym (range-refused (a .n) (a .m) (too-many (a .n) (a .m) (c .before .if2 .taken))))
-
-refused-requires-3 : tie.Need-refused-requires-3
-refused-requires-3 c κs = search needs
 
 returns-3 : tie.Need-returns-3
 returns-3 c = c .refused3 .ensures ∙ (let a = c .before .before .before .before .args in sym (range-refused (a .n) (a .m) (too-noisy (a .n) (a .m) (c .before .if3 .taken))))
@@ -31,10 +22,10 @@ pub check-counts-spec : {M : Type 1} → statement M
 check-counts-spec =
     tie.close
     (tie.spec
-    refused-requires
+    (λ c κs. search needs)
     returns
-    refused-requires-2
+    (λ c κs. search needs)
     returns-2
-    refused-requires-3
+    (λ c κs. search needs)
     returns-3
     returns-4)

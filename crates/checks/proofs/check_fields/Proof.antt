@@ -33,20 +33,11 @@ one-of-them b e =
     let f = at-the-lowest 0 (fields p) _ .0 e in
     omega (arith, f .counted, f .among, length-fields p, length-rows n (λ r. streamIn ws (layout.streamAt r)), length-rows m (λ k. getD ws (layout.gapAt n k) 0))
 
-outside-requires : tie.Need-outside-requires
-outside-requires c κs = search needs
-
-enum-known-k : tie.Need-enum-known-k
-enum-known-k c = search needs
-
 add-refused : tie.Need-add-refused
 add-refused c = omega (arith, one-of-them (c .before .before .before .before) (sym (c .before .before .before .outside .ensures) ∙ c .before .k .given .1))
 
 mul-refused : tie.Need-mul-refused
 mul-refused c = omega (arith, one-of-them (c .before .before .before .before) (sym (c .before .before .before .outside .ensures) ∙ c .before .k .given .1))
-
-refused-requires : tie.Need-refused-requires
-refused-requires c κs = search needs
 
 enum-told : tie.Need-enum-told
 enum-told c = search needs
@@ -61,11 +52,11 @@ pub check-fields-spec : {M : Type 1} → statement M
 check-fields-spec =
     tie.close
     (tie.spec
-    outside-requires
-    enum-known-k
+    (λ c κs. search needs)
+    (λ c. search needs)
     add-refused
     mul-refused
-    refused-requires
+    (λ c κs. search needs)
     enum-told
     returns
     returns-2)

@@ -40,26 +40,8 @@ labels-are c =
     ∙ sym (c .before .before .column2 .ensures))
     ∙ sym (c .first-repeat2 .ensures)
 
-smaller-requires : tie.Need-smaller-requires
-smaller-requires c κs = search needs
-
-column-requires : tie.Need-column-requires
-column-requires c κs = search needs
-
-array-share-prefix-priorities : tie.Need-array-share-prefix-priorities
-array-share-prefix-priorities c = search needs
-
 slice-aggregate-first-repeat : tie.Need-slice-aggregate-first-repeat
 slice-aggregate-first-repeat c = sym (length-take-le _ _ (omega arith))
-
-first-repeat-requires : tie.Need-first-repeat-requires
-first-repeat-requires c κs = search needs
-
-enum-known-r : tie.Need-enum-known-r
-enum-known-r c = search needs
-
-refused-requires : tie.Need-refused-requires
-refused-requires c κs = search needs
 
 returns : tie.Need-returns
 returns c = c .refused .ensures ∙ sym (given _ _ _ (ap rowIn (priorities-are (c .before .before .before .before) ∙ c .before .before .r .given .1)))
@@ -67,26 +49,8 @@ returns c = c .refused .ensures ∙ sym (given _ _ _ (ap rowIn (priorities-are (
 enum-told : tie.Need-enum-told
 enum-told c = search needs
 
-column-requires-2 : tie.Need-column-requires-2
-column-requires-2 c κs = search needs
-
-array-share-prefix-labels : tie.Need-array-share-prefix-labels
-array-share-prefix-labels c = search needs
-
 slice-aggregate-first-repeat-2 : tie.Need-slice-aggregate-first-repeat-2
 slice-aggregate-first-repeat-2 c = sym (length-take-le _ _ (omega arith))
-
-first-repeat-requires-2 : tie.Need-first-repeat-requires-2
-first-repeat-requires-2 c κs = search needs
-
-enum-known-r-2 : tie.Need-enum-known-r-2
-enum-known-r-2 c = search needs
-
-refused-requires-2 : tie.Need-refused-requires-2
-refused-requires-2 c κs = search needs
-
-enum-told-2 : tie.Need-enum-told-2
-enum-told-2 c = search needs
 
 returns-2 : tie.Need-returns-2
 returns-2 c =
@@ -107,21 +71,21 @@ pub check-rows-spec : {M : Type 1} → statement M
 check-rows-spec =
     tie.close
     (tie.spec
-    smaller-requires
-    column-requires
-    array-share-prefix-priorities
+    (λ c κs. search needs)
+    (λ c κs. search needs)
+    (λ c. search needs)
     slice-aggregate-first-repeat
-    first-repeat-requires
-    enum-known-r
-    refused-requires
+    (λ c κs. search needs)
+    (λ c. search needs)
+    (λ c κs. search needs)
     returns
     enum-told
-    column-requires-2
-    array-share-prefix-labels
+    (λ c κs. search needs)
+    (λ c. search needs)
     slice-aggregate-first-repeat-2
-    first-repeat-requires-2
-    enum-known-r-2
-    refused-requires-2
-    enum-told-2
+    (λ c κs. search needs)
+    (λ c. search needs)
+    (λ c κs. search needs)
+    (λ c. search needs)
     returns-2
     returns-3)

@@ -49,35 +49,17 @@ module _ (b : tie.Start) where
     after-fields : (c : Checked) → judge (fieldLines (planIn (min n streams) (min m sources) ws)) ≡ c → judge (lines n m (planIn n m ws)) ≡ rows-left c
     after-fields c e = after-counts ∙ ap rows-left e
 
-check-counts-requires : tie.Need-check-counts-requires
-check-counts-requires c κs = search needs
-
-enum-known-r : tie.Need-enum-known-r
-enum-known-r c = search needs
-
 returns : tie.Need-returns
 returns c = let p = c .before .before .before in sym (counts-refused (p .before) _ (sym (p .check-counts .ensures) ∙ c .before .r .given .1))
 
 enum-told : tie.Need-enum-told
 enum-told c = search needs
 
-check-fields-requires : tie.Need-check-fields-requires
-check-fields-requires c κs = search needs
-
-enum-known-r-2 : tie.Need-enum-known-r-2
-enum-known-r-2 c = search needs
-
 returns-2 : tie.Need-returns-2
 returns-2 c =
     let f = c .before .before .before in
     let t = f .before in
     sym (after-fields (t .before .before .before) (sym (t .before .before .check-counts .ensures) ∙ t .enum-told .given .1) (Refused _) (sym (f .check-fields .ensures) ∙ c .before .r2 .given .1))
-
-enum-told-2 : tie.Need-enum-told-2
-enum-told-2 c = search needs
-
-check-rows-requires : tie.Need-check-rows-requires
-check-rows-requires c κs = search needs
 
 returns-3 : tie.Need-returns-3
 returns-3 c =
@@ -91,13 +73,13 @@ pub check-words-spec : {M : Type 1} → statement M
 check-words-spec =
     tie.close
     (tie.spec
-    check-counts-requires
-    enum-known-r
+    (λ c κs. search needs)
+    (λ c. search needs)
     returns
     enum-told
-    check-fields-requires
-    enum-known-r-2
+    (λ c κs. search needs)
+    (λ c. search needs)
     returns-2
-    enum-told-2
-    check-rows-requires
+    (λ c. search needs)
+    (λ c κs. search needs)
     returns-3)

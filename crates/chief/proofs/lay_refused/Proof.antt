@@ -5,15 +5,6 @@ use borrow.Author.Needs.{needs}
 use Rattle.chief.proofs.lay_refused.Statement.{statement}
 use Rattle.chief.proofs.lay_refused.Tie as tie
 
-lay-text-requires : tie.Need-lay-text-requires
-lay-text-requires c κs = search needs
-
-lay-refusal-requires : tie.Need-lay-refusal-requires
-lay-refusal-requires c κs = search needs
-
-same-length : tie.Need-same-length
-same-length c = search needs
-
 returns : tie.Need-returns
 returns c =
     let t = c .before .before in
@@ -21,4 +12,4 @@ returns c =
     then (n .lay-text .ensures) (last (t .lay-refusal .ensures)) (omega arith)
 
 pub lay-refused-spec : {M : Type 1} → statement M
-lay-refused-spec = tie.close (tie.spec lay-text-requires lay-refusal-requires same-length returns)
+lay-refused-spec = tie.close (tie.spec (λ c κs. search needs) (λ c κs. search needs) (λ c. search needs) returns)

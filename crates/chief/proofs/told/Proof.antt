@@ -8,18 +8,6 @@ use borrow.Author.Needs.{needs}
 use Rattle.chief.proofs.told.Statement.{statement}
 use Rattle.chief.proofs.told.Tie as tie
 
-lighter-files-requires : tie.Need-lighter-files-requires
-lighter-files-requires c κs = search needs
-
-lay-told-requires : tie.Need-lay-told-requires
-lay-told-requires c κs = search needs
-
-sub-bytes : tie.Need-sub-bytes
-sub-bytes c = search needs
-
-same-length : tie.Need-same-length
-same-length c = search needs
-
 said-is : (c : tie.After-lighter-files) → let a = c .before .before .before .before .args in toldAs (c .lighter-files .result) ≡ toldOf (now (a .old)) (now (a .new))
 unfolding toldOf
 said-is c = ap toldAs (c .lighter-files .ensures .is)
@@ -28,12 +16,6 @@ returns : tie.Need-returns
 returns c =
     let t = c .before .before .before in
     put-full 0 (omega arith) (is (said-is (t .before .before)) (t .lay-told .ensures)) (omega arith)
-
-lay-told-requires-2 : tie.Need-lay-told-requires-2
-lay-told-requires-2 c κs = search needs
-
-same-length-2 : tie.Need-same-length-2
-same-length-2 c = search needs
 
 returns-2 : tie.Need-returns-2
 returns-2 c =
@@ -46,11 +28,11 @@ pub told-spec : {M : Type 1} → statement M
 told-spec =
     tie.close
     (tie.spec
-    lighter-files-requires
-    lay-told-requires
-    sub-bytes
-    same-length
+    (λ c κs. search needs)
+    (λ c κs. search needs)
+    (λ c. search needs)
+    (λ c. search needs)
     returns
-    lay-told-requires-2
-    same-length-2
+    (λ c κs. search needs)
+    (λ c. search needs)
     returns-2)

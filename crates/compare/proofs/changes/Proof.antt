@@ -9,7 +9,7 @@ use Rattle.names.specs.Limits.{streams}
 use Rattle.plan.specs.Plan.{Plan, planOf}
 use Rattle.plan.proofs.Places.{streams-taken}
 use Rattle.compare.specs.declared.Change.the-variants.{Nothing}
-use Rattle.compare.specs.Changes.{constants, ofStreams, ofOrder, changes}
+use Rattle.compare.specs.Changes.{ofConstants, ofStreams, ofOrder, changes}
 use Rattle.compare.specs.private.Columns.{labelOf, priorityOf, numberThen, orderBy}
 use Rattle.compare.proofs.First.{nothing-or, of-or}
 use Rattle.compare.proofs.Places.{Front, front}
@@ -40,7 +40,7 @@ module _ (c : tie.After-labels-of) where
   m-is : m ≡ length (new .streams)
   m-is = streams-taken (start .args .new) (_, start .good .1 .0 .1 .1) _ (c .before .smaller2 .ensures) .0
 
-  constants-hold : constants (old .timing) (new .timing) ≡ Nothing
+  constants-hold : ofConstants (old .timing) (new .timing) ≡ Nothing
   constants-hold = sym (told .before .before .constants .ensures) ∙ told .enum-told .given .1
 
   labels : Front labelOf old n (c .labels-of .result)
@@ -80,12 +80,6 @@ by-columns c =
     ∙ ap₂ (λ a b. orderBy a b (new (f t))) (was t .is) (is t .is)
     ∙ as-order (old (f t)) (new (f t))
 
-constants-requires : tie.Need-constants-requires
-constants-requires c κs = search needs
-
-enum-known-why : tie.Need-enum-known-why
-enum-known-why c = search needs
-
 returns : tie.Need-returns
 unfolding changes
 returns c =
@@ -94,15 +88,6 @@ returns c =
 
 enum-told : tie.Need-enum-told
 enum-told c = search needs
-
-smaller-requires : tie.Need-smaller-requires
-smaller-requires c κs = search needs
-
-smaller-requires-2 : tie.Need-smaller-requires-2
-smaller-requires-2 c κs = search needs
-
-labels-of-requires : tie.Need-labels-of-requires
-labels-of-requires c κs = search needs
 
 array-share-prefix-labels : tie.Need-array-share-prefix-labels
 array-share-prefix-labels c = labels c .room
@@ -113,17 +98,11 @@ slice-aggregate-streams c = labels (c .before) .long
 streams-requires : tie.Need-streams-requires
 streams-requires c κs = labels (c .before) .is
 
-enum-known-change : tie.Need-enum-known-change
-enum-known-change c = search needs
-
 returns-2 : tie.Need-returns-2
 unfolding changes
 returns-2 c =
     let t = c .before .before .before in
     sym (nothing-or _ _ (constants-hold (t .before .before)) ∙ of-or _ _ _ (sym (t .streams .ensures .0) ∙ c .before .change .given .1))
-
-enum-told-2 : tie.Need-enum-told-2
-enum-told-2 c = search needs
 
 array-share-prefix-was : tie.Need-array-share-prefix-was
 array-share-prefix-was c = was c .room
@@ -142,21 +121,12 @@ urgency-requires c κs =
     let t = c .before .before in
     (sym (was t .long) ∙ m-is (f t), sym (is t .long) ∙ m-is (f t))
 
-enum-known-why-2 : tie.Need-enum-known-why-2
-enum-known-why-2 c = search needs
-
 returns-3 : tie.Need-returns-3
 unfolding changes
 returns-3 c =
     let o = c .before .before .before in
     let t = o .before .before .before in
     sym (nothing-or _ _ (constants-hold (f t)) ∙ nothing-or _ _ (streams-hold t) ∙ of-or _ _ _ (sym (by-columns o) ∙ c .before .why2 .given .1))
-
-enum-told-3 : tie.Need-enum-told-3
-enum-told-3 c = search needs
-
-noise-requires : tie.Need-noise-requires
-noise-requires c κs = search needs
 
 returns-4 : tie.Need-returns-4
 unfolding changes
@@ -170,26 +140,26 @@ pub changes-spec : {M : Type 1} → statement M
 changes-spec =
     tie.close
     (tie.spec
-    constants-requires
-    enum-known-why
+    (λ c κs. search needs)
+    (λ c. search needs)
     returns
     enum-told
-    smaller-requires
-    smaller-requires-2
-    labels-of-requires
+    (λ c κs. search needs)
+    (λ c κs. search needs)
+    (λ c κs. search needs)
     array-share-prefix-labels
     slice-aggregate-streams
     streams-requires
-    enum-known-change
+    (λ c. search needs)
     returns-2
-    enum-told-2
+    (λ c. search needs)
     array-share-prefix-was
     slice-aggregate-urgency
     array-share-prefix-is
     slice-aggregate-urgency-2
     urgency-requires
-    enum-known-why-2
+    (λ c. search needs)
     returns-3
-    enum-told-3
-    noise-requires
+    (λ c. search needs)
+    (λ c κs. search needs)
     returns-4)

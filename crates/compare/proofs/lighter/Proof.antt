@@ -14,15 +14,6 @@ use Rattle.compare.proofs.lighter.Tie as tie
 as-said : (old new : Sheet) (r : Compared) → r ≡ comparedOf old new → SaysLighter old new r
 as-said old new r e = rw e (said-of-sheets old new)
 
-check-requires : tie.Need-check-requires
-check-requires c κs = search needs
-
-check-requires-2 : tie.Need-check-requires-2
-check-requires-2 c κs = search needs
-
-outcome-requires : tie.Need-outcome-requires
-outcome-requires c κs = search needs
-
 returns : tie.Need-returns
 unfolding comparedOf
 returns c =
@@ -32,4 +23,4 @@ returns c =
     (c .outcome .ensures ∙ ap₂ (λ f s. comparedAs f s (changes (planOf (a .old)) (planOf (a .new)))) (t .check .ensures) (c .before .check2 .ensures))
 
 pub lighter-spec : {M : Type 1} → statement M
-lighter-spec = tie.close (tie.spec check-requires check-requires-2 outcome-requires returns)
+lighter-spec = tie.close (tie.spec (λ c κs. search needs) (λ c κs. search needs) (λ c κs. search needs) returns)

@@ -15,7 +15,7 @@ use Rattle.plan.proofs.Places.{gaps-taken}
 use Rattle.compare.specs.declared.Change.{Change}
 use Rattle.compare.specs.declared.Change.the-variants.{Nothing}
 use Rattle.compare.specs.declared.Reason.the-variants.{MoreNoise}
-use Rattle.compare.specs.Changes.{must, firstChange, atMost, noise}
+use Rattle.compare.specs.Changes.{must, firstChange, atMost, ofGap}
 use Rattle.compare.proofs.First.{change-none, change-more, change-here}
 use Rattle.compare.proofs.noise.Statement.{statement}
 use Rattle.compare.proofs.noise.Tie as tie
@@ -41,7 +41,7 @@ gaps-are c =
 -- what is said of all gaps, by the plans
 by-plans : (c : tie.After-smaller2 Inv-loop μ-loop) → let a = c .before .before .args in
     firstChange (noiseAt (take (c .before .smaller .result) (a .new .gaps)) (take (c .smaller2 .result) (a .old .gaps))) (c .before .smaller .result)
-    ≡ firstChange (λ k. noise (planOf (a .old)) (planOf (a .new)) (getD (planOf (a .new) .gaps) k 0)) (length (planOf (a .new) .gaps))
+    ≡ firstChange (λ k. ofGap (planOf (a .old)) (planOf (a .new)) (getD (planOf (a .new) .gaps) k 0)) (length (planOf (a .new) .gaps))
 by-plans c =
     let b = c .before .before in
     let (new, old) = gaps-are c in
@@ -61,28 +61,10 @@ said c t e =
     (getD-take (b .before .smaller .result) (a .new .gaps) (l .loop .k) 0 (omega arith))
     ∙ ap (λ v. must v (MoreNoise (getD (a .new .gaps) (l .loop .k) 0))) (ap₂ leb (sym (c .before .at-most .ensures)) (sym (c .at-most2 .ensures)) ∙ e)
 
-smaller-requires : tie.Need-smaller-requires Inv-loop μ-loop
-smaller-requires c κs = search needs
-
-smaller-requires-2 : tie.Need-smaller-requires-2 Inv-loop μ-loop
-smaller-requires-2 c κs = search needs
-
 loop-holds : tie.Need-loop-holds Inv-loop μ-loop
 loop-holds c =
     let b = c .before .before in
     (omega arith, omega (arith, b .before .smaller .ensures), omega (arith, b .smaller2 .ensures), change-none _)
-
-mul-gap : tie.Need-mul-gap Inv-loop μ-loop
-mul-gap c = search needs
-
-array-read-gap : tie.Need-array-read-gap Inv-loop μ-loop
-array-read-gap c = search needs
-
-at-most-requires : tie.Need-at-most-requires Inv-loop μ-loop
-at-most-requires c κs = search needs
-
-at-most-requires-2 : tie.Need-at-most-requires-2 Inv-loop μ-loop
-at-most-requires-2 c κs = search needs
 
 returns : tie.Need-returns Inv-loop μ-loop
 returns c =
@@ -92,12 +74,6 @@ returns c =
     sym (change-here (noiseAt (take (b .before .smaller .result) (a .new .gaps)) (take (b .smaller2 .result) (a .old .gaps))) (b .before .smaller .result) (l .loop .k) _
     (omega arith) (l .loop .inv .3) (said (c .before) false (lt-leb _ _ (c .if1 .taken))))
     ∙ by-plans b
-
-add-k : tie.Need-add-k Inv-loop μ-loop
-add-k c = search needs
-
-loop-less : tie.Need-loop-less Inv-loop μ-loop
-loop-less c = search needs
 
 loop-again : tie.Need-loop-again Inv-loop μ-loop
 loop-again c =
@@ -117,15 +93,15 @@ noise-spec =
     (tie.spec
     Inv-loop
     μ-loop
-    smaller-requires
-    smaller-requires-2
+    (λ c κs. search needs)
+    (λ c κs. search needs)
     loop-holds
-    mul-gap
-    array-read-gap
-    at-most-requires
-    at-most-requires-2
+    (λ c. search needs)
+    (λ c. search needs)
+    (λ c κs. search needs)
+    (λ c κs. search needs)
     returns
-    add-k
-    loop-less
+    (λ c. search needs)
+    (λ c. search needs)
     loop-again
     returns-2)

@@ -27,34 +27,16 @@ module _ (a b : Checked) (c : Change) where
       is-lighter : c ≡ Nothing → Lighter ≡ comparedAs a b c
       is-lighter e = sym (λ i. comparedAs (f i) (g i) (e i))
 
-enum-known-first : tie.Need-enum-known-first
-enum-known-first c = search needs
-
 returns : tie.Need-returns
 returns c = let a = c .before .before .before .args in first-refused (a .first) _ _ _ (c .before .first .given .1)
 
 enum-told : tie.Need-enum-told
 enum-told c = search needs
 
-enum-known-second : tie.Need-enum-known-second
-enum-known-second c = search needs
-
 returns-2 : tie.Need-returns-2
 returns-2 c =
     let t = c .before .before .before in
     second-refused _ (t .before .before .args .second) _ (t .enum-told .given .1) _ (c .before .second .given .1)
-
-enum-told-2 : tie.Need-enum-told-2
-enum-told-2 c = search needs
-
-changes-requires : tie.Need-changes-requires
-changes-requires c κs = search needs
-
-enum-known-r : tie.Need-enum-known-r
-enum-known-r c = search needs
-
-enum-told-3 : tie.Need-enum-told-3
-enum-told-3 c = search needs
 
 returns-3 : tie.Need-returns-3
 returns-3 c =
@@ -72,14 +54,14 @@ pub outcome-spec : {M : Type 1} → statement M
 outcome-spec =
     tie.close
     (tie.spec
-    enum-known-first
+    (λ c. search needs)
     returns
     enum-told
-    enum-known-second
+    (λ c. search needs)
     returns-2
-    enum-told-2
-    changes-requires
-    enum-known-r
-    enum-told-3
+    (λ c. search needs)
+    (λ c κs. search needs)
+    (λ c. search needs)
+    (λ c. search needs)
     returns-3
     returns-4)

@@ -9,13 +9,12 @@ use Rattle.laws.specs.declared.Found.{Found}
 use Rattle.laws.specs.declared.Found.the-variants.{At as Found·At, Nothing as Found·Nothing}
 use Rattle.plan.specs.declared.Sheet.{Sheet}
 use Rattle.plan.specs.declared.Stream.{Stream}
-use Rattle.plan.specs.Plan.{Plan, planOf, blank}
+use Rattle.plan.specs.Plan.{Plan, planOf, blank, at}
 use Rattle.plan.proofs.Places.{streams-taken, row-in-place}
-use Rattle.promise.specs.Lighter.{at}
 use Rattle.compare.specs.declared.Change.{Change}
 use Rattle.compare.specs.declared.Change.the-variants.{Of, Nothing}
 use Rattle.compare.specs.declared.Reason.{Reason}
-use Rattle.compare.specs.Changes.{firstChange, rowOf, eased, inRow, stream, numberIn, number, ofStreams}
+use Rattle.compare.specs.Changes.{firstChange, rowOf, eased, inRow, ofStream, numberIn, numberUnder, ofStreams}
 use Rattle.compare.specs.private.Columns.{labelOf, priorityOf, numberThen, column, rowBy}
 use Rattle.compare.proofs.First.{of-not-nothing, change-none, change-more, change-here}
 use Rattle.compare.proofs.Places.{columnTo, column-more, column-all, row-found, row-not-found, found-place}
@@ -23,7 +22,7 @@ use Rattle.compare.proofs.streams.Statement.{statement}
 use Rattle.compare.proofs.streams.Tie as tie
 
 abbrev rowChange : Sheet → Sheet → ℕ → Change
-rowChange old new k = stream (planOf old) (at (planOf new) k)
+rowChange old new k = ofStream (planOf old) (at (planOf new) k)
 
 abbrev Inv-loop : tie.InvT-loop
 Inv-loop labels old new n was₀ is₀ k₀ was is k =
@@ -61,7 +60,7 @@ module _ (c : tie.After-row-of Inv-loop μ-loop) where
   rows-are = ap length (start .pre) ∙ length-map (old .streams) labelOf
 
   beside : (f : Found) → rowOf old (s .label) ≡ f → change ≡ inRow old s f
-  beside f e = ap (stream old) (row-in-place (start .args .t2) (turn .loop .k) (omega arith)) ∙ ap (inRow old s) e
+  beside f e = ap (ofStream old) (row-in-place (start .args .t2) (turn .loop .k) (omega arith)) ∙ ap (inRow old s) e
 
   here : {r : Reason} → change ≡ Of r → Of r ≡ ofStreams old (planOf (start .args .t2))
   here e = sym (change-here (rowChange (start .args .t1) (start .args .t2)) _ (turn .loop .k) _ (omega arith) (turn .loop .inv .3) e)
@@ -77,7 +76,7 @@ module _ (c : tie.Else1 Inv-loop μ-loop) where
   place : (r < streams) × (at (old (c .before)) r ≡ getD (start (c .before) .args .t1 .streams) r blank)
   place = let a = start (c .before) in found-place (a .args .t1) (_, a .good .0 .1 .1) _ _ found
 
-  number-is : getD (start (c .before) .args .t1 .streams) r blank .priority .0 ≡ number (old (c .before)) (s (c .before) .label)
+  number-is : getD (start (c .before) .args .t1 .streams) r blank .priority .0 ≡ numberUnder (old (c .before)) (s (c .before) .label)
   number-is = sym (ap (numberIn (old (c .before))) found ∙ ap priorityOf (place .1))
 
 -- .. and what was said of both
@@ -86,22 +85,10 @@ said c =
     let e = c .before .before in
     beside (e .before) _ (found e) ∙ ap (λ n. eased n (s (e .before))) (place e .1) ∙ sym (c .eased .ensures)
 
-smaller-requires : tie.Need-smaller-requires Inv-loop μ-loop
-smaller-requires c κs = search needs
-
 loop-holds : tie.Need-loop-holds Inv-loop μ-loop
 loop-holds c =
     let b = c .before .before in
     (omega arith, omega (arith, c .smaller .ensures), streams-taken (b .args .t2) (_, b .good .1 .0 .1 .1) _ (c .smaller .ensures) .0, change-none _, refl, refl)
-
-mul-s : tie.Need-mul-s Inv-loop μ-loop
-mul-s c = search needs
-
-element-copy-out-s : tie.Need-element-copy-out-s Inv-loop μ-loop
-element-copy-out-s c = search needs
-
-row-of-requires : tie.Need-row-of-requires Inv-loop μ-loop
-row-of-requires c κs = search needs
 
 returns : tie.Need-returns Inv-loop μ-loop
 returns c =
@@ -116,12 +103,6 @@ mul-namesake c = let h = place c .0 in search needs
 element-copy-out-namesake : tie.Need-element-copy-out-namesake Inv-loop μ-loop
 element-copy-out-namesake c = place c .0
 
-eased-requires : tie.Need-eased-requires Inv-loop μ-loop
-eased-requires c κs = search needs
-
-enum-known-why : tie.Need-enum-known-why Inv-loop μ-loop
-enum-known-why c = search needs
-
 returns-2 : tie.Need-returns-2 Inv-loop μ-loop
 returns-2 c =
     let t = c .before .before .before in
@@ -130,24 +111,6 @@ returns-2 c =
 
 enum-told : tie.Need-enum-told Inv-loop μ-loop
 enum-told c = search needs
-
-mul-was : tie.Need-mul-was Inv-loop μ-loop
-mul-was c = search needs
-
-array-write-was : tie.Need-array-write-was Inv-loop μ-loop
-array-write-was c = search needs
-
-mul-is : tie.Need-mul-is Inv-loop μ-loop
-mul-is c = search needs
-
-array-write-is : tie.Need-array-write-is Inv-loop μ-loop
-array-write-is c = search needs
-
-add-k : tie.Need-add-k Inv-loop μ-loop
-add-k c = search needs
-
-loop-less : tie.Need-loop-less Inv-loop μ-loop
-loop-less c = search needs
 
 loop-again : tie.Need-loop-again Inv-loop μ-loop
 loop-again c =
@@ -178,23 +141,23 @@ streams-spec =
     (tie.spec
     Inv-loop
     μ-loop
-    smaller-requires
+    (λ c κs. search needs)
     loop-holds
-    mul-s
-    element-copy-out-s
-    row-of-requires
+    (λ c. search needs)
+    (λ c. search needs)
+    (λ c κs. search needs)
     returns
     mul-namesake
     element-copy-out-namesake
-    eased-requires
-    enum-known-why
+    (λ c κs. search needs)
+    (λ c. search needs)
     returns-2
     enum-told
-    mul-was
-    array-write-was
-    mul-is
-    array-write-is
-    add-k
-    loop-less
+    (λ c. search needs)
+    (λ c. search needs)
+    (λ c. search needs)
+    (λ c. search needs)
+    (λ c. search needs)
+    (λ c. search needs)
     loop-again
     returns-3)

@@ -6,9 +6,8 @@ use native.Mathlib.Omega.{arith}
 use borrow.Author.Needs.{needs}
 use lib.ListN.{length}
 use Rattle.names.specs.Limits.{streams}
-use Rattle.plan.specs.Plan.{planOf}
+use Rattle.plan.specs.Plan.{planOf, at}
 use Rattle.plan.proofs.Places.{streams-taken, row-in-place}
-use Rattle.promise.specs.Lighter.{at}
 use Rattle.compare.specs.declared.Change.the-variants.{Of, Nothing}
 use Rattle.compare.specs.declared.Reason.the-variants.{LessUrgent}
 use Rattle.compare.specs.Changes.{must, firstChange}
@@ -42,21 +41,6 @@ place c =
 loop-holds : tie.Need-loop-holds Inv-loop μ-loop
 loop-holds c = (omega arith, change-none _)
 
-mul-number : tie.Need-mul-number Inv-loop μ-loop
-mul-number c = search needs
-
-shared-slice-read-number : tie.Need-shared-slice-read-number Inv-loop μ-loop
-shared-slice-read-number c = search needs
-
-mul-held : tie.Need-mul-held Inv-loop μ-loop
-mul-held c = search needs
-
-shared-slice-read-held : tie.Need-shared-slice-read-held Inv-loop μ-loop
-shared-slice-read-held c = search needs
-
-overtaken-requires : tie.Need-overtaken-requires Inv-loop μ-loop
-overtaken-requires c κs = search needs
-
 mul-s : tie.Need-mul-s Inv-loop μ-loop
 mul-s c = let h = place c in search needs
 
@@ -70,12 +54,6 @@ returns c =
     let a = l .before .before .before .args in
     ap (λ s. Of (LessUrgent (s .label))) (sym (row-in-place (a .t1) (l .loop .k) (omega (arith, l .before .before .before .pre .1))))
     ∙ sym (change-here (urgencyBy (a .was .now) (a .is .now) (planOf (a .t1))) _ (l .loop .k) _ (omega (arith, l .before .before .before .pre .1)) (l .loop .inv .1) (sym (said t true (c .before .before .if1 .taken))))
-
-add-k : tie.Need-add-k Inv-loop μ-loop
-add-k c = search needs
-
-loop-less : tie.Need-loop-less Inv-loop μ-loop
-loop-less c = search needs
 
 loop-again : tie.Need-loop-again Inv-loop μ-loop
 loop-again c =
@@ -96,15 +74,15 @@ urgency-spec =
     Inv-loop
     μ-loop
     loop-holds
-    mul-number
-    shared-slice-read-number
-    mul-held
-    shared-slice-read-held
-    overtaken-requires
+    (λ c. search needs)
+    (λ c. search needs)
+    (λ c. search needs)
+    (λ c. search needs)
+    (λ c κs. search needs)
     mul-s
     element-copy-out-s
     returns
-    add-k
-    loop-less
+    (λ c. search needs)
+    (λ c. search needs)
     loop-again
     returns-2)

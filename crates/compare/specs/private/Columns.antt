@@ -13,11 +13,10 @@ use Rattle.laws.specs.Lists.{placed}
 use Rattle.laws.specs.Search.{first}
 use Rattle.laws.specs.Rows.{some}
 use Rattle.plan.specs.declared.Stream.{Stream}
-use Rattle.plan.specs.Plan.{Plan}
-use Rattle.promise.specs.Lighter.{at}
+use Rattle.plan.specs.Plan.{Plan, at}
 use Rattle.compare.specs.declared.Change.{Change}
 use Rattle.compare.specs.declared.Reason.the-variants.{LessUrgent}
-use Rattle.compare.specs.Changes.{must, number, firstChange}
+use Rattle.compare.specs.Changes.{must, numberUnder, firstChange}
 
 -- a column of a plan, as of the labels or of the priority numbers
 abbrev pub labelOf : Stream → ℕ
@@ -35,7 +34,7 @@ columnPlaced f p = placed streams 0 (column f p)
 
 -- the number that a stream's label has in a plan
 abbrev pub numberThen : Plan → Stream → ℕ
-numberThen old s = number old (s .label)
+numberThen old s = numberUnder old (s .label)
 
 -- the row that is under a label, or as many as there are rows
 abbrev pub orEnd : ℕ → Found → ℕ

@@ -8,8 +8,7 @@ use Rattle.file.specs.declared.ReadPlan.{ReadPlan}
 use Rattle.compare.specs.declared.Compared.{Compared}
 use Rattle.compare.specs.Changes.{changes}
 use Rattle.compare.specs.Compared.{comparedAs}
-use Rattle.compare_files.specs.Files.{comparedFiles}
-use Rattle.compare_files.specs.Claims.{SaysLighterOfFiles}
+use Rattle.compare_files.specs.Files.{comparedFiles, SaysLighterOfFiles}
 use Rattle.compare_files.proofs.Kept.{said-of-files}
 use Rattle.compare_files.proofs.lighter_files.Statement.{statement}
 use Rattle.compare_files.proofs.lighter_files.Tie as tie
@@ -21,15 +20,6 @@ as-said old new r e = rw e (said-of-files old new)
 abbrev of : ReadPlan → ReadPlan → Compared
 of a b = comparedAs (a .answer) (b .answer) (changes (planOf (a .sheet)) (planOf (b .sheet)))
 
-read-requires : tie.Need-read-requires
-read-requires c κs = search needs
-
-read-requires-2 : tie.Need-read-requires-2
-read-requires-2 c κs = search needs
-
-outcome-requires : tie.Need-outcome-requires
-outcome-requires c κs = search needs
-
 returns : tie.Need-returns
 unfolding comparedFiles
 returns c =
@@ -37,4 +27,4 @@ returns c =
     as-said _ _ _ (c .outcome .ensures ∙ ap₂ of (t .before .read .ensures) (t .read2 .ensures))
 
 pub lighter-files-spec : {M : Type 1} → statement M
-lighter-files-spec = tie.close (tie.spec read-requires read-requires-2 outcome-requires returns)
+lighter-files-spec = tie.close (tie.spec (λ c κs. search needs) (λ c κs. search needs) (λ c κs. search needs) returns)

@@ -10,11 +10,8 @@ use Rattle.console.proofs.first.Tie as tie
 slice-aggregate-result : tie.Need-slice-aggregate-result
 slice-aggregate-result c = sym (length-take-le _ _ (c .before .if1 .taken))
 
-returns : tie.Need-returns
-returns c = search needs
-
 returns-2 : tie.Need-returns-2
 returns-2 c = let a = c .before .args in sym (take-all (a .k) (now (a .bytes)) (omega arith))
 
 pub first-spec : {M : Type 1} → statement M
-first-spec = tie.close (tie.spec slice-aggregate-result returns returns-2)
+first-spec = tie.close (tie.spec slice-aggregate-result (λ c. search needs) returns-2)

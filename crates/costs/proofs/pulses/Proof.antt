@@ -8,12 +8,6 @@ use Rattle.names.specs.Limits.{bits}
 use Rattle.costs.proofs.pulses.Statement.{statement}
 use Rattle.costs.proofs.pulses.Tie as tie
 
-add-result : tie.Need-add-result
-add-result c = search needs
-
-bits-but-one-requires : tie.Need-bits-but-one-requires
-bits-but-one-requires c κs = search needs
-
 fits : (c : tie.After-bits-but-one) → (c .before .args .h + c .before .args .g) * c .bits-but-one .result ≤ 2 ^ 33 * bits
 fits c = mul-le-mul {n₁ = c .before .args .h + c .before .args .g} {n₂ = 2 ^ 33} {m₂ = bits} (omega arith) (omega arith)
 
@@ -24,4 +18,4 @@ returns : tie.Need-returns
 returns c = (rw (c .bits-but-one .ensures .0) refl, fits c)
 
 pub pulses-spec : {M : Type 1} → statement M
-pulses-spec = tie.close (tie.spec add-result bits-but-one-requires mul-result returns)
+pulses-spec = tie.close (tie.spec (λ c. search needs) (λ c κs. search needs) mul-result returns)

@@ -14,12 +14,6 @@ returns c =
     let f = none-put (ascii "fine\n") (now (c .before .before .before .args .out)) (omega arith) in
     (sym (ap (λ x. x .0) f), sym (ap (λ x. x .1) f))
 
-lay-text-requires : tie.Need-lay-text-requires
-lay-text-requires c κs = search needs
-
-same-length : tie.Need-same-length
-same-length c = search needs
-
 returns-2 : tie.Need-returns-2
 returns-2 c =
     let t = c .before .before in
@@ -28,4 +22,4 @@ returns-2 c =
     (ap At (omega (arith, t .lay-text .ensures .place)) ∙ sym (ap (λ x. x .0) w), t .lay-text .ensures .bytes ∙ laid-whole out 0 (ascii "fine\n") (omega arith))
 
 pub fine-spec : {M : Type 1} → statement M
-fine-spec = tie.close (tie.spec returns lay-text-requires same-length returns-2)
+fine-spec = tie.close (tie.spec returns (λ c κs. search needs) (λ c. search needs) returns-2)

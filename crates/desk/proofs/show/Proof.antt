@@ -7,32 +7,8 @@ use borrow.Author.Needs.{needs}
 use Rattle.desk.proofs.show.Statement.{statement}
 use Rattle.desk.proofs.show.Tie as tie
 
-read-requires : tie.Need-read-requires
-read-requires c κs = search needs
-
-enum-known-answer : tie.Need-enum-known-answer
-enum-known-answer c = search needs
-
-refused-requires : tie.Need-refused-requires
-refused-requires c κs = search needs
-
 enum-told : tie.Need-enum-told
 enum-told c = search needs
-
-slice-aggregate-answer-values : tie.Need-slice-aggregate-answer-values
-slice-aggregate-answer-values c = search needs
-
-answer-values-requires : tie.Need-answer-values-requires
-answer-values-requires c κs = search needs
-
-slice-aggregate-listing : tie.Need-slice-aggregate-listing
-slice-aggregate-listing c = search needs
-
-listing-requires : tie.Need-listing-requires
-listing-requires c κs = search needs
-
-same-length : tie.Need-same-length
-same-length c = search needs
 
 returns : tie.Need-returns
 returns c =
@@ -42,9 +18,6 @@ returns c =
     let s = f .before .before .before in
     let e = sym (shown-is (now (s .args .bytes)) (f .read .result) (f .read .ensures) _ (a .answer .given .1)) in
     (r .refused .ensures .0 ∙ ap (λ t. put (now (s .args .out)) 0 t .0) e, r .refused .ensures .1 ∙ ap (λ t. put (now (s .args .out)) 0 t .1) e)
-
-same-length-2 : tie.Need-same-length-2
-same-length-2 c = search needs
 
 returns-2 : tie.Need-returns-2
 returns-2 c =
@@ -61,15 +34,15 @@ pub show-spec : {M : Type 1} → statement M
 show-spec =
     tie.close
     (tie.spec
-    read-requires
-    enum-known-answer
-    refused-requires
+    (λ c κs. search needs)
+    (λ c. search needs)
+    (λ c κs. search needs)
     enum-told
-    slice-aggregate-answer-values
-    answer-values-requires
-    slice-aggregate-listing
-    listing-requires
-    same-length
+    (λ c. search needs)
+    (λ c κs. search needs)
+    (λ c. search needs)
+    (λ c κs. search needs)
+    (λ c. search needs)
     returns
-    same-length-2
+    (λ c. search needs)
     returns-2)

@@ -7,18 +7,6 @@ use borrow.Author.Needs.{needs}
 use Rattle.desk.proofs.show_file.Statement.{statement}
 use Rattle.desk.proofs.show_file.Tie as tie
 
-rewrite-requires : tie.Need-rewrite-requires
-rewrite-requires c κs = search needs
-
-enum-known-n : tie.Need-enum-known-n
-enum-known-n c = search needs
-
-enum-known-r : tie.Need-enum-known-r
-enum-known-r c = search needs
-
-same-length : tie.Need-same-length
-same-length c = search needs
-
 returns : tie.Need-returns
 returns c =
     let k = c .before .before .before .before .before .before .before in
@@ -26,21 +14,12 @@ returns c =
     let p = shows (now (a .bytes)) (now (a .out)) _ (sym (k .rewrite .ensures .0) ∙ c .before .before .before .r .given .1) .0 (c .if1 .taken) in
     (p .0, k .rewrite .ensures .1 ∙ p .1)
 
-refused-requires : tie.Need-refused-requires
-refused-requires c κs = search needs
-
-same-length-2 : tie.Need-same-length-2
-same-length-2 c = search needs
-
 returns-2 : tie.Need-returns-2
 returns-2 c =
     let k = c .before .before .before .before .before in
     let a = k .before .before .before .before .args in
     let p = shows (now (a .bytes)) (now (a .out)) _ (sym (k .rewrite .ensures .0) ∙ c .before .n .given .1) in
     (p .0, k .rewrite .ensures .1 ∙ p .1)
-
-same-length-3 : tie.Need-same-length-3
-same-length-3 c = search needs
 
 returns-3 : tie.Need-returns-3
 returns-3 c =
@@ -56,13 +35,13 @@ pub show-file-spec : {M : Type 1} → statement M
 show-file-spec =
     tie.close
     (tie.spec
-    rewrite-requires
-    enum-known-n
-    enum-known-r
-    same-length
+    (λ c κs. search needs)
+    (λ c. search needs)
+    (λ c. search needs)
+    (λ c. search needs)
     returns
-    refused-requires
-    same-length-2
+    (λ c κs. search needs)
+    (λ c. search needs)
     returns-2
-    same-length-3
+    (λ c. search needs)
     returns-3)

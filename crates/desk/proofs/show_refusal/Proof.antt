@@ -8,23 +8,8 @@ use borrow.Author.Needs.{needs}
 use Rattle.desk.proofs.show_refusal.Statement.{statement}
 use Rattle.desk.proofs.show_refusal.Tie as tie
 
-read-requires : tie.Need-read-requires
-read-requires c κs = search needs
-
-enum-known-answer : tie.Need-enum-known-answer
-enum-known-answer c = search needs
-
-refused-requires : tie.Need-refused-requires
-refused-requires c κs = search needs
-
 enum-told : tie.Need-enum-told
 enum-told c = search needs
-
-fine-requires : tie.Need-fine-requires
-fine-requires c κs = search needs
-
-same-length : tie.Need-same-length
-same-length c = search needs
 
 -- what is shown of an answer is what is shown of the file that has it
 said : (f : tie.After-read) (k : Checked) → f .read .result .answer ≡ k → refusalAs k ≡ shownRefusal (now (f .before .before .before .args .bytes))
@@ -40,9 +25,6 @@ returns c =
     let e = said f _ (a .answer .given .1) in
     (r .refused .ensures .0 ∙ ap (λ t. put (now (s .args .out)) 0 t .0) e, r .refused .ensures .1 ∙ ap (λ t. put (now (s .args .out)) 0 t .1) e)
 
-same-length-2 : tie.Need-same-length-2
-same-length-2 c = search needs
-
 returns-2 : tie.Need-returns-2
 returns-2 c =
     let r = c .before .before in
@@ -56,12 +38,12 @@ pub show-refusal-spec : {M : Type 1} → statement M
 show-refusal-spec =
     tie.close
     (tie.spec
-    read-requires
-    enum-known-answer
-    refused-requires
+    (λ c κs. search needs)
+    (λ c. search needs)
+    (λ c κs. search needs)
     enum-told
-    fine-requires
-    same-length
+    (λ c κs. search needs)
+    (λ c. search needs)
     returns
-    same-length-2
+    (λ c. search needs)
     returns-2)

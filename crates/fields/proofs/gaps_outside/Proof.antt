@@ -16,38 +16,8 @@ use borrow.Author.Needs.{needs}
 use Rattle.fields.proofs.gaps_outside.Statement.{statement}
 use Rattle.fields.proofs.gaps_outside.Tie as tie
 
-cast-most : tie.Need-cast-most
-cast-most c = search needs
-
-mul-at : tie.Need-mul-at
-mul-at c = search needs
-
-add-at : tie.Need-add-at
-add-at c = search needs
-
-add-words-outside : tie.Need-add-words-outside
-add-words-outside c = search needs
-
-mul-words-outside : tie.Need-mul-words-outside
-mul-words-outside c = search needs
-
-sub-words-outside : tie.Need-sub-words-outside
-sub-words-outside c = search needs
-
-part-words-outside-start : tie.Need-part-words-outside-start
-part-words-outside-start c = search needs
-
-part-words-outside-end : tie.Need-part-words-outside-end
-part-words-outside-end c = search needs
-
-array-share-prefix-least : tie.Need-array-share-prefix-least
-array-share-prefix-least c = search needs
-
 slice-aggregate-words-outside : tie.Need-slice-aggregate-words-outside
 slice-aggregate-words-outside c = sym (length-take-le _ _ (omega arith))
-
-array-share-prefix-most : tie.Need-array-share-prefix-most
-array-share-prefix-most c = search needs
 
 slice-aggregate-words-outside-2 : tie.Need-slice-aggregate-words-outside-2
 slice-aggregate-words-outside-2 c = sym (length-take-le _ _ (omega arith))
@@ -76,17 +46,17 @@ pub gaps-outside-spec : {M : Type 1} → statement M
 gaps-outside-spec =
     tie.close
     (tie.spec
-    cast-most
-    mul-at
-    add-at
-    add-words-outside
-    mul-words-outside
-    sub-words-outside
-    part-words-outside-start
-    part-words-outside-end
-    array-share-prefix-least
+    (λ c. search needs)
+    (λ c. search needs)
+    (λ c. search needs)
+    (λ c. search needs)
+    (λ c. search needs)
+    (λ c. search needs)
+    (λ c. search needs)
+    (λ c. search needs)
+    (λ c. search needs)
     slice-aggregate-words-outside
-    array-share-prefix-most
+    (λ c. search needs)
     slice-aggregate-words-outside-2
     words-outside-requires
     returns)

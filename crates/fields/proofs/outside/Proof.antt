@@ -35,15 +35,6 @@ streams-are c =
     let ws = now (s .before .args .words) in
     ap (λ k. lowest (layout.streamAt 0) (flatMap (streamFields (timingIn ws .nb)) (rows k (λ r. streamIn ws (layout.streamAt r))))) (sym (s .smaller .ensures)) ∙ sym (c .streams-outside .ensures)
 
-smaller-requires : tie.Need-smaller-requires
-smaller-requires c κs = search needs
-
-timing-outside-requires : tie.Need-timing-outside-requires
-timing-outside-requires c κs = search needs
-
-enum-known-p : tie.Need-enum-known-p
-enum-known-p c = search needs
-
 returns : tie.Need-returns
 unfolding planIn
 returns c =
@@ -53,15 +44,6 @@ returns c =
 enum-told : tie.Need-enum-told
 enum-told c = search needs
 
-sub-nb : tie.Need-sub-nb
-sub-nb c = search needs
-
-mul-nb : tie.Need-mul-nb
-mul-nb c = search needs
-
-element-copy-out-nb : tie.Need-element-copy-out-nb
-element-copy-out-nb c = search needs
-
 streams-outside-requires : tie.Need-streams-outside-requires
 streams-outside-requires c κs =
     let t = c .before .before in
@@ -69,24 +51,12 @@ streams-outside-requires c κs =
     let timing = timingFields (timingIn (now (b .before .args .words))) in
     (search needs, (omega (arith, b .smaller .ensures), inside-if-within _ .0 (nothing-if-inside 0 timing .0 (timing-inside t) 8 (omega arith)) .1))
 
-enum-known-p-2 : tie.Need-enum-known-p-2
-enum-known-p-2 c = search needs
-
 returns-2 : tie.Need-returns-2
 unfolding planIn
 returns-2 c =
     let q = c .before .before .before in
     let t = q .before .before .before in
     sym (streams-here (asked (t .before .before .before .before .before)) (timing-inside t) _ (streams-are q ∙ c .before .p2 .given .1))
-
-enum-told-2 : tie.Need-enum-told-2
-enum-told-2 c = search needs
-
-smaller-requires-2 : tie.Need-smaller-requires-2
-smaller-requires-2 c κs = search needs
-
-gaps-outside-requires : tie.Need-gaps-outside-requires
-gaps-outside-requires c κs = search needs
 
 returns-3 : tie.Need-returns-3
 unfolding planIn
@@ -106,18 +76,18 @@ pub outside-spec : {M : Type 1} → statement M
 outside-spec =
     tie.close
     (tie.spec
-    smaller-requires
-    timing-outside-requires
-    enum-known-p
+    (λ c κs. search needs)
+    (λ c κs. search needs)
+    (λ c. search needs)
     returns
     enum-told
-    sub-nb
-    mul-nb
-    element-copy-out-nb
+    (λ c. search needs)
+    (λ c. search needs)
+    (λ c. search needs)
     streams-outside-requires
-    enum-known-p-2
+    (λ c. search needs)
     returns-2
-    enum-told-2
-    smaller-requires-2
-    gaps-outside-requires
+    (λ c. search needs)
+    (λ c κs. search needs)
+    (λ c κs. search needs)
     returns-3)

@@ -26,12 +26,12 @@ inWords words n = rows n (λ k. streamIn words (layout.streamAt k))
 
 -- stream r of them, found as its six words with their limits beside them
 module _ (words : List ℕ) (n nb r : ℕ) {top : ℕ} (h : r < n) (long : layout.streamAt n ≤ length words) (e : top ≡ 2 ^ nb - 1) where
-  stream-found : lowest (layout.streamAt r) (fieldsOf (take (layout.streamAt r + layout.stream - layout.streamAt r) (drop (layout.streamAt r) words)) (0 ∷ 0 ∷ 1 ∷ 0 ∷ 1 ∷ 1 ∷ []) (ticks ∷ top ∷ ticks ∷ ticks ∷ payload ∷ ticks ∷ []))
+  stream-found : lowest (layout.streamAt r) (fieldsOf (take (layout.streamAt r + layout.streamLength - layout.streamAt r) (drop (layout.streamAt r) words)) (0 ∷ 0 ∷ 1 ∷ 0 ∷ 1 ∷ 1 ∷ []) (ticks ∷ top ∷ ticks ∷ ticks ∷ payload ∷ ticks ∷ []))
       ≡ lowest (layout.streamAt r) (streamFields nb (getD (inWords words n) r blank))
   unfolding fieldsOf
   stream-found =
       let at = layout.streamAt r in
-      let part : at + layout.stream - at ≡ layout.stream = omega arith in
+      let part : at + layout.streamLength - at ≡ layout.streamLength = omega arith in
       let row : getD (inWords words n) r blank ≡ streamIn words at = ap (λ l. getD l r blank) (sym (append-nil (inWords words n))) ∙ rows-front (λ k. streamIn words (layout.streamAt k)) [] blank n r h in
       rw (part, e, row, ← six-back words at (omega arith)) refl
 
@@ -44,47 +44,8 @@ Inv-loop words n nb any least most r₀ r =
 abbrev μ-loop : tie.MeasureT-loop
 μ-loop words n nb any least most r₀ r = n - r
 
-cast-any : tie.Need-cast-any Inv-loop μ-loop
-cast-any c = search needs
-
-largest-priority-requires : tie.Need-largest-priority-requires Inv-loop μ-loop
-largest-priority-requires c κs = search needs
-
 loop-holds : tie.Need-loop-holds Inv-loop μ-loop
 loop-holds c = (omega arith, refl)
-
-mul-at : tie.Need-mul-at Inv-loop μ-loop
-mul-at c = search needs
-
-add-at : tie.Need-add-at Inv-loop μ-loop
-add-at c = search needs
-
-add-words-outside : tie.Need-add-words-outside Inv-loop μ-loop
-add-words-outside c = search needs
-
-mul-words-outside : tie.Need-mul-words-outside Inv-loop μ-loop
-mul-words-outside c = search needs
-
-sub-words-outside : tie.Need-sub-words-outside Inv-loop μ-loop
-sub-words-outside c = search needs
-
-part-words-outside-start : tie.Need-part-words-outside-start Inv-loop μ-loop
-part-words-outside-start c = search needs
-
-part-words-outside-end : tie.Need-part-words-outside-end Inv-loop μ-loop
-part-words-outside-end c = search needs
-
-slice-aggregate-words-outside : tie.Need-slice-aggregate-words-outside Inv-loop μ-loop
-slice-aggregate-words-outside c = search needs
-
-slice-aggregate-words-outside-2 : tie.Need-slice-aggregate-words-outside-2 Inv-loop μ-loop
-slice-aggregate-words-outside-2 c = search needs
-
-words-outside-requires : tie.Need-words-outside-requires Inv-loop μ-loop
-words-outside-requires c κs = search needs
-
-enum-known-p : tie.Need-enum-known-p Inv-loop μ-loop
-enum-known-p c = search needs
 
 returns : tie.Need-returns Inv-loop μ-loop
 returns c =
@@ -98,12 +59,6 @@ returns c =
 
 enum-told : tie.Need-enum-told Inv-loop μ-loop
 enum-told c = search needs
-
-add-r : tie.Need-add-r Inv-loop μ-loop
-add-r c = search needs
-
-loop-less : tie.Need-loop-less Inv-loop μ-loop
-loop-less c = search needs
 
 loop-again : tie.Need-loop-again Inv-loop μ-loop
 loop-again c =
@@ -130,23 +85,23 @@ streams-outside-spec =
     (tie.spec
     Inv-loop
     μ-loop
-    cast-any
-    largest-priority-requires
+    (λ c. search needs)
+    (λ c κs. search needs)
     loop-holds
-    mul-at
-    add-at
-    add-words-outside
-    mul-words-outside
-    sub-words-outside
-    part-words-outside-start
-    part-words-outside-end
-    slice-aggregate-words-outside
-    slice-aggregate-words-outside-2
-    words-outside-requires
-    enum-known-p
+    (λ c. search needs)
+    (λ c. search needs)
+    (λ c. search needs)
+    (λ c. search needs)
+    (λ c. search needs)
+    (λ c. search needs)
+    (λ c. search needs)
+    (λ c. search needs)
+    (λ c. search needs)
+    (λ c κs. search needs)
+    (λ c. search needs)
     returns
     enum-told
-    add-r
-    loop-less
+    (λ c. search needs)
+    (λ c. search needs)
     loop-again
     returns-2)

@@ -11,57 +11,6 @@ use Rattle.outside.proofs.again.Tie as tie
 abbrev by : Reason → Weighed
 by r = weighed (RunAgain r)
 
-enum-known-reason : tie.Need-enum-known-reason
-enum-known-reason c = search needs
-
-broken-requires : tie.Need-broken-requires
-broken-requires c κs = search needs
-
-enum-known-reason-2 : tie.Need-enum-known-reason-2
-enum-known-reason-2 c = search needs
-
-by-label-requires : tie.Need-by-label-requires
-by-label-requires c κs = search needs
-
-enum-known-reason-3 : tie.Need-enum-known-reason-3
-enum-known-reason-3 c = search needs
-
-by-label-requires-2 : tie.Need-by-label-requires-2
-by-label-requires-2 c κs = search needs
-
-enum-known-reason-4 : tie.Need-enum-known-reason-4
-enum-known-reason-4 c = search needs
-
-by-label-requires-3 : tie.Need-by-label-requires-3
-by-label-requires-3 c κs = search needs
-
-enum-known-reason-5 : tie.Need-enum-known-reason-5
-enum-known-reason-5 c = search needs
-
-by-label-requires-4 : tie.Need-by-label-requires-4
-by-label-requires-4 c κs = search needs
-
-enum-known-reason-6 : tie.Need-enum-known-reason-6
-enum-known-reason-6 c = search needs
-
-by-label-requires-5 : tie.Need-by-label-requires-5
-by-label-requires-5 c κs = search needs
-
-enum-known-reason-7 : tie.Need-enum-known-reason-7
-enum-known-reason-7 c = search needs
-
-by-label-requires-6 : tie.Need-by-label-requires-6
-by-label-requires-6 c κs = search needs
-
-enum-known-reason-8 : tie.Need-enum-known-reason-8
-enum-known-reason-8 c = search needs
-
-cast-broken : tie.Need-cast-broken
-cast-broken c = search needs
-
-broken-requires-2 : tie.Need-broken-requires-2
-broken-requires-2 c κs = search needs
-
 returns : tie.Need-returns
 returns c = c .broken .ensures ∙ ap by (sym (c .before .before .reason .given .1))
 
@@ -90,23 +39,23 @@ pub again-spec : {M : Type 1} → statement M
 again-spec =
     tie.close
     (tie.spec
-    enum-known-reason
-    broken-requires
-    enum-known-reason-2
-    by-label-requires
-    enum-known-reason-3
-    by-label-requires-2
-    enum-known-reason-4
-    by-label-requires-3
-    enum-known-reason-5
-    by-label-requires-4
-    enum-known-reason-6
-    by-label-requires-5
-    enum-known-reason-7
-    by-label-requires-6
-    enum-known-reason-8
-    cast-broken
-    broken-requires-2
+    (λ c. search needs)
+    (λ c κs. search needs)
+    (λ c. search needs)
+    (λ c κs. search needs)
+    (λ c. search needs)
+    (λ c κs. search needs)
+    (λ c. search needs)
+    (λ c κs. search needs)
+    (λ c. search needs)
+    (λ c κs. search needs)
+    (λ c. search needs)
+    (λ c κs. search needs)
+    (λ c. search needs)
+    (λ c κs. search needs)
+    (λ c. search needs)
+    (λ c. search needs)
+    (λ c κs. search needs)
     returns
     returns-2
     returns-3

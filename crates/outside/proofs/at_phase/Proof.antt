@@ -4,15 +4,6 @@ use borrow.Author.Needs.{needs}
 use Rattle.outside.proofs.at_phase.Statement.{statement}
 use Rattle.outside.proofs.at_phase.Tie as tie
 
-enum-known-phase : tie.Need-enum-known-phase
-enum-known-phase c = search needs
-
-cast-t7 : tie.Need-cast-t7
-cast-t7 c = search needs
-
-enum-known-phase-2 : tie.Need-enum-known-phase-2
-enum-known-phase-2 c = search needs
-
 enum-told : tie.Need-enum-told
 enum-told c = search needs
 
@@ -28,4 +19,4 @@ returns-3 c = rw (c .enum-told .given .1) refl
 pub at-phase-spec : {M : Type 1} → statement M
 at-phase-spec =
     tie.close
-    (tie.spec enum-known-phase cast-t7 enum-known-phase-2 enum-told returns returns-2 returns-3)
+    (tie.spec (λ c. search needs) (λ c. search needs) (λ c. search needs) enum-told returns returns-2 returns-3)

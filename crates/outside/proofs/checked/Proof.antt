@@ -8,15 +8,6 @@ use Rattle.outside.proofs.checked.Tie as tie
 enum-told : tie.Need-enum-told
 enum-told c = search needs
 
-done-requires : tie.Need-done-requires
-done-requires c κs = search needs
-
-enum-known-verdict : tie.Need-enum-known-verdict
-enum-known-verdict c = search needs
-
-refused-requires : tie.Need-refused-requires
-refused-requires c κs = search needs
-
 returns : tie.Need-returns
 returns c = c .done .ensures ∙ ap number.checked (sym (c .before .enum-told .given .1))
 
@@ -25,4 +16,4 @@ returns-2 c = c .refused .ensures ∙ ap number.checked (sym (c .before .before 
 
 pub checked-spec : {M : Type 1} → statement M
 checked-spec =
-    tie.close (tie.spec enum-told done-requires enum-known-verdict refused-requires returns returns-2)
+    tie.close (tie.spec enum-told (λ c κs. search needs) (λ c. search needs) (λ c κs. search needs) returns returns-2)

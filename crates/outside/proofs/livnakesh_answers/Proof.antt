@@ -5,15 +5,6 @@ use Rattle.outside.specs.Outside.{checked}
 use Rattle.outside.proofs.livnakesh_answers.Statement.{statement}
 use Rattle.outside.proofs.livnakesh_answers.Tie as tie
 
-answer-file-requires : tie.Need-answer-file-requires
-answer-file-requires c κs = search needs
-
-checked-requires : tie.Need-checked-requires
-checked-requires c κs = search needs
-
-same-length : tie.Need-same-length
-same-length c = search needs
-
 returns : tie.Need-returns
 returns c =
     let e = c .before .before .before .answer-file .ensures in
@@ -21,4 +12,4 @@ returns c =
 
 pub livnakesh-answers-spec : {M : Type 1} → statement M
 livnakesh-answers-spec =
-    tie.close (tie.spec answer-file-requires checked-requires same-length returns)
+    tie.close (tie.spec (λ c κs. search needs) (λ c κs. search needs) (λ c. search needs) returns)

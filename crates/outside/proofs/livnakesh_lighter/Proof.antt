@@ -5,29 +5,8 @@ use Rattle.outside.specs.Outside.{weighed}
 use Rattle.outside.proofs.livnakesh_lighter.Statement.{statement}
 use Rattle.outside.proofs.livnakesh_lighter.Tie as tie
 
-lighter-files-requires : tie.Need-lighter-files-requires
-lighter-files-requires c κs = search needs
-
 enum-told : tie.Need-enum-told
 enum-told c = search needs
-
-enum-known-r : tie.Need-enum-known-r
-enum-known-r c = search needs
-
-not-weighed-requires : tie.Need-not-weighed-requires
-not-weighed-requires c κs = search needs
-
-enum-known-r-2 : tie.Need-enum-known-r-2
-enum-known-r-2 c = search needs
-
-not-weighed-requires-2 : tie.Need-not-weighed-requires-2
-not-weighed-requires-2 c κs = search needs
-
-enum-known-reason : tie.Need-enum-known-reason
-enum-known-reason c = search needs
-
-again-requires : tie.Need-again-requires
-again-requires c κs = search needs
 
 returns : tie.Need-returns
 returns c = ap weighed (sym (sym (c .before .before .lighter-files .ensures .is) ∙ c .enum-told .given .1))
@@ -45,14 +24,14 @@ pub livnakesh-lighter-spec : {M : Type 1} → statement M
 livnakesh-lighter-spec =
     tie.close
     (tie.spec
-    lighter-files-requires
+    (λ c κs. search needs)
     enum-told
-    enum-known-r
-    not-weighed-requires
-    enum-known-r-2
-    not-weighed-requires-2
-    enum-known-reason
-    again-requires
+    (λ c. search needs)
+    (λ c κs. search needs)
+    (λ c. search needs)
+    (λ c κs. search needs)
+    (λ c. search needs)
+    (λ c κs. search needs)
     returns
     returns-2
     returns-3

@@ -7,26 +7,11 @@ use Rattle.outside.proofs.Fewer.{start-fewer, start-enough}
 use Rattle.outside.proofs.livnakesh_start.Statement.{statement}
 use Rattle.outside.proofs.livnakesh_start.Tie as tie
 
-at-phase-requires : tie.Need-at-phase-requires
-at-phase-requires c κs = search needs
-
 returns : tie.Need-returns
 returns c =
     let a = c .before .before .before .before .args in
     let e = sym (start-fewer (a .bits) (now (a .priorities)) (now (a .marks)) (c .before .if1 .taken)) in
     (c .at-phase .ensures ∙ ap steppedBy e, ap (λ o. startBytes o (now (a .marks))) e)
-
-priorities-from-requires : tie.Need-priorities-from-requires
-priorities-from-requires c κs = search needs
-
-start-requires : tie.Need-start-requires
-start-requires c κs = search needs
-
-begun-requires : tie.Need-begun-requires
-begun-requires c κs = search needs
-
-same-length : tie.Need-same-length
-same-length c = search needs
 
 returns-2 : tie.Need-returns-2
 returns-2 c =
@@ -40,10 +25,10 @@ pub livnakesh-start-spec : {M : Type 1} → statement M
 livnakesh-start-spec =
     tie.close
     (tie.spec
-    at-phase-requires
+    (λ c κs. search needs)
     returns
-    priorities-from-requires
-    start-requires
-    begun-requires
-    same-length
+    (λ c κs. search needs)
+    (λ c κs. search needs)
+    (λ c κs. search needs)
+    (λ c. search needs)
     returns-2)

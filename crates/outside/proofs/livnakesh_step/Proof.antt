@@ -8,15 +8,6 @@ use Rattle.outside.proofs.Fewer.{six, step-fewer, step-enough}
 use Rattle.outside.proofs.livnakesh_step.Statement.{statement}
 use Rattle.outside.proofs.livnakesh_step.Tie as tie
 
-state-from-requires : tie.Need-state-from-requires
-state-from-requires c κs = search needs
-
-at-phase-requires : tie.Need-at-phase-requires
-at-phase-requires c κs = search needs
-
-same-length : tie.Need-same-length
-same-length c = search needs
-
 returns : tie.Need-returns
 returns c =
     let f = c .before .before in
@@ -25,15 +16,6 @@ returns c =
       c .at-phase .ensures ∙ ap (λ (t : Tournament). steppedBy (six t)) (f .state-from .ensures) ∙ ap steppedBy e,
       ap (λ o. stepBytes o (now (a .marks))) e,
     )
-
-step-requires : tie.Need-step-requires
-step-requires c κs = search needs
-
-gone-on-requires : tie.Need-gone-on-requires
-gone-on-requires c κs = search needs
-
-same-length-2 : tie.Need-same-length-2
-same-length-2 c = search needs
 
 returns-2 : tie.Need-returns-2
 returns-2 c =
@@ -47,11 +29,11 @@ pub livnakesh-step-spec : {M : Type 1} → statement M
 livnakesh-step-spec =
     tie.close
     (tie.spec
-    state-from-requires
-    at-phase-requires
-    same-length
+    (λ c κs. search needs)
+    (λ c κs. search needs)
+    (λ c. search needs)
     returns
-    step-requires
-    gone-on-requires
-    same-length-2
+    (λ c κs. search needs)
+    (λ c κs. search needs)
+    (λ c. search needs)
     returns-2)

@@ -18,34 +18,10 @@ wrote w =
     let e = ap (λ ws. writeWith (a .n) (a .m) (planIn (a .n) (a .m) ws) (now (a .out))) (f .words-from .ensures) ∙ values-written (a .n) (a .m) (now (a .values)) (now (a .out)) in
     (w .write-words .ensures .0 ∙ ap (λ p. p .0) e, w .write-words .ensures .1 ∙ ap (λ p. p .1) e)
 
-words-from-requires : tie.Need-words-from-requires
-words-from-requires c κs = search needs
-
-write-words-requires : tie.Need-write-words-requires
-write-words-requires c κs = search needs
-
-enum-known-bytes : tie.Need-enum-known-bytes
-enum-known-bytes c = search needs
-
-done-requires : tie.Need-done-requires
-done-requires c κs = search needs
-
-enum-known-r : tie.Need-enum-known-r
-enum-known-r c = search needs
-
-refused-requires : tie.Need-refused-requires
-refused-requires c κs = search needs
-
-same-length : tie.Need-same-length
-same-length c = search needs
-
 returns : tie.Need-returns
 returns c =
     let (r, b) = wrote (c .before .before .before .before .before .before) in
     (c .done .ensures ∙ ap written (sym (sym r ∙ c .before .before .bytes .given .1)), b)
-
-same-length-2 : tie.Need-same-length-2
-same-length-2 c = search needs
 
 returns-2 : tie.Need-returns-2
 returns-2 c =
@@ -56,13 +32,13 @@ pub livnakesh-write-spec : {M : Type 1} → statement M
 livnakesh-write-spec =
     tie.close
     (tie.spec
-    words-from-requires
-    write-words-requires
-    enum-known-bytes
-    done-requires
-    enum-known-r
-    refused-requires
-    same-length
+    (λ c κs. search needs)
+    (λ c κs. search needs)
+    (λ c. search needs)
+    (λ c κs. search needs)
+    (λ c. search needs)
+    (λ c κs. search needs)
+    (λ c. search needs)
     returns
-    same-length-2
+    (λ c. search needs)
     returns-2)

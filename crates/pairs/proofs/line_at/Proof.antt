@@ -11,14 +11,8 @@ use Rattle.pairs.proofs.line_at.Tie as tie
 returns : tie.Need-returns
 returns c = sym (over (now (c .before .before .args .text)) (c .before .before .args .at) (omega arith))
 
-place-of-requires : tie.Need-place-of-requires
-place-of-requires c κs = search needs
-
 slice-aggregate-names-in : tie.Need-slice-aggregate-names-in
 slice-aggregate-names-in c = sym (length-take-le _ _ (c .before .before .place-of .ensures .1))
-
-add-names-in : tie.Need-add-names-in
-add-names-in c = search needs
 
 names-in-requires : tie.Need-names-in-requires
 names-in-requires c κs =
@@ -31,9 +25,6 @@ returns-2 c =
     let a = p .before .before .before .args in
     c .names-in .ensures ∙ ended (now (a .text)) (a .at) (omega arith) (p .place-of .result) (p .place-of .ensures .0) (omega arith)
 
-names-in-requires-2 : tie.Need-names-in-requires-2
-names-in-requires-2 c κs = search needs
-
 returns-3 : tie.Need-returns-3
 returns-3 c =
     let p = c .before .before in
@@ -45,10 +36,10 @@ line-at-spec =
     tie.close
     (tie.spec
     returns
-    place-of-requires
+    (λ c κs. search needs)
     slice-aggregate-names-in
-    add-names-in
+    (λ c. search needs)
     names-in-requires
     returns-2
-    names-in-requires-2
+    (λ c κs. search needs)
     returns-3)

@@ -5,14 +5,12 @@ use Prim.Native.Nat.{ℕ, _+_, _≤_, _<_}
 use native.Mathlib.Omega.{arith}
 use denote.Ref.{now}
 use lib.ListN.{length, drop}
-use Rattle.pairs.specs.Pairs.{before, space, secondName}
+use Rattle.ascii.specs.Ascii.{space}
+use Rattle.pairs.specs.Pairs.{before, secondName}
 use Rattle.pairs.proofs.Laws.{length-rest, no-first, no-second, other-space, two-names, after-space}
 use borrow.Author.Needs.{needs}
 use Rattle.pairs.proofs.names_in.Statement.{statement}
 use Rattle.pairs.proofs.names_in.Tie as tie
-
-place-of-requires : tie.Need-place-of-requires
-place-of-requires c κs = search needs
 
 -- what the code has once the first space is looked for: the line, and that its names are parted there
 abbrev line-at : tie.After-place-of → List ℕ
@@ -47,17 +45,11 @@ returns-2 c =
     let a = w .before .before .args in
     sym (no-second (line-at w) (a .at) (a .next) (omega (arith, long w, w .place-of .ensures .0)))
 
-add-second : tie.Need-add-second
-add-second c = search needs
-
 returns-3 : tie.Need-returns-3
 returns-3 c =
     let w = c .before .before .before in
     let a = w .before .before .args in
     sym (no-second (line-at w) (a .at) (a .next) (omega (arith, long w, w .place-of .ensures .0)))
-
-place-of-requires-2 : tie.Need-place-of-requires-2
-place-of-requires-2 c κs = search needs
 
 returns-4 : tie.Need-returns-4
 returns-4 c =
@@ -80,11 +72,11 @@ pub names-in-spec : {M : Type 1} → statement M
 names-in-spec =
     tie.close
     (tie.spec
-    place-of-requires
+    (λ c κs. search needs)
     returns
     returns-2
-    add-second
+    (λ c. search needs)
     returns-3
-    place-of-requires-2
+    (λ c κs. search needs)
     returns-4
     returns-5)

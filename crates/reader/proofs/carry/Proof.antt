@@ -18,29 +18,14 @@ use Rattle.reader.proofs.carry.Tie as tie
 long : (c : tie.After-enum-told2) → layout.byteOf 0 ≤ length (now (c .before .before .before .before .args .bytes))
 long c = omega (arith, counts-size _ _ _ (sym (c .before .before .counts .ensures) ∙ c .enum-told2 .given .1))
 
-counts-requires : tie.Need-counts-requires
-counts-requires c κs = search needs
-
 enum-told : tie.Need-enum-told
 enum-told c = search needs
-
-enum-told-2 : tie.Need-enum-told-2
-enum-told-2 c = search needs
-
-mul-words-into : tie.Need-mul-words-into
-mul-words-into c = search needs
 
 sub-words-into : tie.Need-sub-words-into
 sub-words-into c = long c
 
 part-words-into-start : tie.Need-part-words-into-start
 part-words-into-start c = omega (arith, long c)
-
-part-words-into-end : tie.Need-part-words-into-end
-part-words-into-end c = search needs
-
-words-into-requires : tie.Need-words-into-requires
-words-into-requires c κs = search needs
 
 returns : tie.Need-returns
 returns c =
@@ -59,7 +44,7 @@ returns-2 c =
       said,
       c .words-into .ensures
           ∙ ap (λ l. laidOnto (wordsOf l) ws) all
-          ∙ ap (λ l. laidOnto l ws) (drop-words layout.contents bs)
+          ∙ ap (λ l. laidOnto l ws) (drop-words layout.contentsLength bs)
           ∙ ap (λ r. carriedAs r bs ws) (sym (t .enum-told2 .given .1) ∙ said),
     )
 
@@ -67,13 +52,13 @@ pub carry-spec : {M : Type 1} → statement M
 carry-spec =
     tie.close
     (tie.spec
-    counts-requires
+    (λ c κs. search needs)
     enum-told
-    enum-told-2
-    mul-words-into
+    (λ c. search needs)
+    (λ c. search needs)
     sub-words-into
     part-words-into-start
-    part-words-into-end
-    words-into-requires
+    (λ c. search needs)
+    (λ c κs. search needs)
     returns
     returns-2)

@@ -32,13 +32,13 @@ module _ (bs : List ℕ) where
   right-size h k = simp (le-leb (layout.byteOf 0) (length bs) h, le-leb (length bs) (layout.size streams sources) k)
 
   module _ (n m : ℕ) where
-    wrong-words : same (take layout.contents (wordsOf bs)) (contents n m) ≡ false → contentsRight n m bs ≡ false
+    wrong-words : same (take layout.contentsLength (wordsOf bs)) (contents n m) ≡ false → contentsRight n m bs ≡ false
     wrong-words e = rw e refl
 
     wrong-end : (length bs ≡ layout.size n m → ⊥) → contentsRight n m bs ≡ false
     wrong-end h = simp (ne-eqb (length bs) (layout.size n m) h, and-false)
 
-    right-contents : same (take layout.contents (wordsOf bs)) (contents n m) ≡ true → length bs ≡ layout.size n m → contentsRight n m bs ≡ true
+    right-contents : same (take layout.contentsLength (wordsOf bs)) (contents n m) ≡ true → length bs ≡ layout.size n m → contentsRight n m bs ≡ true
     right-contents e h = rw e (eq-eqb (length bs) (layout.size n m) h)
 
 -- the file's length is that of a file
@@ -50,14 +50,14 @@ abbrev bs-at : tie.After-word-at2 → List ℕ
 bs-at w = now (w .before .before .before .before .before .before .args .bytes)
 
 abbrev n-at : tie.After-word-at2 → ℕ
-n-at w = w .before .word-at .result / (layout.word * layout.stream)
+n-at w = w .before .word-at .result / (layout.word * layout.streamLength)
 
 abbrev m-at : tie.After-word-at2 → ℕ
 m-at w = w .word-at2 .result / layout.word
 
 -- they are those that the contents state
 n-is : (w : tie.After-word-at2) → countIn (wordsOf (bs-at w)) ≡ n-at w
-n-is w = ap (λ x. x / (layout.word * layout.stream)) (sym (w .before .word-at .ensures))
+n-is w = ap (λ x. x / (layout.word * layout.streamLength)) (sym (w .before .word-at .ensures))
 
 m-is : (w : tie.After-word-at2) → sourcesIn (wordsOf (bs-at w)) ≡ m-at w
 m-is w = ap (λ x. x / layout.word) (sym (w .word-at2 .ensures))
@@ -79,57 +79,15 @@ three t = sym (t .before .before .check-counts .ensures) ∙ t .enum-told .given
 few : (t : tie.After-enum-told) → let w = t .before .before .before in (1 ≤ n-at w) × (n-at w ≤ streams) × (m-at w ≤ sources)
 few t = let w = t .before .before .before in fine-range (n-at w) (m-at w) (three t)
 
-mul-if1 : tie.Need-mul-if1
-mul-if1 c = search needs
-
-refused-counts-requires : tie.Need-refused-counts-requires
-refused-counts-requires c κs = search needs
-
 returns : tie.Need-returns
 returns c =
     let b = now (c .before .before .before .args .bytes) in
     c .refused-counts .ensures ∙ sym (said-size b (too-short b (c .before .if1 .taken)))
 
-cast-size : tie.Need-cast-size
-cast-size c = search needs
-
-cast-size-2 : tie.Need-cast-size-2
-cast-size-2 c = search needs
-
-size-requires : tie.Need-size-requires
-size-requires c κs = search needs
-
-refused-counts-requires-2 : tie.Need-refused-counts-requires-2
-refused-counts-requires-2 c κs = search needs
-
 returns-2 : tie.Need-returns-2
 returns-2 c =
     let b = now (c .before .before .before .before .before .args .bytes) in
     c .refused-counts2 .ensures ∙ sym (said-size b (too-long b (omega (arith, c .before .before .size .ensures, c .before .if2 .taken))))
-
-word-at-requires : tie.Need-word-at-requires
-word-at-requires c κs = search needs
-
-cast-n : tie.Need-cast-n
-cast-n c = search needs
-
-mul-n : tie.Need-mul-n
-mul-n c = search needs
-
-div-n : tie.Need-div-n
-div-n c = search needs
-
-word-at-requires-2 : tie.Need-word-at-requires-2
-word-at-requires-2 c κs = search needs
-
-cast-m : tie.Need-cast-m
-cast-m c = search needs
-
-check-counts-requires : tie.Need-check-counts-requires
-check-counts-requires c κs = search needs
-
-enum-known-r : tie.Need-enum-known-r
-enum-known-r c = search needs
 
 returns-3 : tie.Need-returns-3
 returns-3 c =
@@ -143,9 +101,6 @@ enum-told c = search needs
 contents-in-requires : tie.Need-contents-in-requires
 contents-in-requires c κs = let (some, n, m) = few c in (n, (m, search needs))
 
-refused-counts-requires-3 : tie.Need-refused-counts-requires-3
-refused-counts-requires-3 c κs = search needs
-
 returns-4 : tie.Need-returns-4
 returns-4 c =
     let k = c .before .before in
@@ -158,12 +113,6 @@ cast-size-3 c = omega (arith, few (c .before .before) .1)
 
 cast-size-4 : tie.Need-cast-size-4
 cast-size-4 c = omega (arith, few (c .before .before) .2)
-
-size-requires-2 : tie.Need-size-requires-2
-size-requires-2 c κs = search needs
-
-refused-counts-requires-4 : tie.Need-refused-counts-requires-4
-refused-counts-requires-4 c κs = search needs
 
 returns-5 : tie.Need-returns-5
 returns-5 c =
@@ -181,30 +130,30 @@ pub counts-spec : {M : Type 1} → statement M
 counts-spec =
     tie.close
     (tie.spec
-    mul-if1
-    refused-counts-requires
+    (λ c. search needs)
+    (λ c κs. search needs)
     returns
-    cast-size
-    cast-size-2
-    size-requires
-    refused-counts-requires-2
+    (λ c. search needs)
+    (λ c. search needs)
+    (λ c κs. search needs)
+    (λ c κs. search needs)
     returns-2
-    word-at-requires
-    cast-n
-    mul-n
-    div-n
-    word-at-requires-2
-    cast-m
-    check-counts-requires
-    enum-known-r
+    (λ c κs. search needs)
+    (λ c. search needs)
+    (λ c. search needs)
+    (λ c. search needs)
+    (λ c κs. search needs)
+    (λ c. search needs)
+    (λ c κs. search needs)
+    (λ c. search needs)
     returns-3
     enum-told
     contents-in-requires
-    refused-counts-requires-3
+    (λ c κs. search needs)
     returns-4
     cast-size-3
     cast-size-4
-    size-requires-2
-    refused-counts-requires-4
+    (λ c κs. search needs)
+    (λ c κs. search needs)
     returns-5
     returns-6)

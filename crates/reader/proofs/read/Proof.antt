@@ -39,32 +39,8 @@ answered c =
     let plan = counts-plan (bs-at w) n m (said w) (w .before .before .carry .ensures .1) in
     counts-are (bs-at w) n m (said w) ∙ ap (λ p. readAs (judge (lines n m p)) p) (sym plan) ∙ ap (λ a. readAs a (planIn n m (w .before .before .carry .last .1 .0))) (sym (c .check-words .ensures))
 
-carry-requires : tie.Need-carry-requires
-carry-requires c κs = search needs
-
-enum-known-r : tie.Need-enum-known-r
-enum-known-r c = search needs
-
-refused-requires : tie.Need-refused-requires
-refused-requires c κs = search needs
-
-enum-known-n : tie.Need-enum-known-n
-enum-known-n c = search needs
-
-check-words-requires : tie.Need-check-words-requires
-check-words-requires c κs = search needs
-
 enum-told : tie.Need-enum-told
 enum-told c = search needs
-
-sheet-in-requires : tie.Need-sheet-in-requires
-sheet-in-requires c κs = search needs
-
-enum-known-r-2 : tie.Need-enum-known-r-2
-enum-known-r-2 c = search needs
-
-refused-requires-2 : tie.Need-refused-requires-2
-refused-requires-2 c κs = search needs
 
 returns : tie.Need-returns
 returns c =
@@ -96,15 +72,15 @@ pub read-spec : {M : Type 1} → statement M
 read-spec =
     tie.close
     (tie.spec
-    carry-requires
-    enum-known-r
-    refused-requires
-    enum-known-n
-    check-words-requires
+    (λ c κs. search needs)
+    (λ c. search needs)
+    (λ c κs. search needs)
+    (λ c. search needs)
+    (λ c κs. search needs)
     enum-told
-    sheet-in-requires
-    enum-known-r-2
-    refused-requires-2
+    (λ c κs. search needs)
+    (λ c. search needs)
+    (λ c κs. search needs)
     returns
     returns-2
     returns-3)

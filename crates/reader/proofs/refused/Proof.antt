@@ -6,11 +6,8 @@ use Rattle.carried.proofs.Plans.{no-sheet}
 use Rattle.reader.proofs.refused.Statement.{statement}
 use Rattle.reader.proofs.refused.Tie as tie
 
-sheet-in-requires : tie.Need-sheet-in-requires
-sheet-in-requires c κs = search needs
-
 returns : tie.Need-returns
 returns c = ap (λ s. record { answer = Refused (c .before .before .args .r); sheet = s }) (c .sheet-in .ensures ∙ no-sheet refl)
 
 pub refused-spec : {M : Type 1} → statement M
-refused-spec = tie.close (tie.spec sheet-in-requires returns)
+refused-spec = tie.close (tie.spec (λ c κs. search needs) returns)

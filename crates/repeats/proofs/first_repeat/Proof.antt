@@ -6,7 +6,7 @@ use Prim.Native.Nat.{ℕ, _+_, _-_, _%_}
 use native.Mathlib.Omega.{arith}
 use borrow.Author.Needs.{needs}
 use lib.ListN.{length}
-use Rattle.repeats.specs.Repeats.{repeatsAt, rowOf, firstRepeat}
+use Rattle.repeats.specs.Repeats.{repeatsAt, asRow, firstRepeat}
 use Rattle.laws.proofs.Rows.{NoneBelow, none-yet, none-more, found-at, found-none, some-none}
 use Rattle.repeats.proofs.first_repeat.Statement.{statement}
 use Rattle.repeats.proofs.first_repeat.Tie as tie
@@ -24,18 +24,12 @@ abbrev μ-loop : tie.MeasureT-loop
 loop-holds : tie.Need-loop-holds Inv-loop μ-loop
 loop-holds c = (omega arith, λ k h. some-none _ k 0 (none-yet _) (omega arith))
 
-stand-before-requires : tie.Need-stand-before-requires Inv-loop μ-loop
-stand-before-requires c κs = search needs
-
 returns : tie.Need-returns Inv-loop μ-loop
 unfolding firstRepeat
 returns c =
     let l = c .before .before .before in
     let xs = l .before .before .args .values .now in
-    ap rowOf (sym (found-at (repeatsAt xs) (length xs) (l .loop .i) (l .loop .inv .1) (search needs) (sym (c .before .stand-before .ensures .0) ∙ c .if1 .taken)))
-
-add-t7 : tie.Need-add-t7 Inv-loop μ-loop
-add-t7 c = search needs
+    ap asRow (sym (found-at (repeatsAt xs) (length xs) (l .loop .i) (l .loop .inv .1) (search needs) (sym (c .before .stand-before .ensures .0) ∙ c .if1 .taken)))
 
 returns-2 : tie.Need-returns-2 Inv-loop μ-loop
 unfolding firstRepeat
@@ -44,13 +38,7 @@ returns-2 c =
     let l = w .before .before in
     let xs = l .before .before .args .values .now in
     let none = behind (repeatsAt xs) (l .loop .i) (l .loop .inv .1) (w .stand-before .ensures .0) (c .before .if1 .left) in
-    ap rowOf (sym (found-at (repeatsAt xs) (length xs) (l .loop .i + 1) none (search needs) (sym (w .stand-before .ensures .1) ∙ c .if2 .taken)))
-
-add-i : tie.Need-add-i Inv-loop μ-loop
-add-i c = search needs
-
-loop-less : tie.Need-loop-less Inv-loop μ-loop
-loop-less c = search needs
+    ap asRow (sym (found-at (repeatsAt xs) (length xs) (l .loop .i + 1) none (search needs) (sym (w .stand-before .ensures .1) ∙ c .if2 .taken)))
 
 loop-again : tie.Need-loop-again Inv-loop μ-loop
 loop-again c =
@@ -65,7 +53,7 @@ unfolding firstRepeat
 returns-3 c =
     let xs = c .before .before .before .args .values .now in
     let l = c .before .loop in
-    ap rowOf (sym (found-none (repeatsAt xs) (length xs) (l .i) (l .inv .1) (search needs)))
+    ap asRow (sym (found-none (repeatsAt xs) (length xs) (l .i) (l .inv .1) (search needs)))
 
 pub first-repeat-spec : {M : Type 1} → statement M
 first-repeat-spec =
@@ -74,11 +62,11 @@ first-repeat-spec =
     Inv-loop
     μ-loop
     loop-holds
-    stand-before-requires
+    (λ c κs. search needs)
     returns
-    add-t7
+    (λ c. search needs)
     returns-2
-    add-i
-    loop-less
+    (λ c. search needs)
+    (λ c. search needs)
     loop-again
     returns-3)

@@ -29,49 +29,16 @@ Inv-loop text at₀ at = at ≤ length text
 abbrev μ-loop : tie.MeasureT-loop
 μ-loop text at₀ at = length text - at
 
-first-end-requires : tie.Need-first-end-requires Inv-loop μ-loop
-first-end-requires c κs = search needs
-
 slice-aggregate-show : tie.Need-slice-aggregate-show Inv-loop μ-loop
 slice-aggregate-show c =
     let f = c .before in
     let text = f .before .before .args .text .now in
     sym (length-take-le (f .first-end .result) text (omega (arith, f .first-end .ensures, end-within text)))
 
-show-requires : tie.Need-show-requires Inv-loop μ-loop
-show-requires c κs = search needs
-
 loop-holds : tie.Need-loop-holds Inv-loop μ-loop
 loop-holds c =
     let f = c .before .before in
     omega (arith, f .first-end .ensures, end-within (f .before .before .args .text .now))
-
-sub-has-word : tie.Need-sub-has-word Inv-loop μ-loop
-sub-has-word c = search needs
-
-part-has-word-start : tie.Need-part-has-word-start Inv-loop μ-loop
-part-has-word-start c = search needs
-
-part-has-word-end : tie.Need-part-has-word-end Inv-loop μ-loop
-part-has-word-end c = search needs
-
-has-word-requires : tie.Need-has-word-requires Inv-loop μ-loop
-has-word-requires c κs = search needs
-
-blank-line-requires : tie.Need-blank-line-requires Inv-loop μ-loop
-blank-line-requires c κs = search needs
-
-sub-first-end : tie.Need-sub-first-end Inv-loop μ-loop
-sub-first-end c = search needs
-
-part-first-end-start : tie.Need-part-first-end-start Inv-loop μ-loop
-part-first-end-start c = search needs
-
-part-first-end-end : tie.Need-part-first-end-end Inv-loop μ-loop
-part-first-end-end c = search needs
-
-first-end-requires-2 : tie.Need-first-end-requires-2 Inv-loop μ-loop
-first-end-requires-2 c κs = search needs
 
 reach : (c : tie.After-first-end2 Inv-loop μ-loop) → let l = c .before .before .before .before .before .before in l .loop .at + c .first-end2 .result ≤ length (l .before .before .before .before .before .args .text .now)
 reach c =
@@ -90,9 +57,6 @@ part-show-start c = omega arith
 part-show-end : tie.Need-part-show-end Inv-loop μ-loop
 part-show-end c = reach c
 
-show-requires-2 : tie.Need-show-requires-2 Inv-loop μ-loop
-show-requires-2 c κs = search needs
-
 loop-less : tie.Need-loop-less Inv-loop μ-loop
 loop-less c =
     let f = c .before .before in
@@ -103,33 +67,30 @@ loop-less c =
 loop-again : tie.Need-loop-again Inv-loop μ-loop
 loop-again c = reach (c .before .before)
 
-returns : tie.Need-returns Inv-loop μ-loop
-returns c = search needs
-
 pub show-all-spec : {M : Type 1} → statement M
 show-all-spec =
     tie.close
     (tie.spec
     Inv-loop
     μ-loop
-    first-end-requires
+    (λ c κs. search needs)
     slice-aggregate-show
-    show-requires
+    (λ c κs. search needs)
     loop-holds
-    sub-has-word
-    part-has-word-start
-    part-has-word-end
-    has-word-requires
-    blank-line-requires
-    sub-first-end
-    part-first-end-start
-    part-first-end-end
-    first-end-requires-2
+    (λ c. search needs)
+    (λ c. search needs)
+    (λ c. search needs)
+    (λ c κs. search needs)
+    (λ c κs. search needs)
+    (λ c. search needs)
+    (λ c. search needs)
+    (λ c. search needs)
+    (λ c κs. search needs)
     add-end
     sub-show
     part-show-start
     part-show-end
-    show-requires-2
+    (λ c κs. search needs)
     loop-less
     loop-again
-    returns)
+    (λ c. search needs))

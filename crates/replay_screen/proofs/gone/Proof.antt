@@ -24,24 +24,6 @@ loop-holds : tie.Need-loop-holds Inv-loop μ-loop
 unfolding rows
 loop-holds c = search needs
 
-array-read-in-and-out : tie.Need-array-read-in-and-out Inv-loop μ-loop
-array-read-in-and-out c = search needs
-
-array-read-in-and-out-2 : tie.Need-array-read-in-and-out-2 Inv-loop μ-loop
-array-read-in-and-out-2 c = search needs
-
-in-and-out-requires : tie.Need-in-and-out-requires Inv-loop μ-loop
-in-and-out-requires c κs = search needs
-
-array-write-marks : tie.Need-array-write-marks Inv-loop μ-loop
-array-write-marks c = search needs
-
-add-i : tie.Need-add-i Inv-loop μ-loop
-add-i c = search needs
-
-loop-less : tie.Need-loop-less Inv-loop μ-loop
-loop-less c = search needs
-
 loop-again : tie.Need-loop-again Inv-loop μ-loop
 loop-again c =
     let l = c .before .before .loop in
@@ -64,11 +46,11 @@ gone-spec =
     Inv-loop
     μ-loop
     loop-holds
-    array-read-in-and-out
-    array-read-in-and-out-2
-    in-and-out-requires
-    array-write-marks
-    add-i
-    loop-less
+    (λ c. search needs)
+    (λ c. search needs)
+    (λ c κs. search needs)
+    (λ c. search needs)
+    (λ c. search needs)
+    (λ c. search needs)
     loop-again
     returns)

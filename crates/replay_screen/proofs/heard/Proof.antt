@@ -5,17 +5,8 @@ use borrow.Author.Needs.{needs}
 use Rattle.replay_screen.proofs.heard.Statement.{statement}
 use Rattle.replay_screen.proofs.heard.Tie as tie
 
-listen-requires : tie.Need-listen-requires
-listen-requires c κs = search needs
-
 enum-told : tie.Need-enum-told
 enum-told c = search needs
-
-enum-told-2 : tie.Need-enum-told-2
-enum-told-2 c = search needs
-
-enum-told-3 : tie.Need-enum-told-3
-enum-told-3 c = search needs
 
 returns : tie.Need-returns
 returns c = sym (ap isHeard (sym (c .before .before .listen .ensures) ∙ c .enum-told .given .1))
@@ -29,4 +20,4 @@ returns-3 c = sym (ap isHeard (sym (c .before .before .listen .ensures) ∙ c .e
 pub heard-spec : {M : Type 1} → statement M
 heard-spec =
     tie.close
-    (tie.spec listen-requires enum-told enum-told-2 enum-told-3 returns returns-2 returns-3)
+    (tie.spec (λ c κs. search needs) enum-told (λ c. search needs) (λ c. search needs) returns returns-2 returns-3)

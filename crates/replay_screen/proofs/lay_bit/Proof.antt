@@ -10,51 +10,6 @@ use borrow.Author.Needs.{needs}
 use Rattle.replay_screen.proofs.lay_bit.Statement.{statement}
 use Rattle.replay_screen.proofs.lay_bit.Tie as tie
 
-gone-requires : tie.Need-gone-requires
-gone-requires c κs = search needs
-
-slice-aggregate-lay-text : tie.Need-slice-aggregate-lay-text
-slice-aggregate-lay-text c = search needs
-
-lay-text-requires : tie.Need-lay-text-requires
-lay-text-requires c κs = search needs
-
-lay-number-requires : tie.Need-lay-number-requires
-lay-number-requires c κs = search needs
-
-slice-aggregate-lay-text-2 : tie.Need-slice-aggregate-lay-text-2
-slice-aggregate-lay-text-2 c = search needs
-
-lay-text-requires-2 : tie.Need-lay-text-requires-2
-lay-text-requires-2 c κs = search needs
-
-lay-carrier-requires : tie.Need-lay-carrier-requires
-lay-carrier-requires c κs = search needs
-
-slice-aggregate-lay-text-3 : tie.Need-slice-aggregate-lay-text-3
-slice-aggregate-lay-text-3 c = search needs
-
-lay-text-requires-3 : tie.Need-lay-text-requires-3
-lay-text-requires-3 c κs = search needs
-
-lay-rows-requires : tie.Need-lay-rows-requires
-lay-rows-requires c κs = search needs
-
-slice-aggregate-lay-text-4 : tie.Need-slice-aggregate-lay-text-4
-slice-aggregate-lay-text-4 c = search needs
-
-lay-text-requires-4 : tie.Need-lay-text-requires-4
-lay-text-requires-4 c κs = search needs
-
-lay-rows-requires-2 : tie.Need-lay-rows-requires-2
-lay-rows-requires-2 c κs = search needs
-
-slice-aggregate-lay-text-5 : tie.Need-slice-aggregate-lay-text-5
-slice-aggregate-lay-text-5 c = search needs
-
-lay-text-requires-5 : tie.Need-lay-text-requires-5
-lay-text-requires-5 c κs = search needs
-
 -- the buffer can be counted
 room : (c : tie.Start) → length (c .args .out .now) ≤ lastPlace
 room c = omega arith
@@ -90,20 +45,20 @@ pub lay-bit-spec : {M : Type 1} → statement M
 lay-bit-spec =
     tie.close
     (tie.spec
-    gone-requires
-    slice-aggregate-lay-text
-    lay-text-requires
-    lay-number-requires
-    slice-aggregate-lay-text-2
-    lay-text-requires-2
-    lay-carrier-requires
-    slice-aggregate-lay-text-3
-    lay-text-requires-3
-    lay-rows-requires
-    slice-aggregate-lay-text-4
-    lay-text-requires-4
-    lay-rows-requires-2
-    slice-aggregate-lay-text-5
-    lay-text-requires-5
+    (λ c κs. search needs)
+    (λ c. search needs)
+    (λ c κs. search needs)
+    (λ c κs. search needs)
+    (λ c. search needs)
+    (λ c κs. search needs)
+    (λ c κs. search needs)
+    (λ c. search needs)
+    (λ c κs. search needs)
+    (λ c κs. search needs)
+    (λ c. search needs)
+    (λ c κs. search needs)
+    (λ c κs. search needs)
+    (λ c. search needs)
+    (λ c κs. search needs)
     same-length
     returns)

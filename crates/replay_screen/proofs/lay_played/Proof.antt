@@ -23,27 +23,6 @@ loop-holds : tie.Need-loop-holds Inv-loop μ-loop
 unfolding steps bitLines
 loop-holds c = (omega arith, refl, none _ _ (omega arith))
 
-heard-requires : tie.Need-heard-requires Inv-loop μ-loop
-heard-requires c κs = search needs
-
-step-requires : tie.Need-step-requires Inv-loop μ-loop
-step-requires c κs = search needs
-
-cast-lay-bit : tie.Need-cast-lay-bit Inv-loop μ-loop
-cast-lay-bit c = search needs
-
-add-lay-bit : tie.Need-add-lay-bit Inv-loop μ-loop
-add-lay-bit c = search needs
-
-lay-bit-requires : tie.Need-lay-bit-requires Inv-loop μ-loop
-lay-bit-requires c κs = search needs
-
-add-k : tie.Need-add-k Inv-loop μ-loop
-add-k c = search needs
-
-loop-less : tie.Need-loop-less Inv-loop μ-loop
-loop-less c = search needs
-
 loop-again : tie.Need-loop-again Inv-loop μ-loop
 loop-again c =
     let b = c .before .before in
@@ -53,9 +32,6 @@ loop-again c =
     let a = s .before .before .before .before in
     let m = bit-more (a .args .t) (a .pre) (l .k) (l .now) _ _ (s .before .loop-test .taken) (l .inv .1) (h .heard .ensures) (ap (λ o. o .tournament) (s .step .ensures)) in
     (omega arith, m .0, is (m .1) (then {t = bitLine (l .k + 1) (h .heard .result) (l .now .marks) (s .step .result .tournament .marks)} (l .inv .2) (last (b .lay-bit .ensures)) (omega arith)))
-
-lay-winner-requires : tie.Need-lay-winner-requires Inv-loop μ-loop
-lay-winner-requires c κs = search needs
 
 returns : tie.Need-returns Inv-loop μ-loop
 unfolding playedOf
@@ -78,14 +54,14 @@ lay-played-spec =
     Inv-loop
     μ-loop
     loop-holds
-    step-requires
-    heard-requires
-    cast-lay-bit
-    add-lay-bit
-    lay-bit-requires
-    add-k
-    loop-less
+    (λ c κs. search needs)
+    (λ c κs. search needs)
+    (λ c. search needs)
+    (λ c. search needs)
+    (λ c κs. search needs)
+    (λ c. search needs)
+    (λ c. search needs)
     loop-again
-    lay-winner-requires
+    (λ c κs. search needs)
     same-length
     returns)

@@ -7,18 +7,6 @@ use borrow.Author.Needs.{needs}
 use Rattle.replay_screen.proofs.lay_row.Statement.{statement}
 use Rattle.replay_screen.proofs.lay_row.Tie as tie
 
-slice-aggregate-lay-text : tie.Need-slice-aggregate-lay-text
-slice-aggregate-lay-text c = search needs
-
-lay-text-requires : tie.Need-lay-text-requires
-lay-text-requires c κs = search needs
-
-lay-number-requires : tie.Need-lay-number-requires
-lay-number-requires c κs = search needs
-
-same-length : tie.Need-same-length
-same-length c = search needs
-
 returns : tie.Need-returns
 returns c =
     let n = c .before .before in
@@ -33,9 +21,9 @@ pub lay-row-spec : {M : Type 1} → statement M
 lay-row-spec =
     tie.close
     (tie.spec
-    slice-aggregate-lay-text
-    lay-text-requires
-    lay-number-requires
-    same-length
+    (λ c. search needs)
+    (λ c κs. search needs)
+    (λ c κs. search needs)
+    (λ c. search needs)
     returns
     returns-2)

@@ -9,7 +9,7 @@ use Rattle.names.specs.Limits.{contenders}
 use Rattle.laws.specs.Lists.{rows, those}
 use Rattle.text.specs.Put.{Lays}
 use Rattle.text.proofs.Laying.{is, then, last, none, same}
-use Rattle.replay_screen.specs.Phrases as word
+use Rattle.ascii.specs.Ascii.{ascii}
 use Rattle.replay_screen.specs.Shown.{marked, spaced}
 use Rattle.replay_screen.proofs.Rows.{markedTo, some?, spaced-more, some-more, all-rows}
 use borrow.Author.Needs.{needs}
@@ -27,21 +27,6 @@ loop-holds : tie.Need-loop-holds Inv-loop μ-loop
 unfolding spaced some? those rows
 loop-holds c = (omega arith, none _ _ (omega arith), refl)
 
-array-read-mark : tie.Need-array-read-mark Inv-loop μ-loop
-array-read-mark c = search needs
-
-lay-row-requires : tie.Need-lay-row-requires Inv-loop μ-loop
-lay-row-requires c κs = search needs
-
-either-requires : tie.Need-either-requires Inv-loop μ-loop
-either-requires c κs = search needs
-
-add-i : tie.Need-add-i Inv-loop μ-loop
-add-i c = search needs
-
-loop-less : tie.Need-loop-less Inv-loop μ-loop
-loop-less c = search needs
-
 loop-again : tie.Need-loop-again Inv-loop μ-loop
 loop-again c =
     let r = c .before .before .before in
@@ -52,9 +37,6 @@ loop-again c =
       c .either .ensures ∙ ap (λ b. b || getD (a .t3) (l .i) false) (l .inv .2) ∙ some-more (a .t3) (l .i) _ refl,
     )
 
-lay-none-requires : tie.Need-lay-none-requires Inv-loop μ-loop
-lay-none-requires c κs = search needs
-
 returns : tie.Need-returns Inv-loop μ-loop
 unfolding marked
 returns c =
@@ -64,8 +46,8 @@ returns c =
     let e : l .i ≡ contenders = omega arith in
     let f = ap (markedTo marks) e in
     is (all-rows (markedTo marks contenders))
-    (is (ap (λ m. spaced m ++ cond (some? m) [] word.nobody) f)
-    (then (l .inv .1) (last (is (ap (λ b. cond b [] word.nobody) (l .inv .2)) (n .lay-none .ensures))) (omega arith)))
+    (is (ap (λ m. spaced m ++ cond (some? m) [] (ascii " none")) f)
+    (then (l .inv .1) (last (is (ap (λ b. cond b [] (ascii " none")) (l .inv .2)) (n .lay-none .ensures))) (omega arith)))
 
 same-length : tie.Need-same-length Inv-loop μ-loop
 same-length c = same (returns c)
@@ -77,12 +59,12 @@ lay-rows-spec =
     Inv-loop
     μ-loop
     loop-holds
-    array-read-mark
-    lay-row-requires
-    either-requires
-    add-i
-    loop-less
+    (λ c. search needs)
+    (λ c κs. search needs)
+    (λ c κs. search needs)
+    (λ c. search needs)
+    (λ c. search needs)
     loop-again
-    lay-none-requires
+    (λ c κs. search needs)
     same-length
     returns)

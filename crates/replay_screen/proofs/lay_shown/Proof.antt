@@ -5,9 +5,6 @@ use borrow.Author.Needs.{needs}
 use Rattle.replay_screen.proofs.lay_shown.Statement.{statement}
 use Rattle.replay_screen.proofs.lay_shown.Tie as tie
 
-start-requires : tie.Need-start-requires
-start-requires c κs = search needs
-
 enum-told : tie.Need-enum-told
 enum-told c = search needs
 
@@ -16,23 +13,11 @@ lay-played-requires c κs =
     let s = c .before .before .before in
     begun-of _ _ _ _ (s .start .ensures) (search needs) (c .before .enum-told .given .1)
 
-enum-known-checked : tie.Need-enum-known-checked
-enum-known-checked c = search needs
-
-lay-refusal-requires : tie.Need-lay-refusal-requires
-lay-refusal-requires c κs = search needs
-
-same-length : tie.Need-same-length
-same-length c = search needs
-
 returns : tie.Need-returns
 returns c =
     let p = c .before .before in
     let t = p .before .before in
     is (shown-fine _ _ _ _ (t .before .before .start .ensures) (t .enum-told .given .1)) (p .lay-played .ensures)
-
-same-length-2 : tie.Need-same-length-2
-same-length-2 c = search needs
 
 returns-2 : tie.Need-returns-2
 returns-2 c =
@@ -44,12 +29,12 @@ pub lay-shown-spec : {M : Type 1} → statement M
 lay-shown-spec =
     tie.close
     (tie.spec
-    start-requires
+    (λ c κs. search needs)
     enum-told
     lay-played-requires
-    enum-known-checked
-    lay-refusal-requires
-    same-length
+    (λ c. search needs)
+    (λ c κs. search needs)
+    (λ c. search needs)
     returns
-    same-length-2
+    (λ c. search needs)
     returns-2)

@@ -7,23 +7,8 @@ use borrow.Author.Needs.{needs}
 use Rattle.replay_screen.proofs.lay_winner.Statement.{statement}
 use Rattle.replay_screen.proofs.lay_winner.Tie as tie
 
-enum-known-phase : tie.Need-enum-known-phase
-enum-known-phase c = search needs
-
-priority-at-requires : tie.Need-priority-at-requires
-priority-at-requires c κs = search needs
-
-lay-wins-requires : tie.Need-lay-wins-requires
-lay-wins-requires c κs = search needs
-
 enum-told : tie.Need-enum-told
 enum-told c = search needs
-
-enum-told-2 : tie.Need-enum-told-2
-enum-told-2 c = search needs
-
-same-length : tie.Need-same-length
-same-length c = search needs
 
 returns : tie.Need-returns
 unfolding winnerLine
@@ -50,12 +35,12 @@ pub lay-winner-spec : {M : Type 1} → statement M
 lay-winner-spec =
     tie.close
     (tie.spec
-    enum-known-phase
-    priority-at-requires
-    lay-wins-requires
+    (λ c. search needs)
+    (λ c κs. search needs)
+    (λ c κs. search needs)
     enum-told
-    enum-told-2
-    same-length
+    (λ c. search needs)
+    (λ c. search needs)
     returns
     returns-2
     returns-3)

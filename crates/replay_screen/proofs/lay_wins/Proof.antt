@@ -9,33 +9,6 @@ use borrow.Author.Needs.{needs}
 use Rattle.replay_screen.proofs.lay_wins.Statement.{statement}
 use Rattle.replay_screen.proofs.lay_wins.Tie as tie
 
-slice-aggregate-lay-text : tie.Need-slice-aggregate-lay-text
-slice-aggregate-lay-text c = search needs
-
-lay-text-requires : tie.Need-lay-text-requires
-lay-text-requires c κs = search needs
-
-lay-number-requires : tie.Need-lay-number-requires
-lay-number-requires c κs = search needs
-
-slice-aggregate-lay-text-2 : tie.Need-slice-aggregate-lay-text-2
-slice-aggregate-lay-text-2 c = search needs
-
-lay-text-requires-2 : tie.Need-lay-text-requires-2
-lay-text-requires-2 c κs = search needs
-
-cast-lay-number : tie.Need-cast-lay-number
-cast-lay-number c = search needs
-
-lay-number-requires-2 : tie.Need-lay-number-requires-2
-lay-number-requires-2 c κs = search needs
-
-slice-aggregate-lay-text-3 : tie.Need-slice-aggregate-lay-text-3
-slice-aggregate-lay-text-3 c = search needs
-
-lay-text-requires-3 : tie.Need-lay-text-requires-3
-lay-text-requires-3 c κs = search needs
-
 -- the buffer can be counted
 room : (c : tie.Start) → length (c .args .out .now) ≤ lastPlace
 room c = omega arith
@@ -59,14 +32,14 @@ pub lay-wins-spec : {M : Type 1} → statement M
 lay-wins-spec =
     tie.close
     (tie.spec
-    slice-aggregate-lay-text
-    lay-text-requires
-    lay-number-requires
-    slice-aggregate-lay-text-2
-    lay-text-requires-2
-    cast-lay-number
-    lay-number-requires-2
-    slice-aggregate-lay-text-3
-    lay-text-requires-3
+    (λ c. search needs)
+    (λ c κs. search needs)
+    (λ c κs. search needs)
+    (λ c. search needs)
+    (λ c κs. search needs)
+    (λ c. search needs)
+    (λ c κs. search needs)
+    (λ c. search needs)
+    (λ c κs. search needs)
     same-length
     returns)

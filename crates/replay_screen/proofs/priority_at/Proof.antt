@@ -5,17 +5,8 @@ use borrow.Author.Needs.{needs}
 use Rattle.replay_screen.proofs.priority_at.Statement.{statement}
 use Rattle.replay_screen.proofs.priority_at.Tie as tie
 
-mul-result : tie.Need-mul-result
-mul-result c = search needs
-
-array-copy-out-result : tie.Need-array-copy-out-result
-array-copy-out-result c = search needs
-
-returns : tie.Need-returns
-returns c = search needs
-
 returns-2 : tie.Need-returns-2
 returns-2 c = sym (List·getD-eq-default (c .before .args .t1) _ {n = c .before .args .row .0} (search needs))
 
 pub priority-at-spec : {M : Type 1} → statement M
-priority-at-spec = tie.close (tie.spec mul-result array-copy-out-result returns returns-2)
+priority-at-spec = tie.close (tie.spec (λ c. search needs) (λ c. search needs) (λ c. search needs) returns-2)

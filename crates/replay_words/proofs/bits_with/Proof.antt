@@ -6,9 +6,6 @@ use borrow.Author.Needs.{needs}
 use Rattle.replay_words.proofs.bits_with.Statement.{statement}
 use Rattle.replay_words.proofs.bits_with.Tie as tie
 
-or-zero-requires : tie.Need-or-zero-requires
-or-zero-requires c κs = search needs
-
 returns : tie.Need-returns
 unfolding bitsWith
 returns c = rw (eq-eqb (c .before .before .args .words) 0 (c .before .if1 .taken)) (c .or-zero .ensures)
@@ -18,4 +15,4 @@ unfolding bitsWith
 returns-2 c = rw (ne-eqb (c .before .args .words) 0 (c .if1 .left)) refl
 
 pub bits-with-spec : {M : Type 1} → statement M
-bits-with-spec = tie.close (tie.spec or-zero-requires returns returns-2)
+bits-with-spec = tie.close (tie.spec (λ c κs. search needs) returns returns-2)

@@ -8,9 +8,6 @@ use Rattle.replay_words.proofs.ends_with.Tie as tie
 returns : tie.Need-returns
 returns c = rw (lt-leb (c .before .args .c) 32 (c .if1 .taken)) refl
 
-add-result : tie.Need-add-result
-add-result c = search needs
-
 returns-2 : tie.Need-returns-2
 returns-2 c =
     let a = c .before .before .args in
@@ -22,4 +19,4 @@ returns-3 c =
     rw (le-leb (a .c) 32 (c .before .if1 .left), ne-eqb (a .c) 10 (c .if2 .left)) refl
 
 pub ends-with-spec : {M : Type 1} → statement M
-ends-with-spec = tie.close (tie.spec returns add-result returns-2 returns-3)
+ends-with-spec = tie.close (tie.spec returns (λ c. search needs) returns-2 returns-3)

@@ -32,9 +32,6 @@ loop-holds : tie.Need-loop-holds Inv-loop μ-loop
 unfolding hasWord endsAfter
 loop-holds c = (omega arith, refl, none-yet _, refl, refl, omega arith)
 
-is-over-requires : tie.Need-is-over-requires Inv-loop μ-loop
-is-over-requires c κs = search needs
-
 returns : tie.Need-returns Inv-loop μ-loop
 unfolding firstEnd
 returns c =
@@ -42,20 +39,8 @@ returns c =
     let text = c .before .before .before .before .before .args .text .now in
     sym (ap (λ f. orAll f (length text)) (found-at (overAt text) (length text) (l .i) (l .inv .2) (omega arith) (is-over-at text (l .i) (l .inv .3) (l .inv .4) (c .before .is-over .ensures) ∙ c .if1 .taken)))
 
-shared-slice-read-c : tie.Need-shared-slice-read-c Inv-loop μ-loop
-shared-slice-read-c c = search needs
-
 ends-with-requires : tie.Need-ends-with-requires Inv-loop μ-loop
 ends-with-requires c κs = omega (arith, c .before .before .before .before .loop .inv .5)
-
-some-with-requires : tie.Need-some-with-requires Inv-loop μ-loop
-some-with-requires c κs = search needs
-
-add-i : tie.Need-add-i Inv-loop μ-loop
-add-i c = search needs
-
-loop-less : tie.Need-loop-less Inv-loop μ-loop
-loop-less c = search needs
 
 loop-again : tie.Need-loop-again Inv-loop μ-loop
 loop-again c =
@@ -85,12 +70,12 @@ first-end-spec =
     Inv-loop
     μ-loop
     loop-holds
-    is-over-requires
+    (λ c κs. search needs)
     returns
-    shared-slice-read-c
+    (λ c. search needs)
     ends-with-requires
-    some-with-requires
-    add-i
-    loop-less
+    (λ c κs. search needs)
+    (λ c. search needs)
+    (λ c. search needs)
     loop-again
     returns-2)

@@ -6,24 +6,6 @@ use borrow.Author.Needs.{needs}
 use Rattle.replay_words.proofs.lay_wrong.Statement.{statement}
 use Rattle.replay_words.proofs.lay_wrong.Tie as tie
 
-slice-aggregate-lay-text : tie.Need-slice-aggregate-lay-text
-slice-aggregate-lay-text c = search needs
-
-lay-text-requires : tie.Need-lay-text-requires
-lay-text-requires c κs = search needs
-
-lay-number-requires : tie.Need-lay-number-requires
-lay-number-requires c κs = search needs
-
-slice-aggregate-lay-text-2 : tie.Need-slice-aggregate-lay-text-2
-slice-aggregate-lay-text-2 c = search needs
-
-lay-text-requires-2 : tie.Need-lay-text-requires-2
-lay-text-requires-2 c κs = search needs
-
-same-length : tie.Need-same-length
-same-length c = search needs
-
 returns : tie.Need-returns
 unfolding wrongLine
 returns c =
@@ -36,10 +18,10 @@ pub lay-wrong-spec : {M : Type 1} → statement M
 lay-wrong-spec =
     tie.close
     (tie.spec
-    slice-aggregate-lay-text
-    lay-text-requires
-    lay-number-requires
-    slice-aggregate-lay-text-2
-    lay-text-requires-2
-    same-length
+    (λ c. search needs)
+    (λ c κs. search needs)
+    (λ c κs. search needs)
+    (λ c. search needs)
+    (λ c κs. search needs)
+    (λ c. search needs)
     returns)

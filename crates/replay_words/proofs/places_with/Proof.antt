@@ -16,18 +16,6 @@ returns-2 : tie.Need-returns-2
 unfolding placesWith
 returns-2 c = rw (ne-eqb (c .before .before .args .words) 0 (c .before .if1 .left)) (sym (set-out _ _ _ (omega arith)))
 
-or-zero-requires : tie.Need-or-zero-requires
-or-zero-requires c κs = search needs
-
-sub-places : tie.Need-sub-places
-sub-places c = search needs
-
-mul-places : tie.Need-mul-places
-mul-places c = search needs
-
-array-set-from-places : tie.Need-array-set-from-places
-array-set-from-places c = search needs
-
 returns-3 : tie.Need-returns-3
 unfolding placesWith
 returns-3 c = rw (ne-eqb (c .before .before .before .args .words) 0 (c .before .before .if1 .left), ← c .or-zero .ensures) refl
@@ -38,8 +26,8 @@ places-with-spec =
     (tie.spec
     returns
     returns-2
-    or-zero-requires
-    sub-places
-    mul-places
-    array-set-from-places
+    (λ c κs. search needs)
+    (λ c. search needs)
+    (λ c. search needs)
+    (λ c. search needs)
     returns-3)

@@ -14,25 +14,13 @@ Inv-loop text r₀ i₀ i-end r i = (i ≤ i-end) × (i-end ≡ length text) × 
 abbrev μ-loop : tie.MeasureT-loop
 μ-loop text r₀ i₀ i-end r i = i-end - i
 
-nothing-requires : tie.Need-nothing-requires Inv-loop μ-loop
-nothing-requires c κs = search needs
-
 loop-holds : tie.Need-loop-holds Inv-loop μ-loop
 loop-holds c = (omega arith, refl, read-none _ _ (c .nothing .ensures))
-
-shared-slice-read-c : tie.Need-shared-slice-read-c Inv-loop μ-loop
-shared-slice-read-c c = search needs
 
 with-byte-requires : tie.Need-with-byte-requires Inv-loop μ-loop
 with-byte-requires c κs =
     let l = c .before .before .loop in
     omega (arith, read-few (l .inv .2))
-
-add-i : tie.Need-add-i Inv-loop μ-loop
-add-i c = search needs
-
-loop-less : tie.Need-loop-less Inv-loop μ-loop
-loop-less c = search needs
 
 loop-again : tie.Need-loop-again Inv-loop μ-loop
 loop-again c =
@@ -53,12 +41,12 @@ read-spec =
     (tie.spec
     Inv-loop
     μ-loop
-    nothing-requires
+    (λ c κs. search needs)
     loop-holds
-    shared-slice-read-c
+    (λ c. search needs)
     with-byte-requires
-    add-i
-    loop-less
+    (λ c. search needs)
+    (λ c. search needs)
     loop-again
     closed-if-requires
     returns)

@@ -5,23 +5,8 @@ use borrow.Author.Needs.{needs}
 use Rattle.replay_words.proofs.replay.Statement.{statement}
 use Rattle.replay_words.proofs.replay.Tie as tie
 
-lay-replay-requires : tie.Need-lay-replay-requires
-lay-replay-requires c κs = search needs
-
-sub-bytes : tie.Need-sub-bytes
-sub-bytes c = search needs
-
-same-length : tie.Need-same-length
-same-length c = search needs
-
 returns : tie.Need-returns
 returns c = put-full 0 (omega arith) (c .before .before .before .lay-replay .ensures) (omega arith)
-
-lay-replay-requires-2 : tie.Need-lay-replay-requires-2
-lay-replay-requires-2 c κs = search needs
-
-same-length-2 : tie.Need-same-length-2
-same-length-2 c = search needs
 
 returns-2 : tie.Need-returns-2
 returns-2 c =
@@ -32,10 +17,10 @@ pub replay-spec : {M : Type 1} → statement M
 replay-spec =
     tie.close
     (tie.spec
-    lay-replay-requires
-    sub-bytes
-    same-length
+    (λ c κs. search needs)
+    (λ c. search needs)
+    (λ c. search needs)
     returns
-    lay-replay-requires-2
-    same-length-2
+    (λ c κs. search needs)
+    (λ c. search needs)
     returns-2)

@@ -6,19 +6,13 @@ use borrow.Author.Needs.{needs}
 use Rattle.replay_words.proofs.with_byte.Statement.{statement}
 use Rattle.replay_words.proofs.with_byte.Tie as tie
 
-closed-if-requires : tie.Need-closed-if-requires
-closed-if-requires c κs = search needs
-
 returns : tie.Need-returns
 unfolding withByte
 returns c = rw (le-leb (c .before .before .args .c) 32 (c .before .if1 .taken)) (c .closed-if .ensures)
-
-with-digit-requires : tie.Need-with-digit-requires
-with-digit-requires c κs = search needs
 
 returns-2 : tie.Need-returns-2
 unfolding withByte
 returns-2 c = rw (lt-leb (c .before .before .before .args .c) 32 (c .before .before .if1 .left), c .with-digit .ensures) refl
 
 pub with-byte-spec : {M : Type 1} → statement M
-with-byte-spec = tie.close (tie.spec closed-if-requires returns with-digit-requires returns-2)
+with-byte-spec = tie.close (tie.spec (λ c κs. search needs) returns (λ c κs. search needs) returns-2)

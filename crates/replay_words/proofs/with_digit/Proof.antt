@@ -8,15 +8,9 @@ use borrow.Author.Needs.{needs}
 use Rattle.replay_words.proofs.with_digit.Statement.{statement}
 use Rattle.replay_words.proofs.with_digit.Tie as tie
 
-add-result : tie.Need-add-result
-add-result c = search needs
-
 returns : tie.Need-returns
 unfolding withDigit
 returns c = rw (lt-leb (c .before .args .value) ticks (c .if1 .taken)) refl
-
-add-result-2 : tie.Need-add-result-2
-add-result-2 c = search needs
 
 returns-2 : tie.Need-returns-2
 unfolding withDigit
@@ -24,26 +18,11 @@ returns-2 c =
     let a = c .before .before .args in
     rw (le-leb (a .value) ticks (c .before .if1 .left), lt-leb 48 (a .c) (c .if2 .taken)) refl
 
-add-result-3 : tie.Need-add-result-3
-add-result-3 c = search needs
-
 returns-3 : tie.Need-returns-3
 unfolding withDigit
 returns-3 c =
     let a = c .before .before .before .args in
     rw (le-leb (a .value) ticks (c .before .before .if1 .left), le-leb 48 (a .c) (c .before .if2 .left), lt-leb (a .c) 57 (c .if3 .taken)) refl
-
-mul-next : tie.Need-mul-next
-mul-next c = search needs
-
-cast-next : tie.Need-cast-next
-cast-next c = search needs
-
-add-next : tie.Need-add-next
-add-next c = search needs
-
-add-result-4 : tie.Need-add-result-4
-add-result-4 c = search needs
 
 returns-4 : tie.Need-returns-4
 unfolding withDigit
@@ -61,15 +40,15 @@ pub with-digit-spec : {M : Type 1} → statement M
 with-digit-spec =
     tie.close
     (tie.spec
-    add-result
+    (λ c. search needs)
     returns
-    add-result-2
+    (λ c. search needs)
     returns-2
-    add-result-3
+    (λ c. search needs)
     returns-3
-    mul-next
-    cast-next
-    add-next
-    add-result-4
+    (λ c. search needs)
+    (λ c. search needs)
+    (λ c. search needs)
+    (λ c. search needs)
     returns-4
     returns-5)

@@ -11,9 +11,6 @@ returns : tie.Need-returns
 unfolding wrongWith
 returns c = rw (le-leb (c .before .args .value) ticks (c .if1 .taken)) refl
 
-add-result : tie.Need-add-result
-add-result c = search needs
-
 returns-2 : tie.Need-returns-2
 unfolding wrongWith
 returns-2 c =
@@ -27,4 +24,4 @@ returns-3 c =
     rw (lt-leb (a .value) ticks (c .before .if1 .left), ne-eqb (a .wrong) 0 (c .if2 .left)) refl
 
 pub wrong-with-spec : {M : Type 1} → statement M
-wrong-with-spec = tie.close (tie.spec returns add-result returns-2 returns-3)
+wrong-with-spec = tie.close (tie.spec returns (λ c. search needs) returns-2 returns-3)

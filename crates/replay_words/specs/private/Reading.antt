@@ -8,7 +8,7 @@ use Rattle.names.specs.declared.Priority.{Priority}
 use Rattle.names.specs.Limits.{ticks}
 use Rattle.decimal.specs.Decimal.{digit, valueOf}
 use Rattle.replay_words.specs.declared.Reader.{Reader}
-use Rattle.replay_words.specs.Handwritten.{parts, isDigit, isNumber, numberOf, wrongFrom, placesOf}
+use Rattle.replay_words.specs.Handwritten.{separates, isDigit, isNumber, numberOf, wrongFrom, placesOf}
 
 -- what stands for no number
 abbrev pub noNumber : ℕ
@@ -27,16 +27,16 @@ unfoldable pub withDigit : ℕ → ℕ → ℕ
 withDigit value b = cond (leb value ticks && isDigit b) (orNone (value * 10 + (b - digit 0))) noNumber
 
 -- a number, or 0
-unfoldable pub orZero : ℕ → ℕ
-orZero value = cond (leb value ticks) value 0
+unfoldable pub smallOrZero : ℕ → ℕ
+smallOrZero value = cond (leb value ticks) value 0
 
 -- the first word is the bit count, ..
 unfoldable pub bitsWith : ℕ → ℕ → ℕ → ℕ
-bitsWith bits words value = cond (eqb words 0) (orZero value) bits
+bitsWith bits words value = cond (eqb words 0) (smallOrZero value) bits
 
 -- .. the others are priorities, ..
 unfoldable pub placesWith : List Priority → ℕ → ℕ → List Priority
-placesWith places words value = cond (eqb words 0) places (set places (words - 1) (record { 0 = orZero value }))
+placesWith places words value = cond (eqb words 0) places (set places (words - 1) (record { 0 = smallOrZero value }))
 
 -- .. and the first that is no number is kept by its place
 unfoldable pub wrongWith : ℕ → ℕ → ℕ → ℕ
@@ -59,7 +59,7 @@ closedIf r = cond (r .inside) (closed r) r
 -- one byte more
 unfoldable pub withByte : Reader → ℕ → Reader
 withByte r b =
-    cond (parts b) (closedIf r)
+    cond (separates b) (closedIf r)
     (record {
       words = r .words;
       bits = r .bits;

@@ -30,27 +30,12 @@ module _ (bytes buf : List ℕ) where
   unfolding rewriteOf writeOf
   read n m e d = by-words (λ c s. rewriteAs c s buf) no (λ n m p. writeWith n m p buf) (λ s. refl) (λ r s. refl) (λ n m p. write-refused n m p buf) bytes n m e d
 
-carry-requires : tie.Need-carry-requires
-carry-requires c κs = search needs
-
-enum-known-r : tie.Need-enum-known-r
-enum-known-r c = search needs
-
-enum-known-n : tie.Need-enum-known-n
-enum-known-n c = search needs
-
-write-words-requires : tie.Need-write-words-requires
-write-words-requires c κs = search needs
-
 returns : tie.Need-returns
 returns c =
     let k = c .before .before .before in
     let a = k .before .before .before .before .args in
     let e = sym (not-read (now (a .file)) (now (a .out)) _ (sym (k .carry .ensures .0) ∙ c .before .r .given .1)) in
     (ap (λ w. w .0) e, ap (λ w. w .1) e)
-
-same-length : tie.Need-same-length
-same-length c = search needs
 
 returns-2 : tie.Need-returns-2
 returns-2 c =
@@ -65,10 +50,10 @@ pub rewrite-spec : {M : Type 1} → statement M
 rewrite-spec =
     tie.close
     (tie.spec
-    carry-requires
-    enum-known-r
-    enum-known-n
-    write-words-requires
+    (λ c κs. search needs)
+    (λ c. search needs)
+    (λ c. search needs)
+    (λ c κs. search needs)
     returns
-    same-length
+    (λ c. search needs)
     returns-2)

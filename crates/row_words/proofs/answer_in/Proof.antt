@@ -14,27 +14,6 @@ returns : tie.Need-returns
 unfolding answerAt
 returns c = simp (le-ltb _ _ (c .if1 .taken))
 
-mul-at : tie.Need-mul-at
-mul-at c = search needs
-
-mul-verdict : tie.Need-mul-verdict
-mul-verdict c = search needs
-
-shared-slice-read-verdict : tie.Need-shared-slice-read-verdict
-shared-slice-read-verdict c = search needs
-
-verdict-requires : tie.Need-verdict-requires
-verdict-requires c κs = search needs
-
-add-t5 : tie.Need-add-t5
-add-t5 c = search needs
-
-mul-t11 : tie.Need-mul-t11
-mul-t11 c = search needs
-
-shared-slice-read-t13 : tie.Need-shared-slice-read-t13
-shared-slice-read-t13 c = search needs
-
 returns-2 : tie.Need-returns-2
 unfolding answerAt
 returns-2 c =
@@ -47,11 +26,11 @@ answer-in-spec =
     tie.close
     (tie.spec
     returns
-    mul-at
-    mul-verdict
-    shared-slice-read-verdict
-    verdict-requires
-    add-t5
-    mul-t11
-    shared-slice-read-t13
+    (λ c. search needs)
+    (λ c. search needs)
+    (λ c. search needs)
+    (λ c κs. search needs)
+    (λ c. search needs)
+    (λ c. search needs)
+    (λ c. search needs)
     returns-2)

@@ -15,29 +15,8 @@ returns : tie.Need-returns
 unfolding withAnswer
 returns c = simp (le-ltb _ _ (c .if1 .taken)) (refl, refl)
 
-mul-at : tie.Need-mul-at
-mul-at c = search needs
-
-number-requires : tie.Need-number-requires
-number-requires c κs = search needs
-
-mul-words : tie.Need-mul-words
-mul-words c = search needs
-
-slice-write-words : tie.Need-slice-write-words
-slice-write-words c = search needs
-
-add-words : tie.Need-add-words
-add-words c = search needs
-
-mul-words-2 : tie.Need-mul-words-2
-mul-words-2 c = search needs
-
 slice-write-words-2 : tie.Need-slice-write-words-2
 slice-write-words-2 c = simp length-set (omega arith)
-
-same-length : tie.Need-same-length
-same-length c = search needs
 
 returns-2 : tie.Need-returns-2
 returns-2 c =
@@ -50,12 +29,12 @@ put-answer-spec =
     tie.close
     (tie.spec
     returns
-    mul-at
-    number-requires
-    mul-words
-    slice-write-words
-    add-words
-    mul-words-2
+    (λ c. search needs)
+    (λ c κs. search needs)
+    (λ c. search needs)
+    (λ c. search needs)
+    (λ c. search needs)
+    (λ c. search needs)
     slice-write-words-2
-    same-length
+    (λ c. search needs)
     returns-2)

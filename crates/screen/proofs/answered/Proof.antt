@@ -10,24 +10,15 @@ use Rattle.plan.specs.declared.Timing.{Timing}
 use Rattle.answers.specs.Answers.{answerOf}
 use Rattle.screen.specs.declared.Taken.{Taken}
 use Rattle.laws.specs.Lists.{placed}
-use Rattle.screen.specs.private.Gathering.{sheetOf}
+use Rattle.screen.specs.private.Gathering.{sheetTaken}
 use Rattle.screen.proofs.answered.Statement.{statement}
 use Rattle.screen.proofs.answered.Tie as tie
 
 -- the sheet that is made, with gaps that were copied
 made : (l : Taken) (t : Timing) (gaps copies : List ℕ) → copies ≡ placed 8 0 gaps
-    → _≡_ {A = Sheet} (record { timing = t; streams = l .rows; count = l .count; gaps = copies; sources = length gaps }) (sheetOf l t gaps)
-unfolding sheetOf
+    → _≡_ {A = Sheet} (record { timing = t; streams = l .rows; count = l .count; gaps = copies; sources = length gaps }) (sheetTaken l t gaps)
+unfolding sheetTaken
 made l t gaps copies e = ap (λ g. record { timing = t; streams = l .rows; count = l .count; gaps = g; sources = length gaps }) e
-
-copied-requires : tie.Need-copied-requires
-copied-requires c κs = search needs
-
-answer-values-requires : tie.Need-answer-values-requires
-answer-values-requires c κs = search needs
-
-same-length : tie.Need-same-length
-same-length c = search needs
 
 returns : tie.Need-returns
 returns c =
@@ -38,4 +29,4 @@ returns c =
     (d .answer-values .ensures .0 ∙ ap (λ s. answerOf s (now (a .out)) .0) e, d .answer-values .ensures .1 ∙ ap (λ s. answerOf s (now (a .out)) .1) e)
 
 pub answered-spec : {M : Type 1} → statement M
-answered-spec = tie.close (tie.spec copied-requires answer-values-requires same-length returns)
+answered-spec = tie.close (tie.spec (λ c κs. search needs) (λ c κs. search needs) (λ c. search needs) returns)

@@ -4,11 +4,8 @@ use borrow.Author.Needs.{needs}
 use Rattle.screen.proofs.empty.Statement.{statement}
 use Rattle.screen.proofs.empty.Tie as tie
 
-no-streams-requires : tie.Need-no-streams-requires
-no-streams-requires c κs = search needs
-
 returns : tie.Need-returns
 returns c = ap (λ l. record { rows = l; count = c .before .args .n }) (c .no-streams .ensures)
 
 pub empty-spec : {M : Type 1} → statement M
-empty-spec = tie.close (tie.spec no-streams-requires returns)
+empty-spec = tie.close (tie.spec (λ c κs. search needs) returns)

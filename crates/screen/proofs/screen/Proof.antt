@@ -43,7 +43,7 @@ use Rattle.screen.specs.declared.Taken.{Taken}
 use Rattle.judge.specs.declared.Checked.{Checked}
 use Rattle.answers.specs.Answers.{answerOf}
 use Rattle.screen.specs.Screen.{sheetFor}
-use Rattle.screen.specs.private.Gathering.{takenOf, sheetOf}
+use Rattle.screen.specs.private.Gathering.{takenOf, sheetTaken}
 use Rattle.plan.proofs.Stream as S
 use Rattle.screen.proofs.Taken as T
 use Rattle.screen.proofs.Taken.Laws as T′
@@ -73,9 +73,9 @@ L = T.the-row
 abbrev D : RattleType
 D = Z.the-row
 
-sheet-is : (xs : List Stream) (t : Timing) (gaps : List ℕ) (l : Taken) → l ≡ takenOf xs → sheetOf l t gaps ≡ sheetFor xs t gaps
-unfolding sheetOf sheetFor takenOf
-sheet-is xs t gaps l e = ap (λ l. sheetOf l t gaps) e
+sheet-is : (xs : List Stream) (t : Timing) (gaps : List ℕ) (l : Taken) → l ≡ takenOf xs → sheetTaken l t gaps ≡ sheetFor xs t gaps
+unfolding sheetTaken sheetFor takenOf
+sheet-is xs t gaps l e = ap (λ l. sheetTaken l t gaps) e
 
 abbrev stayed : Stays (screen.ended .signature .params) (screen.ended .kept)
 stayed = (stay-none-slice (0 ∷ []) tt (plain (λ _. R)) yes, (stay-none (λ _. D) yes, (stay-none-slice (1 ∷ []) tt (plain (λ _. u32)) yes, (gave-slice (2 ∷ []) tt (plain (λ _. u64)), tt))))
@@ -214,8 +214,8 @@ module _ {M : Type 1} (𝓤 : URA M) (H : Heap 𝓤) (A : Atoms 𝓤) (W : Given
         use1 W (later (some (λ (r : Checked). (toks₁₂ ⊛ ‵ (N.the-row .own r (w ∷ [])))
         ⊛ raw (ensured 𝓤 H A answered.ended (answered.clauses 𝓤 H A mem run) (κ₁, (κ₂, tt)) (l, (t, (g, (x, tt)))) tt r)))) (id⊢ 𝓤 _) $ await ! tt $ pick ! (λ r.
         split ! $ move ! (1 ∷ []) $ use1 W (some (λ (zs : Unit {0} × (Unit {0} × (Unit {0} × (List ℕ × Unit {0})))).
-        ‵ (lasts answered.ended (κ₁, (κ₂, tt)) (l, (t, (g, (x, tt)))) zs) ⊛ raw (fact 𝓤 (Said (sheetOf l t (g .now)) r (zs .1 .1 .1 .0))))) (id⊢ 𝓤 _) $ pick ! (λ zs.
-        split ! $ move ! (1 ∷ []) $ heard ! (Said (sheetOf l t (g .now)) r (zs .1 .1 .1 .0)) (λ e.
+        ‵ (lasts answered.ended (κ₁, (κ₂, tt)) (l, (t, (g, (x, tt)))) zs) ⊛ raw (fact 𝓤 (Said (sheetTaken l t (g .now)) r (zs .1 .1 .1 .0))))) (id⊢ 𝓤 _) $ pick ! (λ zs.
+        split ! $ move ! (1 ∷ []) $ heard ! (Said (sheetTaken l t (g .now)) r (zs .1 .1 .1 .0)) (λ e.
         fsplit ! $ move ! (1 ∷ []) $ fsplit ! $ move ! (1 ∷ []) $ fsplit ! $ move ! (1 ∷ []) $ fsplit ! $ fsplit ! $ move ! (1 ∷ []) $ feqL ! (λ len.
         -- [the last list; …; …; …; …; the tokens and the result; what is kept; κ₀'s token; _7; …]
         move ! (5 ∷ []) $ split ! $ move ! (1 ∷ []) $ peeks ! N.the-row (Is N.the-row) (shows 𝓤 H A N.the-row) r (w ∷ []) (λ is.

@@ -18,10 +18,10 @@ unfoldable pub takenOf : List Stream → Taken
 takenOf xs = record { rows = placed streams blank xs; count = length xs }
 
 -- the sheet of a lot, its timing and its noise gaps
-unfoldable pub sheetOf : Taken → Timing → List ℕ → Sheet
-sheetOf l t gaps =
+unfoldable pub sheetTaken : Taken → Timing → List ℕ → Sheet
+sheetTaken l t gaps =
     record { timing = t; streams = l .rows; count = l .count; gaps = placed sources 0 gaps; sources = length gaps }
 
 -- what is answered of it, and what the lent words end with
 abbrev pub TakenAnswered : Taken → Timing → List ℕ → List ℕ → Checked → List ℕ → Type 0
-TakenAnswered l t gaps out r left = let o = answerOf (sheetOf l t gaps) out in (r ≡ o .0) × (left ≡ o .1)
+TakenAnswered l t gaps out r left = let o = answerOf (sheetTaken l t gaps) out in (r ≡ o .0) × (left ≡ o .1)

@@ -15,32 +15,8 @@ Inv-loop count out₀ marks n i₀ out i = (i ≤ n) × (out ≡ laidTo (after c
 abbrev μ-loop : tie.MeasureT-loop
 μ-loop count out₀ marks n i₀ out i = n - i
 
-smaller-requires : tie.Need-smaller-requires Inv-loop μ-loop
-smaller-requires c κs = search needs
-
-smaller-requires-2 : tie.Need-smaller-requires-2 Inv-loop μ-loop
-smaller-requires-2 c κs = search needs
-
 loop-holds : tie.Need-loop-holds Inv-loop μ-loop
 loop-holds c = (omega arith, laid-none _ _, refl)
-
-array-read-kept : tie.Need-array-read-kept Inv-loop μ-loop
-array-read-kept c = search needs
-
-slice-read-kept : tie.Need-slice-read-kept Inv-loop μ-loop
-slice-read-kept c = search needs
-
-kept-requires : tie.Need-kept-requires Inv-loop μ-loop
-kept-requires c κs = search needs
-
-slice-write-out : tie.Need-slice-write-out Inv-loop μ-loop
-slice-write-out c = search needs
-
-add-i : tie.Need-add-i Inv-loop μ-loop
-add-i c = search needs
-
-loop-less : tie.Need-loop-less Inv-loop μ-loop
-loop-less c = search needs
 
 loop-again : tie.Need-loop-again Inv-loop μ-loop
 loop-again c =
@@ -68,15 +44,15 @@ mark-out-spec =
     (tie.spec
     Inv-loop
     μ-loop
-    smaller-requires
-    smaller-requires-2
+    (λ c κs. search needs)
+    (λ c κs. search needs)
     loop-holds
-    array-read-kept
-    slice-read-kept
-    kept-requires
-    slice-write-out
-    add-i
-    loop-less
+    (λ c. search needs)
+    (λ c. search needs)
+    (λ c κs. search needs)
+    (λ c. search needs)
+    (λ c. search needs)
+    (λ c. search needs)
     loop-again
     same-length
     returns)

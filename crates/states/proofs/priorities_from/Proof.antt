@@ -8,7 +8,7 @@ use denote.Ref.{now}
 use Rattle.names.specs.Limits.{contenders}
 use Rattle.laws.proofs.Placed.{placedTo}
 use Rattle.tournament_state.specs.Refusals.{none}
-use Rattle.states.specs.States.{priority}
+use Rattle.tournament_state.specs.Refusals.{priority}
 use Rattle.states.proofs.Placed.{filled-more, filled-all}
 use Rattle.states.proofs.priorities_from.Statement.{statement}
 use Rattle.states.proofs.priorities_from.Tie as tie
@@ -19,29 +19,8 @@ Inv-loop priorities n places₀ i₀ places i = (i ≤ n) × (places ≡ placedT
 abbrev μ-loop : tie.MeasureT-loop
 μ-loop priorities n places₀ i₀ places i = n - i
 
-smaller-requires : tie.Need-smaller-requires Inv-loop μ-loop
-smaller-requires c κs = search needs
-
 loop-holds : tie.Need-loop-holds Inv-loop μ-loop
 loop-holds c = (omega arith, refl)
-
-mul-t8 : tie.Need-mul-t8 Inv-loop μ-loop
-mul-t8 c = search needs
-
-shared-slice-read-t10 : tie.Need-shared-slice-read-t10 Inv-loop μ-loop
-shared-slice-read-t10 c = search needs
-
-mul-places : tie.Need-mul-places Inv-loop μ-loop
-mul-places c = search needs
-
-array-set-from-places : tie.Need-array-set-from-places Inv-loop μ-loop
-array-set-from-places c = search needs
-
-add-i : tie.Need-add-i Inv-loop μ-loop
-add-i c = search needs
-
-loop-less : tie.Need-loop-less Inv-loop μ-loop
-loop-less c = search needs
 
 loop-again : tie.Need-loop-again Inv-loop μ-loop
 loop-again c =
@@ -61,13 +40,13 @@ priorities-from-spec =
     (tie.spec
     Inv-loop
     μ-loop
-    smaller-requires
+    (λ c κs. search needs)
     loop-holds
-    mul-t8
-    shared-slice-read-t10
-    mul-places
-    array-set-from-places
-    add-i
-    loop-less
+    (λ c. search needs)
+    (λ c. search needs)
+    (λ c. search needs)
+    (λ c. search needs)
+    (λ c. search needs)
+    (λ c. search needs)
     loop-again
     returns)

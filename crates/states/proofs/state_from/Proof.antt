@@ -5,15 +5,6 @@ use Rattle.states.specs.States.{stateFrom}
 use Rattle.states.proofs.state_from.Statement.{statement}
 use Rattle.states.proofs.state_from.Tie as tie
 
-priorities-from-requires : tie.Need-priorities-from-requires
-priorities-from-requires c κs = search needs
-
-marks-from-requires : tie.Need-marks-from-requires
-marks-from-requires c κs = search needs
-
-phase-from-requires : tie.Need-phase-from-requires
-phase-from-requires c κs = search needs
-
 returns : tie.Need-returns
 unfolding stateFrom
 returns c =
@@ -21,4 +12,4 @@ returns c =
 
 pub state-from-spec : {M : Type 1} → statement M
 state-from-spec =
-    tie.close (tie.spec priorities-from-requires marks-from-requires phase-from-requires returns)
+    tie.close (tie.spec (λ c κs. search needs) (λ c κs. search needs) (λ c κs. search needs) returns)

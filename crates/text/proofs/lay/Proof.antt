@@ -8,12 +8,6 @@ use Rattle.text.proofs.Laying.{one}
 use Rattle.text.proofs.lay.Statement.{statement}
 use Rattle.text.proofs.lay.Tie as tie
 
-slice-write-out : tie.Need-slice-write-out
-slice-write-out c = search needs
-
-place-after-requires : tie.Need-place-after-requires
-place-after-requires c κs = search needs
-
 same-length : tie.Need-same-length
 same-length c = ⊎-elim (λ w. ap length (w .1) ∙ simp length-set) (λ w. ap length (w .1)) (c .before .if1 .came)
 
@@ -22,4 +16,4 @@ returns c =
     one (c .place-after .ensures) (⊎-elim (λ w. w .1) (λ w. w .1 ∙ sym (set-out _ _ _ (w .0 .left))) (c .before .if1 .came))
 
 pub lay-spec : {M : Type 1} → statement M
-lay-spec = tie.close (tie.spec slice-write-out place-after-requires same-length returns)
+lay-spec = tie.close (tie.spec (λ c. search needs) (λ c κs. search needs) same-length returns)

@@ -5,24 +5,6 @@ use borrow.Author.Needs.{needs}
 use Rattle.text.proofs.lay_label.Statement.{statement}
 use Rattle.text.proofs.lay_label.Tie as tie
 
-cast-lay-number : tie.Need-cast-lay-number
-cast-lay-number c = search needs
-
-lay-number-requires : tie.Need-lay-number-requires
-lay-number-requires c κs = search needs
-
-lay-requires : tie.Need-lay-requires
-lay-requires c κs = search needs
-
-cast-lay-number-2 : tie.Need-cast-lay-number-2
-cast-lay-number-2 c = search needs
-
-lay-number-requires-2 : tie.Need-lay-number-requires-2
-lay-number-requires-2 c κs = search needs
-
-same-length : tie.Need-same-length
-same-length c = search needs
-
 returns : tie.Need-returns
 returns c =
     let n = c .before .before in
@@ -34,10 +16,10 @@ pub lay-label-spec : {M : Type 1} → statement M
 lay-label-spec =
     tie.close
     (tie.spec
-    cast-lay-number
-    lay-number-requires
-    lay-requires
-    cast-lay-number-2
-    lay-number-requires-2
-    same-length
+    (λ c. search needs)
+    (λ c κs. search needs)
+    (λ c κs. search needs)
+    (λ c. search needs)
+    (λ c κs. search needs)
+    (λ c. search needs)
     returns)

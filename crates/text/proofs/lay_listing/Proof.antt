@@ -13,7 +13,7 @@ use Rattle.bound.specs.declared.Verdict.the-variants.{None}
 use Rattle.row_words.specs.RowWords.{answerAt, answersIn}
 use Rattle.plan.specs.Plan.{blank}
 use Rattle.plan.proofs.Stream as stream
-use Rattle.text.specs.Listing.{header, row, rowLines, listingOf}
+use Rattle.text.specs.Listing.{header, row, listedRows, listingOf}
 use Rattle.text.specs.Put.{Lays}
 use Rattle.text.proofs.Laying.{none, then, last, is, same}
 use Rattle.text.proofs.Rows.{rows-more, rows-all}
@@ -22,7 +22,7 @@ use Rattle.text.proofs.lay_listing.Tie as tie
 
 abbrev Inv-loop : tie.InvT-loop
 Inv-loop out₀ at words sheet n next₀ k₀ out next k =
-    (k ≤ n) × Lays out₀ next₀ (rowLines (take k (sheet .streams)) (take k (answersIn (sheet .count) words))) next out
+    (k ≤ n) × Lays out₀ next₀ (listedRows (take k (sheet .streams)) (take k (answersIn (sheet .count) words))) next out
 
 abbrev μ-loop : tie.MeasureT-loop
 μ-loop out₀ at words sheet n next₀ k₀ out next k = n - k
@@ -31,33 +31,9 @@ abbrev μ-loop : tie.MeasureT-loop
 places : (c : tie.Start Inv-loop μ-loop) → length (c .args .t3 .streams) ≡ streams
 places c = sym (length-map (c .args .t3 .streams) (stream.the-field .into)) ∙ c .good .1 .1 .0 .1 .1 .1 .0 .1 .0 .1
 
-smaller-requires : tie.Need-smaller-requires Inv-loop μ-loop
-smaller-requires c κs = search needs
-
-lay-header-requires : tie.Need-lay-header-requires Inv-loop μ-loop
-lay-header-requires c κs = search needs
-
 loop-holds : tie.Need-loop-holds Inv-loop μ-loop
-unfolding rowLines
+unfolding listedRows
 loop-holds c = (omega arith, none _ _ (omega arith))
-
-mul-stream : tie.Need-mul-stream Inv-loop μ-loop
-mul-stream c = search needs
-
-element-copy-out-stream : tie.Need-element-copy-out-stream Inv-loop μ-loop
-element-copy-out-stream c = search needs
-
-answer-in-requires : tie.Need-answer-in-requires Inv-loop μ-loop
-answer-in-requires c κs = search needs
-
-lay-row-requires : tie.Need-lay-row-requires Inv-loop μ-loop
-lay-row-requires c κs = search needs
-
-add-k : tie.Need-add-k Inv-loop μ-loop
-add-k c = search needs
-
-loop-less : tie.Need-loop-less Inv-loop μ-loop
-loop-less c = search needs
 
 loop-again : tie.Need-loop-again Inv-loop μ-loop
 loop-again c =
@@ -73,7 +49,7 @@ loop-again c =
     let few : l .k < s .args .t3 .count = omega (arith, d .loop-test .taken, n .smaller .ensures) in
     let given : a .answer-in .result ≡ getD answers (l .k) nobody = a .answer-in .ensures ∙ sym (rows-at _ _ nobody (l .k) few) in (
       omega arith,
-      is (ap (λ x. rowLines (take (l .k) ss) (take (l .k) answers) ++ row (getD ss (l .k) blank) x) given
+      is (ap (λ x. listedRows (take (l .k) ss) (take (l .k) answers) ++ row (getD ss (l .k) blank) x) given
           ∙ rows-more (l .k) ss answers blank nobody (omega (arith, places s, d .loop-test .taken, n .smaller .ensures)) (omega (arith, few, length-rows (s .args .t3 .count) (answerAt (now (s .args .answers))))))
           (then (l .inv .1) (last (r .lay-row .ensures)) (omega arith)),
     )
@@ -89,7 +65,7 @@ returns c =
     let answers = answersIn count (now (s .args .answers)) in
     let k : c .before .loop .k ≡ min count streams = omega (arith, c .before .loop .inv .0, c .loop-test .left, n .smaller .ensures) in
     let e : take (c .before .loop .k) ss ≡ take count ss = ap (λ k. take k ss) k ∙ take-min count streams ss (omega (arith, places s)) in
-    is (ap (λ t. header ++ t) (rows-all (c .before .loop .k) ss answers ∙ ap (λ t. rowLines t answers) e))
+    is (ap (λ t. header ++ t) (rows-all (c .before .loop .k) ss answers ∙ ap (λ t. listedRows t answers) e))
     (then (h .lay-header .ensures) (last (c .before .loop .inv .1)) (omega arith))
 
 same-length : tie.Need-same-length Inv-loop μ-loop
@@ -101,15 +77,15 @@ lay-listing-spec =
     (tie.spec
     Inv-loop
     μ-loop
-    smaller-requires
-    lay-header-requires
+    (λ c κs. search needs)
+    (λ c κs. search needs)
     loop-holds
-    mul-stream
-    element-copy-out-stream
-    answer-in-requires
-    lay-row-requires
-    add-k
-    loop-less
+    (λ c. search needs)
+    (λ c. search needs)
+    (λ c κs. search needs)
+    (λ c κs. search needs)
+    (λ c. search needs)
+    (λ c. search needs)
     loop-again
     same-length
     returns)

@@ -13,42 +13,6 @@ use Rattle.text.proofs.lay_row.Tie as tie
 room : (c : tie.Start) → length (c .args .out .now) ≤ lastPlace
 room c = omega arith
 
-lay-label-requires : tie.Need-lay-label-requires
-lay-label-requires c κs = search needs
-
-lay-requires : tie.Need-lay-requires
-lay-requires c κs = search needs
-
-cast-lay-number : tie.Need-cast-lay-number
-cast-lay-number c = search needs
-
-lay-number-requires : tie.Need-lay-number-requires
-lay-number-requires c κs = search needs
-
-lay-requires-2 : tie.Need-lay-requires-2
-lay-requires-2 c κs = search needs
-
-lay-bound-requires : tie.Need-lay-bound-requires
-lay-bound-requires c κs = search needs
-
-lay-requires-3 : tie.Need-lay-requires-3
-lay-requires-3 c κs = search needs
-
-cast-lay-number-2 : tie.Need-cast-lay-number-2
-cast-lay-number-2 c = search needs
-
-lay-number-requires-2 : tie.Need-lay-number-requires-2
-lay-number-requires-2 c κs = search needs
-
-lay-requires-4 : tie.Need-lay-requires-4
-lay-requires-4 c κs = search needs
-
-lay-verdict-requires : tie.Need-lay-verdict-requires
-lay-verdict-requires c κs = search needs
-
-lay-requires-5 : tie.Need-lay-requires-5
-lay-requires-5 c κs = search needs
-
 returns : tie.Need-returns
 unfolding row
 returns c =
@@ -80,17 +44,17 @@ pub lay-row-spec : {M : Type 1} → statement M
 lay-row-spec =
     tie.close
     (tie.spec
-    lay-label-requires
-    lay-requires
-    cast-lay-number
-    lay-number-requires
-    lay-requires-2
-    lay-bound-requires
-    lay-requires-3
-    cast-lay-number-2
-    lay-number-requires-2
-    lay-requires-4
-    lay-verdict-requires
-    lay-requires-5
+    (λ c κs. search needs)
+    (λ c κs. search needs)
+    (λ c. search needs)
+    (λ c κs. search needs)
+    (λ c κs. search needs)
+    (λ c κs. search needs)
+    (λ c κs. search needs)
+    (λ c. search needs)
+    (λ c κs. search needs)
+    (λ c κs. search needs)
+    (λ c κs. search needs)
+    (λ c κs. search needs)
     same-length
     returns)

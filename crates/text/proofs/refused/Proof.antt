@@ -5,23 +5,8 @@ use borrow.Author.Needs.{needs}
 use Rattle.text.proofs.refused.Statement.{statement}
 use Rattle.text.proofs.refused.Tie as tie
 
-lay-refusal-requires : tie.Need-lay-refusal-requires
-lay-refusal-requires c κs = search needs
-
-sub-bytes : tie.Need-sub-bytes
-sub-bytes c = search needs
-
-same-length : tie.Need-same-length
-same-length c = search needs
-
 returns : tie.Need-returns
 returns c = put-full 0 (omega arith) (c .before .before .before .lay-refusal .ensures) (omega arith)
-
-lay-refusal-requires-2 : tie.Need-lay-refusal-requires-2
-lay-refusal-requires-2 c κs = search needs
-
-same-length-2 : tie.Need-same-length-2
-same-length-2 c = search needs
 
 returns-2 : tie.Need-returns-2
 returns-2 c =
@@ -32,10 +17,10 @@ pub refused-spec : {M : Type 1} → statement M
 refused-spec =
     tie.close
     (tie.spec
-    lay-refusal-requires
-    sub-bytes
-    same-length
+    (λ c κs. search needs)
+    (λ c. search needs)
+    (λ c. search needs)
     returns
-    lay-refusal-requires-2
-    same-length-2
+    (λ c κs. search needs)
+    (λ c. search needs)
     returns-2)

@@ -4,14 +4,8 @@ use borrow.Author.Needs.{needs}
 use Rattle.tournament.proofs.bit.Statement.{statement}
 use Rattle.tournament.proofs.bit.Tie as tie
 
-sub-result : tie.Need-sub-result
-sub-result c = search needs
-
-shr-result : tie.Need-shr-result
-shr-result c = search needs
-
 returns : tie.Need-returns
 returns c = one-bit _
 
 pub bit-spec : {M : Type 1} → statement M
-bit-spec = tie.close (tie.spec sub-result shr-result returns)
+bit-spec = tie.close (tie.spec (λ c. search needs) (λ c. search needs) returns)

@@ -25,12 +25,6 @@ heard-as t k b h e q = ap (λ (b : Bool). elim b [ true ↦ Heard | false ↦ No
 judged-fine : (c : tie.After-enum-told) → judgedOf (c .before .before .before .args .t) ≡ Fine
 judged-fine c = sym (c .before .before .judged .ensures) ∙ c .enum-told .given .1
 
-judged-requires : tie.Need-judged-requires
-judged-requires c κs = search needs
-
-enum-known-no : tie.Need-enum-known-no
-enum-known-no c = search needs
-
 returns : tie.Need-returns
 unfolding carrierOf
 returns c = rw (sym (c .before .before .before .judged .ensures) ∙ c .before .no .given .1) refl
@@ -38,19 +32,10 @@ returns c = rw (sym (c .before .before .before .judged .ensures) ∙ c .before .
 enum-told : tie.Need-enum-told
 enum-told c = search needs
 
-enum-known-phase : tie.Need-enum-known-phase
-enum-known-phase c = search needs
-
 heard-requires : tie.Need-heard-requires
 heard-requires c κs =
     let p = c .before in
     ready-bit _ _ (ready-fine _ (judged-fine (p .before .before))) (p .phase .given .1)
-
-enum-told-2 : tie.Need-enum-told-2
-enum-told-2 c = search needs
-
-enum-told-3 : tie.Need-enum-told-3
-enum-told-3 c = search needs
 
 returns-2 : tie.Need-returns-2
 returns-2 c =
@@ -72,14 +57,14 @@ pub listen-spec : {M : Type 1} → statement M
 listen-spec =
     tie.close
     (tie.spec
-    judged-requires
-    enum-known-no
+    (λ c κs. search needs)
+    (λ c. search needs)
     returns
     enum-told
-    enum-known-phase
+    (λ c. search needs)
     heard-requires
-    enum-told-2
-    enum-told-3
+    (λ c. search needs)
+    (λ c. search needs)
     returns-2
     returns-3
     returns-4

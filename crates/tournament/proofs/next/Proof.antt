@@ -24,26 +24,14 @@ marks c =
     (λ w. w .2 ∙ sym (rw (← c .before .heard .ensures, w .0 .left) refl))
     (c .if1 .came)
 
-enum-known-phase : tie.Need-enum-known-phase
-enum-known-phase c = search needs
-
 heard-requires : tie.Need-heard-requires
 heard-requires c κs = at-a-bit (c .before)
 
 silenced-requires : tie.Need-silenced-requires
 silenced-requires c κs = at-a-bit (c .before .before .before)
 
-winner-requires : tie.Need-winner-requires
-winner-requires c κs = search needs
-
 add-t14 : tie.Need-add-t14
 add-t14 c = let h = at-a-bit (c .before .before .before .before) in omega (arith, h .narrow, h .to)
-
-enum-told : tie.Need-enum-told
-enum-told c = search needs
-
-enum-told-2 : tie.Need-enum-told-2
-enum-told-2 c = search needs
 
 returns : tie.Need-returns
 returns c =
@@ -70,13 +58,13 @@ pub next-spec : {M : Type 1} → statement M
 next-spec =
     tie.close
     (tie.spec
-    enum-known-phase
+    (λ c. search needs)
     heard-requires
     silenced-requires
-    winner-requires
+    (λ c κs. search needs)
     add-t14
-    enum-told
-    enum-told-2
+    (λ c. search needs)
+    (λ c. search needs)
     returns
     returns-2
     returns-3

@@ -11,17 +11,11 @@ use Rattle.tournament.proofs.parting_bit.Tie as tie
 pair-fine : (c : tie.After-enum-told) → let a = c .before .before .before .args in pairVerdictOf (a .bits) (a .a) (a .b) ≡ Fine
 pair-fine c = sym (c .before .before .pair-verdict .ensures) ∙ c .enum-told .given .1
 
-pair-verdict-requires : tie.Need-pair-verdict-requires
-pair-verdict-requires c κs = search needs
-
 enum-told : tie.Need-enum-told
 enum-told c = search needs
 
 first-difference-requires : tie.Need-first-difference-requires
 first-difference-requires c κs = fine-if-playable-pair _ _ _ .0 (pair-fine c)
-
-enum-known-no : tie.Need-enum-known-no
-enum-known-no c = search needs
 
 returns : tie.Need-returns
 unfolding partingOf
@@ -35,9 +29,9 @@ pub parting-bit-spec : {M : Type 1} → statement M
 parting-bit-spec =
     tie.close
     (tie.spec
-    pair-verdict-requires
+    (λ c κs. search needs)
     enum-told
     first-difference-requires
-    enum-known-no
+    (λ c. search needs)
     returns
     returns-2)

@@ -19,9 +19,6 @@ abbrev μ-loop : tie.MeasureT-loop
 judged-fine : (c : tie.After-enum-told Inv-loop μ-loop) → judgedOf (c .before .before .before .args .t) ≡ Fine
 judged-fine c = sym (c .before .before .judged .ensures) ∙ c .enum-told .given .1
 
-judged-requires : tie.Need-judged-requires Inv-loop μ-loop
-judged-requires c κs = search needs
-
 enum-told : tie.Need-enum-told Inv-loop μ-loop
 enum-told c = search needs
 
@@ -34,19 +31,10 @@ next-requires c κs =
     let l = c .before .loop in
     rw (l .inv .1) (ready-steps _ (ready-fine _ (judged-fine (c .before .before))) (l .counter))
 
-add-counter : tie.Need-add-counter Inv-loop μ-loop
-add-counter c = search needs
-
-loop-less : tie.Need-loop-less Inv-loop μ-loop
-loop-less c = search needs
-
 loop-again : tie.Need-loop-again Inv-loop μ-loop
 loop-again c =
     let l = c .before .before .loop in
     (omega arith, c .next .ensures ∙ ap next (l .inv .1) ∙ sym (steps-more (l .counter) _))
-
-enum-known-no : tie.Need-enum-known-no Inv-loop μ-loop
-enum-known-no c = search needs
 
 returns : tie.Need-returns Inv-loop μ-loop
 unfolding runOf
@@ -66,13 +54,13 @@ run-spec =
     (tie.spec
     Inv-loop
     μ-loop
-    judged-requires
+    (λ c κs. search needs)
     enum-told
     loop-holds
     next-requires
-    add-counter
-    loop-less
+    (λ c. search needs)
+    (λ c. search needs)
     loop-again
-    enum-known-no
+    (λ c. search needs)
     returns
     returns-2)

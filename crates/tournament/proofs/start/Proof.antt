@@ -13,9 +13,6 @@ use Rattle.tournament.proofs.start.Tie as tie
 verdict-fine : (c : tie.After-enum-told) → let a = c .before .before .before .args in verdictOf (a .bits) (a .count) (a .priorities) (AtBit 1) ≡ Fine
 verdict-fine c = sym (c .before .before .verdict .ensures) ∙ c .enum-told .given .1
 
-verdict-requires : tie.Need-verdict-requires
-verdict-requires c κs = search needs
-
 enum-told : tie.Need-enum-told
 enum-told c = search needs
 
@@ -23,12 +20,6 @@ begun-requires : tie.Need-begun-requires
 begun-requires c κs =
     let a = c .before .before .before .args in
     fine-passed (a .bits) (a .count) (a .priorities) (AtBit 1) (verdict-fine c) .few
-
-enum-known-no : tie.Need-enum-known-no
-enum-known-no c = search needs
-
-nobody-requires : tie.Need-nobody-requires
-nobody-requires c κs = search needs
 
 returns : tie.Need-returns
 unfolding startOf
@@ -44,10 +35,10 @@ pub start-spec : {M : Type 1} → statement M
 start-spec =
     tie.close
     (tie.spec
-    verdict-requires
+    (λ c κs. search needs)
     enum-told
     begun-requires
-    enum-known-no
-    nobody-requires
+    (λ c. search needs)
+    (λ c κs. search needs)
     returns
     returns-2)

@@ -10,17 +10,11 @@ use Rattle.tournament.proofs.step.Tie as tie
 judged-fine : (c : tie.After-enum-told) → judgedOf (c .before .before .before .args .t) ≡ Fine
 judged-fine c = sym (c .before .before .judged .ensures) ∙ c .enum-told .given .1
 
-judged-requires : tie.Need-judged-requires
-judged-requires c κs = search needs
-
 enum-told : tie.Need-enum-told
 enum-told c = search needs
 
 next-requires : tie.Need-next-requires
 next-requires c κs = ready-fine _ (judged-fine c)
-
-enum-known-no : tie.Need-enum-known-no
-enum-known-no c = search needs
 
 returns : tie.Need-returns
 unfolding stepOf
@@ -32,4 +26,4 @@ returns-2 c = outcome-refused _ _ _ _ _ (sym (c .before .before .before .judged 
 
 pub step-spec : {M : Type 1} → statement M
 step-spec =
-    tie.close (tie.spec judged-requires enum-told next-requires enum-known-no returns returns-2)
+    tie.close (tie.spec (λ c κs. search needs) enum-told next-requires (λ c. search needs) returns returns-2)

@@ -15,11 +15,8 @@ returns c =
     let small : a .p .0 < 2 ^ 32 = search needs in
     sym (lt-ltb (a .p .0) (2 ^ a .bits) (lt-of-lt-of-le small (pow-mono (c .if1 .taken))))
 
-shr-result : tie.Need-shr-result
-shr-result c = search needs
-
 returns-2 : tie.Need-returns-2
 returns-2 c = above-bits (c .before .before .args .p .0) (c .before .before .args .bits)
 
 pub fits-in-spec : {M : Type 1} → statement M
-fits-in-spec = tie.close (tie.spec returns shr-result returns-2)
+fits-in-spec = tie.close (tie.spec returns (λ c. search needs) returns-2)

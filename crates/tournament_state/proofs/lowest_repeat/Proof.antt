@@ -9,20 +9,11 @@ use borrow.Author.Needs.{needs}
 use Rattle.tournament_state.proofs.lowest_repeat.Statement.{statement}
 use Rattle.tournament_state.proofs.lowest_repeat.Tie as tie
 
-numbers-requires : tie.Need-numbers-requires
-numbers-requires c κs = search needs
-
-array-share-prefix-values : tie.Need-array-share-prefix-values
-array-share-prefix-values c = search needs
-
 slice-aggregate-first-repeat : tie.Need-slice-aggregate-first-repeat
 slice-aggregate-first-repeat c =
     let a = c .before .before .args in
     let long : length (a .priorities) ≡ 128 = search needs in
     omega (arith, length-take (a .count) (c .before .numbers .result), ap length (c .before .numbers .ensures) ∙ length-map (a .priorities) number)
-
-first-repeat-requires : tie.Need-first-repeat-requires
-first-repeat-requires c κs = search needs
 
 returns : tie.Need-returns
 returns c =
@@ -31,4 +22,4 @@ returns c =
 
 pub lowest-repeat-spec : {M : Type 1} → statement M
 lowest-repeat-spec =
-    tie.close (tie.spec numbers-requires array-share-prefix-values slice-aggregate-first-repeat first-repeat-requires returns)
+    tie.close (tie.spec (λ c κs. search needs) (λ c. search needs) slice-aggregate-first-repeat (λ c κs. search needs) returns)

@@ -7,6 +7,7 @@ use native.Mathlib.Omega.{arith}
 use lib.ListN.{length, getD, take, length-take}
 use lib.Seq.{getD-take}
 use Rattle.names.specs.declared.Priority.{Priority}
+use Rattle.repeats.specs.Repeats.{asRow}
 use Rattle.laws.proofs.Rows.{NoneBelow, none-yet, none-more, found-at, found-none}
 use Rattle.tournament_state.specs.Refusals.{none, fitsIn, lowestUnfit}
 use borrow.Author.Needs.{needs}
@@ -30,15 +31,6 @@ here bits n ps i h = ap (λ (p : Priority). not (fitsIn bits p)) (getD-take n ps
 loop-holds : tie.Need-loop-holds Inv-loop μ-loop
 loop-holds c = (search needs, none-yet _)
 
-mul-p : tie.Need-mul-p Inv-loop μ-loop
-mul-p c = search needs
-
-array-copy-out-p : tie.Need-array-copy-out-p Inv-loop μ-loop
-array-copy-out-p c = search needs
-
-fits-in-requires : tie.Need-fits-in-requires Inv-loop μ-loop
-fits-in-requires c κs = search needs
-
 returns : tie.Need-returns Inv-loop μ-loop
 unfolding lowestUnfit
 returns c =
@@ -47,13 +39,7 @@ returns c =
     let long : length (a .t2) ≡ 128 = search needs in
     let ps = take (a .count) (a .t2) in
     let no = here (a .bits) (a .count) (a .t2) (l .loop .i) (omega arith) ∙ ap not (sym (c .before .fits-in .ensures)) ∙ c .if1 .taken in
-    sym (found-at (unfit (a .bits) ps) (length ps) (l .loop .i) (l .loop .inv .1) (omega (arith, length-take (a .count) (a .t2))) no)
-
-add-i : tie.Need-add-i Inv-loop μ-loop
-add-i c = search needs
-
-loop-less : tie.Need-loop-less Inv-loop μ-loop
-loop-less c = search needs
+    sym (ap asRow (found-at (unfit (a .bits) ps) (length ps) (l .loop .i) (l .loop .inv .1) (omega (arith, length-take (a .count) (a .t2))) no))
 
 loop-again : tie.Need-loop-again Inv-loop μ-loop
 loop-again c =
@@ -68,7 +54,7 @@ returns-2 c =
     let l = c .before in
     let a = l .before .args in
     let ps = take (a .count) (a .t2) in
-    sym (found-none (unfit (a .bits) ps) (length ps) (l .loop .i) (l .loop .inv .1) (omega (arith, length-take (a .count) (a .t2))))
+    sym (ap asRow (found-none (unfit (a .bits) ps) (length ps) (l .loop .i) (l .loop .inv .1) (omega (arith, length-take (a .count) (a .t2)))))
 
 pub lowest-unfit-spec : {M : Type 1} → statement M
 lowest-unfit-spec =
@@ -77,11 +63,11 @@ lowest-unfit-spec =
     Inv-loop
     μ-loop
     loop-holds
-    mul-p
-    array-copy-out-p
-    fits-in-requires
+    (λ c. search needs)
+    (λ c. search needs)
+    (λ c κs. search needs)
     returns
-    add-i
-    loop-less
+    (λ c. search needs)
+    (λ c. search needs)
     loop-again
     returns-2)

@@ -31,30 +31,15 @@ past-bits c = past-7 (c .before .before) ∙ passed _ _ (ap unless (sym (c .befo
 
 -- .. past the priorities, ..
 past-fit : (c : tie.After-enum-told) → let ls = lines (c .before .before .before .before .before .before .before) in judge ls ≡ judge (drop 3 ls)
-past-fit c = past-bits (c .before .before .before) ∙ passed _ _ (sym (c .before .before .lowest-unfit .ensures) ∙ c .enum-told .given .1)
+past-fit c = past-bits (c .before .before .before) ∙ passed _ _ (ap rowIn (sym (c .before .before .lowest-unfit .ensures) ∙ c .enum-told .given .1))
 
 -- .. and past the phase
 past-phase : (c : tie.Else3) → let ls = lines (c .before .before .before .before .before .before .before .before .before) in judge ls ≡ judge (drop 4 ls)
 past-phase c = past-fit (c .before .before) ∙ passed _ _ (ap unless (sym (c .before .phase-inside .ensures) ∙ not-false _ (c .if3 .left)))
 
-one-to-requires : tie.Need-one-to-requires
-one-to-requires c κs = search needs
-
-refused-requires : tie.Need-refused-requires
-refused-requires c κs = search needs
-
 returns : tie.Need-returns
 unfolding verdictOf
 returns c = c .refused .ensures ∙ sym (given _ _ 0 (ap unless (sym (c .before .before .one-to .ensures) ∙ not-true _ (c .before .if1 .taken))))
-
-cast-one-to : tie.Need-cast-one-to
-cast-one-to c = search needs
-
-one-to-requires-2 : tie.Need-one-to-requires-2
-one-to-requires-2 c κs = search needs
-
-refused-requires-2 : tie.Need-refused-requires-2
-refused-requires-2 c κs = search needs
 
 returns-2 : tie.Need-returns-2
 unfolding verdictOf
@@ -65,26 +50,14 @@ returns-2 c =
 lowest-unfit-requires : tie.Need-lowest-unfit-requires
 lowest-unfit-requires c κs = few (c .before .before)
 
-enum-known-row : tie.Need-enum-known-row
-enum-known-row c = search needs
-
-refused-requires-3 : tie.Need-refused-requires-3
-refused-requires-3 c κs = search needs
-
 returns-3 : tie.Need-returns-3
 unfolding verdictOf
 returns-3 c =
     let u = c .before .before .before .before in
-    c .refused3 .ensures ∙ sym (past-bits (u .before) ∙ given _ _ _ (sym (u .lowest-unfit .ensures) ∙ c .before .before .row .given .1))
+    c .refused3 .ensures ∙ sym (past-bits (u .before) ∙ given _ _ _ (ap rowIn (sym (u .lowest-unfit .ensures) ∙ c .before .before .row .given .1)))
 
 enum-told : tie.Need-enum-told
 enum-told c = search needs
-
-phase-inside-requires : tie.Need-phase-inside-requires
-phase-inside-requires c κs = search needs
-
-refused-requires-4 : tie.Need-refused-requires-4
-refused-requires-4 c κs = search needs
 
 returns-4 : tie.Need-returns-4
 unfolding verdictOf
@@ -94,15 +67,6 @@ returns-4 c =
 
 lowest-repeat-requires : tie.Need-lowest-repeat-requires
 lowest-repeat-requires c κs = few (c .before .before .before .before .before .before .before)
-
-enum-known-row-2 : tie.Need-enum-known-row-2
-enum-known-row-2 c = search needs
-
-refused-requires-5 : tie.Need-refused-requires-5
-refused-requires-5 c κs = search needs
-
-enum-told-2 : tie.Need-enum-told-2
-enum-told-2 c = search needs
 
 returns-5 : tie.Need-returns-5
 unfolding verdictOf
@@ -120,24 +84,24 @@ pub verdict-spec : {M : Type 1} → statement M
 verdict-spec =
     tie.close
     (tie.spec
-    one-to-requires
-    refused-requires
+    (λ c κs. search needs)
+    (λ c κs. search needs)
     returns
-    cast-one-to
-    one-to-requires-2
-    refused-requires-2
+    (λ c. search needs)
+    (λ c κs. search needs)
+    (λ c κs. search needs)
     returns-2
     lowest-unfit-requires
-    enum-known-row
-    refused-requires-3
+    (λ c. search needs)
+    (λ c κs. search needs)
     returns-3
     enum-told
-    phase-inside-requires
-    refused-requires-4
+    (λ c κs. search needs)
+    (λ c κs. search needs)
     returns-4
     lowest-repeat-requires
-    enum-known-row-2
-    refused-requires-5
-    enum-told-2
+    (λ c. search needs)
+    (λ c κs. search needs)
+    (λ c. search needs)
     returns-5
     returns-6)

@@ -6,14 +6,14 @@ use borrow.Author.Needs.{needs}
 use denote.Ref.{now}
 use lib.ListN.{length, take}
 use lib.Seq.{take-all}
-use Rattle.words.specs.Words.{put}
+use Rattle.words.specs.Words.{withWords}
 use Rattle.words.proofs.Laws.{put-room, put-no-room, put-none, put-next}
 use Rattle.words.proofs.put_words.Statement.{statement}
 use Rattle.words.proofs.put_words.Tie as tie
 
 abbrev Inv-loop : tie.InvT-loop
 Inv-loop buf₀ at ws n room i₀ buf i =
-    (i ≤ n) × (n ≡ length ws) × (at + 4 * n ≤ length buf₀) × (length buf ≡ length buf₀) × (buf ≡ put buf₀ at (take i ws))
+    (i ≤ n) × (n ≡ length ws) × (at + 4 * n ≤ length buf₀) × (length buf ≡ length buf₀) × (buf ≡ withWords buf₀ at (take i ws))
 
 abbrev μ-loop : tie.MeasureT-loop
 μ-loop buf₀ at ws n room i₀ buf i = n - i
@@ -31,27 +31,6 @@ returns-2 c =
 loop-holds : tie.Need-loop-holds Inv-loop μ-loop
 loop-holds c = (omega arith, refl, omega arith, refl, sym (put-none _ _))
 
-mul-w : tie.Need-mul-w Inv-loop μ-loop
-mul-w c = search needs
-
-shared-slice-read-w : tie.Need-shared-slice-read-w Inv-loop μ-loop
-shared-slice-read-w c = search needs
-
-mul-put-word : tie.Need-mul-put-word Inv-loop μ-loop
-mul-put-word c = search needs
-
-add-put-word : tie.Need-add-put-word Inv-loop μ-loop
-add-put-word c = search needs
-
-put-word-requires : tie.Need-put-word-requires Inv-loop μ-loop
-put-word-requires c κs = search needs
-
-add-i : tie.Need-add-i Inv-loop μ-loop
-add-i c = search needs
-
-loop-less : tie.Need-loop-less Inv-loop μ-loop
-loop-less c = search needs
-
 loop-again : tie.Need-loop-again Inv-loop μ-loop
 loop-again c =
     let p = c .before .before in
@@ -64,14 +43,11 @@ loop-again c =
       p .put-word .ensures ∙ put-next (now (a .buf)) (a .at) (now (a .ws)) (l .i) (omega arith) (l .inv .2) (l .inv .4),
     )
 
-same-length : tie.Need-same-length Inv-loop μ-loop
-same-length c = search needs
-
 returns-3 : tie.Need-returns-3 Inv-loop μ-loop
 returns-3 c =
     let l = c .before .loop in
     let a = c .before .before .before .before .before .before .args in
-    l .inv .4 ∙ ap (put (now (a .buf)) (a .at)) (take-all (l .i) (now (a .ws)) (omega arith)) ∙ sym (put-room (now (a .buf)) (a .at) (now (a .ws)) (l .inv .2))
+    l .inv .4 ∙ ap (withWords (now (a .buf)) (a .at)) (take-all (l .i) (now (a .ws)) (omega arith)) ∙ sym (put-room (now (a .buf)) (a .at) (now (a .ws)) (l .inv .2))
 
 pub put-words-spec : {M : Type 1} → statement M
 put-words-spec =
@@ -82,13 +58,13 @@ put-words-spec =
     returns
     returns-2
     loop-holds
-    mul-w
-    shared-slice-read-w
-    mul-put-word
-    add-put-word
-    put-word-requires
-    add-i
-    loop-less
+    (λ c. search needs)
+    (λ c. search needs)
+    (λ c. search needs)
+    (λ c. search needs)
+    (λ c κs. search needs)
+    (λ c. search needs)
+    (λ c. search needs)
     loop-again
-    same-length
+    (λ c. search needs)
     returns-3)

@@ -18,50 +18,8 @@ Inv-loop bytes out₀ n i₀ out i =
 abbrev μ-loop : tie.MeasureT-loop
 μ-loop bytes out₀ n i₀ out i = n - i
 
-smaller-requires : tie.Need-smaller-requires Inv-loop μ-loop
-smaller-requires c κs = search needs
-
 loop-holds : tie.Need-loop-holds Inv-loop μ-loop
 loop-holds c = (omega arith, c .smaller .ensures, refl, refl)
-
-mul-at : tie.Need-mul-at Inv-loop μ-loop
-mul-at c = search needs
-
-shared-slice-read-joined : tie.Need-shared-slice-read-joined Inv-loop μ-loop
-shared-slice-read-joined c = search needs
-
-add-joined : tie.Need-add-joined Inv-loop μ-loop
-add-joined c = search needs
-
-shared-slice-read-joined-2 : tie.Need-shared-slice-read-joined-2 Inv-loop μ-loop
-shared-slice-read-joined-2 c = search needs
-
-add-joined-2 : tie.Need-add-joined-2 Inv-loop μ-loop
-add-joined-2 c = search needs
-
-shared-slice-read-joined-3 : tie.Need-shared-slice-read-joined-3 Inv-loop μ-loop
-shared-slice-read-joined-3 c = search needs
-
-add-joined-3 : tie.Need-add-joined-3 Inv-loop μ-loop
-add-joined-3 c = search needs
-
-shared-slice-read-joined-4 : tie.Need-shared-slice-read-joined-4 Inv-loop μ-loop
-shared-slice-read-joined-4 c = search needs
-
-joined-requires : tie.Need-joined-requires Inv-loop μ-loop
-joined-requires c κs = search needs
-
-mul-out : tie.Need-mul-out Inv-loop μ-loop
-mul-out c = search needs
-
-slice-write-out : tie.Need-slice-write-out Inv-loop μ-loop
-slice-write-out c = search needs
-
-add-i : tie.Need-add-i Inv-loop μ-loop
-add-i c = search needs
-
-loop-less : tie.Need-loop-less Inv-loop μ-loop
-loop-less c = search needs
 
 loop-again : tie.Need-loop-again Inv-loop μ-loop
 loop-again c =
@@ -72,9 +30,6 @@ loop-again c =
     let w = c .joined .ensures ∙ sym (word-is (now (a .bytes)) i (omega arith)) in
     let next = laid-next (wordsOf (now (a .bytes))) (now (a .out)) i (omega (arith, length-words (now (a .bytes)))) (omega arith) o w in
     (omega arith, l .loop .inv .1, length-set (l .loop .out) i _ ∙ l .loop .inv .2, next)
-
-same-length : tie.Need-same-length Inv-loop μ-loop
-same-length c = search needs
 
 returns : tie.Need-returns Inv-loop μ-loop
 returns c =
@@ -88,21 +43,21 @@ words-into-spec =
     (tie.spec
     Inv-loop
     μ-loop
-    smaller-requires
+    (λ c κs. search needs)
     loop-holds
-    mul-at
-    shared-slice-read-joined
-    add-joined
-    shared-slice-read-joined-2
-    add-joined-2
-    shared-slice-read-joined-3
-    add-joined-3
-    shared-slice-read-joined-4
-    joined-requires
-    mul-out
-    slice-write-out
-    add-i
-    loop-less
+    (λ c. search needs)
+    (λ c. search needs)
+    (λ c. search needs)
+    (λ c. search needs)
+    (λ c. search needs)
+    (λ c. search needs)
+    (λ c. search needs)
+    (λ c. search needs)
+    (λ c κs. search needs)
+    (λ c. search needs)
+    (λ c. search needs)
+    (λ c. search needs)
+    (λ c. search needs)
     loop-again
-    same-length
+    (λ c. search needs)
     returns)

@@ -9,15 +9,6 @@ use Rattle.writer.proofs.Whole.{both}
 use Rattle.writer.proofs.write.Statement.{statement}
 use Rattle.writer.proofs.write.Tie as tie
 
-words-of-requires : tie.Need-words-of-requires
-words-of-requires c κs = search needs
-
-write-words-requires : tie.Need-write-words-requires
-write-words-requires c κs = search needs
-
-same-length : tie.Need-same-length
-same-length c = search needs
-
 returns : tie.Need-returns
 returns c =
     let w = c .before .before in
@@ -29,4 +20,4 @@ returns c =
     (w .write-words .ensures .0 ∙ p, w .write-words .ensures .1 ∙ q)
 
 pub write-spec : {M : Type 1} → statement M
-write-spec = tie.close (tie.spec words-of-requires write-words-requires same-length returns)
+write-spec = tie.close (tie.spec (λ c κs. search needs) (λ c κs. search needs) (λ c. search needs) returns)

@@ -30,12 +30,6 @@ few n m p e =
     let r = fine-if-right n m p .0 e in
     (omega (arith, r .count, r .within .count), omega (arith, r .sources, r .within .sources))
 
-check-words-requires : tie.Need-check-words-requires
-check-words-requires c κs = search needs
-
-enum-known-r : tie.Need-enum-known-r
-enum-known-r c = search needs
-
 returns : tie.Need-returns
 returns c =
     let k = c .before .before .before in
@@ -50,9 +44,6 @@ cast-size c = let b = c .before .before .before .before in omega (arith, few (b 
 
 cast-size-2 : tie.Need-cast-size-2
 cast-size-2 c = let b = c .before .before .before .before in omega (arith, few (b .args .n) (b .args .m) (asked b) (fine c))
-
-size-requires : tie.Need-size-requires
-size-requires c κs = search needs
 
 returns-2 : tie.Need-returns-2
 returns-2 c =
@@ -70,9 +61,6 @@ put-file-requires c κs =
     let (n, m) = few (b .args .n) (b .args .m) (asked b) (fine f) in
     (search needs, (n, (m, omega (arith, i .if1 .left, z .size .ensures))))
 
-same-length : tie.Need-same-length
-same-length c = search needs
-
 returns-3 : tie.Need-returns-3
 returns-3 c =
     let k = c .before .before in
@@ -87,14 +75,14 @@ pub write-words-spec : {M : Type 1} → statement M
 write-words-spec =
     tie.close
     (tie.spec
-    check-words-requires
-    enum-known-r
+    (λ c κs. search needs)
+    (λ c. search needs)
     returns
     enum-told
     cast-size
     cast-size-2
-    size-requires
+    (λ c κs. search needs)
     returns-2
     put-file-requires
-    same-length
+    (λ c. search needs)
     returns-3)

@@ -4,12 +4,9 @@ use Rattle.analysis.specs.Gathered.{rowFits}
 use Rattle.analysis.proofs.limits.row_fits.Statement.{statement}
 use Rattle.analysis.proofs.limits.row_fits.Tie as tie
 
-share-fits-requires : tie.Need-share-fits-requires
-share-fits-requires c κs = search needs
-
 returns : tie.Need-returns
 unfolding rowFits
 returns c = rw (c .share-fits .ensures)
 
 pub row-fits-spec : {M : Type 1} → statement M
-row-fits-spec = tie.close (tie.spec share-fits-requires returns)
+row-fits-spec = tie.close (tie.spec (λ c κs. search needs) returns)

@@ -20,33 +20,6 @@ abbrev μ-loop : tie.MeasureT-loop
 loop-holds : tie.Need-loop-holds Inv-loop μ-loop
 loop-holds c = (omega arith, sym (every-none _))
 
-mul-share-fits : tie.Need-mul-share-fits Inv-loop μ-loop
-mul-share-fits c = search needs
-
-element-copy-out-share-fits : tie.Need-element-copy-out-share-fits Inv-loop μ-loop
-element-copy-out-share-fits c = search needs
-
-mul-share-fits-2 : tie.Need-mul-share-fits-2 Inv-loop μ-loop
-mul-share-fits-2 c = search needs
-
-element-copy-out-share-fits-2 : tie.Need-element-copy-out-share-fits-2 Inv-loop μ-loop
-element-copy-out-share-fits-2 c = search needs
-
-mul-share-fits-3 : tie.Need-mul-share-fits-3 Inv-loop μ-loop
-mul-share-fits-3 c = search needs
-
-element-copy-out-share-fits-3 : tie.Need-element-copy-out-share-fits-3 Inv-loop μ-loop
-element-copy-out-share-fits-3 c = search needs
-
-share-fits-requires : tie.Need-share-fits-requires Inv-loop μ-loop
-share-fits-requires c κs = search needs
-
-add-k : tie.Need-add-k Inv-loop μ-loop
-add-k c = search needs
-
-loop-less : tie.Need-loop-less Inv-loop μ-loop
-loop-less c = search needs
-
 loop-again : tie.Need-loop-again Inv-loop μ-loop
 loop-again c =
     let l = c .before .before .before .before .before .loop in
@@ -64,14 +37,14 @@ shares-fit-spec =
     Inv-loop
     μ-loop
     loop-holds
-    mul-share-fits
-    element-copy-out-share-fits
-    mul-share-fits-2
-    element-copy-out-share-fits-2
-    mul-share-fits-3
-    element-copy-out-share-fits-3
-    share-fits-requires
-    add-k
-    loop-less
+    (λ c. search needs)
+    (λ c. search needs)
+    (λ c. search needs)
+    (λ c. search needs)
+    (λ c. search needs)
+    (λ c. search needs)
+    (λ c κs. search needs)
+    (λ c. search needs)
+    (λ c. search needs)
     loop-again
     returns)

@@ -20,33 +20,6 @@ abbrev μ-loop : tie.MeasureT-loop
 loop-holds : tie.Need-loop-holds Inv-loop μ-loop
 loop-holds c = (omega arith, sym (every-none _))
 
-add-source-fits : tie.Need-add-source-fits Inv-loop μ-loop
-add-source-fits c = search needs
-
-mul-source-fits : tie.Need-mul-source-fits Inv-loop μ-loop
-mul-source-fits c = search needs
-
-element-copy-out-source-fits : tie.Need-element-copy-out-source-fits Inv-loop μ-loop
-element-copy-out-source-fits c = search needs
-
-add-source-fits-2 : tie.Need-add-source-fits-2 Inv-loop μ-loop
-add-source-fits-2 c = search needs
-
-mul-source-fits-2 : tie.Need-mul-source-fits-2 Inv-loop μ-loop
-mul-source-fits-2 c = search needs
-
-element-copy-out-source-fits-2 : tie.Need-element-copy-out-source-fits-2 Inv-loop μ-loop
-element-copy-out-source-fits-2 c = search needs
-
-source-fits-requires : tie.Need-source-fits-requires Inv-loop μ-loop
-source-fits-requires c κs = search needs
-
-add-k : tie.Need-add-k Inv-loop μ-loop
-add-k c = search needs
-
-loop-less : tie.Need-loop-less Inv-loop μ-loop
-loop-less c = search needs
-
 loop-again : tie.Need-loop-again Inv-loop μ-loop
 loop-again c =
     let l = c .before .before .before .before .loop in
@@ -64,14 +37,14 @@ sources-fit-spec =
     Inv-loop
     μ-loop
     loop-holds
-    add-source-fits
-    mul-source-fits
-    element-copy-out-source-fits
-    add-source-fits-2
-    mul-source-fits-2
-    element-copy-out-source-fits-2
-    source-fits-requires
-    add-k
-    loop-less
+    (λ c. search needs)
+    (λ c. search needs)
+    (λ c. search needs)
+    (λ c. search needs)
+    (λ c. search needs)
+    (λ c. search needs)
+    (λ c κs. search needs)
+    (λ c. search needs)
+    (λ c. search needs)
     loop-again
     returns)

@@ -8,9 +8,6 @@ use Rattle.analysis.proofs.Fit.{row-known}
 use Rattle.analysis.proofs.limits.terms_fit.Statement.{statement}
 use Rattle.analysis.proofs.limits.terms_fit.Tie as tie
 
-row-fits-requires : tie.Need-row-fits-requires
-row-fits-requires c κs = search needs
-
 returns : tie.Need-returns
 unfolding fits
 returns c = simp (sym (c .before .row-fits .ensures) ∙ not-true _ (c .if1 .taken))
@@ -30,4 +27,4 @@ returns-2 c = simp (passes (c .before .before)) (ap₂ _&&_ (c .before .shares-f
 
 pub terms-fit-spec : {M : Type 1} → statement M
 terms-fit-spec =
-    tie.close (tie.spec row-fits-requires returns shares-fit-requires sources-fit-requires returns-2)
+    tie.close (tie.spec (λ c κs. search needs) returns shares-fit-requires sources-fit-requires returns-2)

@@ -14,26 +14,11 @@ use Rattle.analysis.proofs.Waits.{alone-bound}
 use Rattle.analysis.proofs.searches.answer_alone.Statement.{statement}
 use Rattle.analysis.proofs.searches.answer_alone.Tie as tie
 
-busy-alone-requires : tie.Need-busy-alone-requires
-busy-alone-requires c κs = search needs
-
 enum-told : tie.Need-enum-told
 enum-told c = search needs
 
-enum-told-2 : tie.Need-enum-told-2
-enum-told-2 c = search needs
-
 returns : tie.Need-returns
 returns c = answer-none _ _ (sym (c .before .before .busy-alone .ensures) ∙ c .enum-told2 .given .1)
-
-add-term : tie.Need-add-term
-add-term c = search needs
-
-add-term-2 : tie.Need-add-term-2
-add-term-2 c = search needs
-
-term-requires : tie.Need-term-requires
-term-requires c κs = search needs
 
 -- the first term, from which 0 is subtracted
 module _ (c : tie.After-term) where
@@ -49,9 +34,6 @@ module _ (c : tie.After-term) where
 cast-judged : tie.Need-cast-judged
 cast-judged c = (rw (first c) tt, rw (toZ-ofZ (fits c)) (fits-natAbs tt (fits c)))
 
-judged-requires : tie.Need-judged-requires
-judged-requires c κs = search needs
-
 returns-2 : tie.Need-returns-2
 returns-2 c =
     let t = c .before .before .before .before in
@@ -63,13 +45,13 @@ pub answer-alone-spec : {M : Type 1} → statement M
 answer-alone-spec =
     tie.close
     (tie.spec
-    busy-alone-requires
+    (λ c κs. search needs)
     enum-told
-    enum-told-2
+    (λ c. search needs)
     returns
-    add-term
-    add-term-2
-    term-requires
+    (λ c. search needs)
+    (λ c. search needs)
+    (λ c κs. search needs)
     cast-judged
-    judged-requires
+    (λ c κs. search needs)
     returns-2)

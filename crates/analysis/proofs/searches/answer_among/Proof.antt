@@ -15,9 +15,6 @@ given c = let a = c .before .before .args in lent (a .g) (a .costs .now) (a .per
 busy-period-requires : tie.Need-busy-period-requires
 busy-period-requires c κs = (c .before .pre, refl)
 
-enum-known-found : tie.Need-enum-known-found
-enum-known-found c = search needs
-
 enum-told : tie.Need-enum-told
 enum-told c = search needs
 
@@ -34,9 +31,6 @@ largest-term-requires c κs =
     let b = d .before .before in
     (b .before .before .pre, (found d, b .busy-period .ensures .1))
 
-judged-requires : tie.Need-judged-requires
-judged-requires c κs = search needs
-
 returns-2 : tie.Need-returns-2
 returns-2 c =
     let t = c .before in
@@ -47,9 +41,9 @@ answer-among-spec =
     tie.close
     (tie.spec
     busy-period-requires
-    enum-known-found
+    (λ c. search needs)
     enum-told
     returns
     largest-term-requires
-    judged-requires
+    (λ c κs. search needs)
     returns-2)

@@ -64,9 +64,6 @@ room c =
     let x = c .before .loop .x in
     omega (arith, sideL-parts (given s) x, sideL-fits (given s) (s .pre .0) x (c .loop-test .taken))
 
-add-climbed : tie.Need-add-climbed Inv-loop μ-loop
-add-climbed c = search needs
-
 climbed-requires : tie.Need-climbed-requires Inv-loop μ-loop
 climbed-requires c κs =
     let d = c .before .before in
@@ -145,7 +142,7 @@ busy-period-spec =
     start-edges-requires
     own-start-requires
     loop-holds
-    add-climbed
+    (λ c. search needs)
     climbed-requires
     own-at-requires
     add-y

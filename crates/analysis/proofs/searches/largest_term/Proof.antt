@@ -211,9 +211,6 @@ term-requires-2 c κs =
     let f = begun (d .before) .pre .0 .row in
     (omega (arith, f .own .jitter, f .last, f .own .cost, c .before .settled2 .ensures .0 .small), late d)
 
-larger-requires : tie.Need-larger-requires Inv-loop μ-loop
-larger-requires c κs = search needs
-
 loop-less : tie.Need-loop-less Inv-loop μ-loop
 loop-less c = let d = c .before .before .before .before .before .before in omega (arith, d .before .loop .inv .0, d .loop-test .taken)
 
@@ -278,7 +275,7 @@ largest-term-spec =
     add-term-2
     mul-term
     term-requires-2
-    larger-requires
+    (λ c κs. search needs)
     loop-less
     loop-again
     cast-result

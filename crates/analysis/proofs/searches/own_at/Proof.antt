@@ -9,12 +9,6 @@ use Rattle.analysis.proofs.Fit.{alone-fits}
 use Rattle.analysis.proofs.searches.own_at.Statement.{statement}
 use Rattle.analysis.proofs.searches.own_at.Tie as tie
 
-add-periods-past : tie.Need-add-periods-past
-add-periods-past c = search needs
-
-periods-past-requires : tie.Need-periods-past-requires
-periods-past-requires c κs = search needs
-
 -- the sum and the edge after it
 mine : (c : tie.After-periods-past) → let a = c .before .args in a .own .sum + c .periods-past .result * a .g .cost ≡ ownL (a .g) (a .x)
 mine c = own-now _ _ _ _ (c .periods-past .ensures) (c .before .pre .1 .1)
@@ -45,4 +39,4 @@ returns c = let d = c .before .before .before .before in (mine d, on d)
 
 pub own-at-spec : {M : Type 1} → statement M
 own-at-spec =
-    tie.close (tie.spec add-periods-past periods-past-requires mul-edge add-edge mul-sum add-sum returns)
+    tie.close (tie.spec (λ c. search needs) (λ c κs. search needs) mul-edge add-edge mul-sum add-sum returns)

@@ -4,11 +4,8 @@ use Rattle.analysis.proofs.Chains.{own-start}
 use Rattle.analysis.proofs.searches.own_start.Statement.{statement}
 use Rattle.analysis.proofs.searches.own_start.Tie as tie
 
-sub-edge : tie.Need-sub-edge
-sub-edge c = search needs
-
 returns : tie.Need-returns
 returns c = let s = c .before in own-start (s .args .g) (s .pre)
 
 pub own-start-spec : {M : Type 1} → statement M
-own-start-spec = tie.close (tie.spec sub-edge returns)
+own-start-spec = tie.close (tie.spec (λ c. search needs) returns)

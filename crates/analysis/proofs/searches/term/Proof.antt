@@ -4,12 +4,6 @@ use Rattle.laws.proofs.Signed.{diff-is, diff-fits}
 use Rattle.analysis.proofs.searches.term.Statement.{statement}
 use Rattle.analysis.proofs.searches.term.Tie as tie
 
-cast-result : tie.Need-cast-result
-cast-result c = search needs
-
-cast-result-2 : tie.Need-cast-result-2
-cast-result-2 c = search needs
-
 sub-result : tie.Need-sub-result
 sub-result c = diff-fits (c .args .a) (c .args .b) (c .pre .0) (c .pre .1)
 
@@ -17,4 +11,4 @@ returns : tie.Need-returns
 returns c = diff-is (c .args .a) (c .args .b) (c .pre .0) (c .pre .1)
 
 pub term-spec : {M : Type 1} → statement M
-term-spec = tie.close (tie.spec cast-result cast-result-2 sub-result returns)
+term-spec = tie.close (tie.spec (λ c. search needs) (λ c. search needs) sub-result returns)

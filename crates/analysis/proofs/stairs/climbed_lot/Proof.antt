@@ -6,12 +6,6 @@ use Rattle.analysis.proofs.Climbing.{gone-still, height-still, nearest-
 use Rattle.analysis.proofs.stairs.climbed_lot.Statement.{statement}
 use Rattle.analysis.proofs.stairs.climbed_lot.Tie as tie
 
-mul-if1 : tie.Need-mul-if1
-mul-if1 c = search needs
-
-element-copy-out-if1 : tie.Need-element-copy-out-if1
-element-copy-out-if1 c = search needs
-
 -- no edge of the lot is passed
 still : (c : tie.Then1) → let a = c .before .before .args in NoEdgeBefore (a .x) (a .edges .now) (a .from) (a .to)
 still c k h l = omega (arith, c .if1 .taken, c .before .before .pre .1 .1 .1 k h l)
@@ -27,15 +21,6 @@ returns c =
       nearest-still _ _ _ _ _ (s .pre .1 .1 .1),
     )
 
-lot-at-requires : tie.Need-lot-at-requires
-lot-at-requires c κs = search needs
-
-mul-nearest : tie.Need-mul-nearest
-mul-nearest c = search needs
-
-element-write-nearest : tie.Need-element-write-nearest
-element-write-nearest c = search needs
-
 returns-2 : tie.Need-returns-2
 returns-2 c =
     let t = c .lot-at .ensures in
@@ -45,10 +30,10 @@ pub climbed-lot-spec : {M : Type 1} → statement M
 climbed-lot-spec =
     tie.close
     (tie.spec
-    mul-if1
-    element-copy-out-if1
+    (λ c. search needs)
+    (λ c. search needs)
     returns
-    lot-at-requires
-    mul-nearest
-    element-write-nearest
+    (λ c κs. search needs)
+    (λ c. search needs)
+    (λ c. search needs)
     returns-2)

@@ -21,18 +21,6 @@ abbrev μ-loop : tie.MeasureT-loop
 loop-holds : tie.Need-loop-holds Inv-loop μ-loop
 loop-holds c = (omega arith, c .pre .up, omega arith, gone-none _ _ _ _, λ j h l. absurd (omega arith))
 
-mul-edge : tie.Need-mul-edge Inv-loop μ-loop
-mul-edge c = search needs
-
-element-copy-out-edge : tie.Need-element-copy-out-edge Inv-loop μ-loop
-element-copy-out-edge c = search needs
-
-mul-period : tie.Need-mul-period Inv-loop μ-loop
-mul-period c = search needs
-
-element-copy-out-period : tie.Need-element-copy-out-period Inv-loop μ-loop
-element-copy-out-period c = search needs
-
 -- a stair that waits is where it was
 waits : (c : tie.In-loop Inv-loop μ-loop) → getD (c .before .loop .edges) (c .before .loop .k) 0 < far
 waits c =
@@ -69,18 +57,6 @@ mul-next c = omega (arith, reach c)
 add-next : tie.Need-add-next Inv-loop μ-loop
 add-next c = omega (arith, reach c)
 
-mul-edges : tie.Need-mul-edges Inv-loop μ-loop
-mul-edges c = search needs
-
-element-write-edges : tie.Need-element-write-edges Inv-loop μ-loop
-element-write-edges c = search needs
-
-mul-total : tie.Need-mul-total Inv-loop μ-loop
-mul-total c = search needs
-
-element-copy-out-total : tie.Need-element-copy-out-total Inv-loop μ-loop
-element-copy-out-total c = search needs
-
 -- what is gained so far is part of the whole
 gained : (c : tie.After-rises Inv-loop μ-loop)
     → let l = c .before .before .before .before .loop in
@@ -106,15 +82,6 @@ mul-total-2 c = omega (arith, rest c)
 
 add-total : tie.Need-add-total Inv-loop μ-loop
 add-total c = omega (arith, rest c)
-
-nearer-requires : tie.Need-nearer-requires Inv-loop μ-loop
-nearer-requires c κs = search needs
-
-add-k : tie.Need-add-k Inv-loop μ-loop
-add-k c = search needs
-
-loop-less : tie.Need-loop-less Inv-loop μ-loop
-loop-less c = search needs
 
 loop-again : tie.Need-loop-again Inv-loop μ-loop
 loop-again c =
@@ -142,21 +109,21 @@ lot-at-spec =
     Inv-loop
     μ-loop
     loop-holds
-    mul-edge
-    element-copy-out-edge
-    mul-period
-    element-copy-out-period
+    (λ c. search needs)
+    (λ c. search needs)
+    (λ c. search needs)
+    (λ c. search needs)
     rises-requires
     mul-next
     add-next
-    mul-edges
-    element-write-edges
-    mul-total
-    element-copy-out-total
+    (λ c. search needs)
+    (λ c. search needs)
+    (λ c. search needs)
+    (λ c. search needs)
     mul-total-2
     add-total
-    nearer-requires
-    add-k
-    loop-less
+    (λ c κs. search needs)
+    (λ c. search needs)
+    (λ c. search needs)
     loop-again
     returns)

@@ -6,15 +6,6 @@ use borrow.Author.Needs.{needs}
 use Rattle.analysis.proofs.stairs.rises.Statement.{statement}
 use Rattle.analysis.proofs.stairs.rises.Tie as tie
 
-add-if1 : tie.Need-add-if1
-add-if1 c = search needs
-
-periods-past-requires : tie.Need-periods-past-requires
-periods-past-requires c κs = search needs
-
-returns : tie.Need-returns
-returns c = search needs
-
 returns-2 : tie.Need-returns-2
 returns-2 c = just-one _ _ (omega arith) (omega arith)
 
@@ -22,4 +13,4 @@ returns-3 : tie.Need-returns-3
 returns-3 c = not-yet _ _ _ (omega arith)
 
 pub rises-spec : {M : Type 1} → statement M
-rises-spec = tie.close (tie.spec add-if1 periods-past-requires returns returns-2 returns-3)
+rises-spec = tie.close (tie.spec (λ c. search needs) (λ c κs. search needs) (λ c. search needs) returns-2 returns-3)

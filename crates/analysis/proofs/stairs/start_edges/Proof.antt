@@ -4,14 +4,8 @@ use Rattle.analysis.proofs.Starts.{both-started}
 use Rattle.analysis.proofs.stairs.start_edges.Statement.{statement}
 use Rattle.analysis.proofs.stairs.start_edges.Tie as tie
 
-start-streams-requires : tie.Need-start-streams-requires
-start-streams-requires c κs = search needs
-
-start-sources-requires : tie.Need-start-sources-requires
-start-sources-requires c κs = search needs
-
 returns : tie.Need-returns
 returns c = both-started _ _ _ _ _ _ _ (c .before .before .start-streams .ensures) (c .start-sources .ensures)
 
 pub start-edges-spec : {M : Type 1} → statement M
-start-edges-spec = tie.close (tie.spec start-streams-requires start-sources-requires returns)
+start-edges-spec = tie.close (tie.spec (λ c κs. search needs) (λ c κs. search needs) returns)

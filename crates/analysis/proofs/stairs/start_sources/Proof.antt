@@ -18,20 +18,8 @@ abbrev μ-loop : tie.MeasureT-loop
 loop-holds : tie.Need-loop-holds Inv-loop μ-loop
 loop-holds c = (omega arith, omega arith, sources-none _ _ _ (c .pre .1 .1 .1))
 
-sub-edges : tie.Need-sub-edges Inv-loop μ-loop
-sub-edges c = search needs
-
-mul-edges : tie.Need-mul-edges Inv-loop μ-loop
-mul-edges c = search needs
-
 element-write-edges : tie.Need-element-write-edges Inv-loop μ-loop
 element-write-edges c = omega (arith, c .before .loop .inv .2 .long)
-
-add-k : tie.Need-add-k Inv-loop μ-loop
-add-k c = search needs
-
-loop-less : tie.Need-loop-less Inv-loop μ-loop
-loop-less c = search needs
 
 loop-again : tie.Need-loop-again Inv-loop μ-loop
 loop-again c =
@@ -50,10 +38,10 @@ start-sources-spec =
     Inv-loop
     μ-loop
     loop-holds
-    sub-edges
-    mul-edges
+    (λ c. search needs)
+    (λ c. search needs)
     element-write-edges
-    add-k
-    loop-less
+    (λ c. search needs)
+    (λ c. search needs)
     loop-again
     returns)

@@ -18,29 +18,14 @@ abbrev μ-loop : tie.MeasureT-loop
 loop-holds : tie.Need-loop-holds Inv-loop μ-loop
 loop-holds c = (omega arith, streams-none _ _ _ (c .pre .1 .1 .1))
 
-mul-edges : tie.Need-mul-edges Inv-loop μ-loop
-mul-edges c = search needs
-
-element-copy-out-edges : tie.Need-element-copy-out-edges Inv-loop μ-loop
-element-copy-out-edges c = search needs
-
 add-edges : tie.Need-add-edges Inv-loop μ-loop
 add-edges c = omega (arith, c .before .before .before .pre .1 .1 .0 _ (c .before .loop-test .taken))
 
 sub-edges : tie.Need-sub-edges Inv-loop μ-loop
 sub-edges c = omega (arith, c .before .before .before .pre .1 .1 .0 _ (c .before .loop-test .taken))
 
-mul-edges-2 : tie.Need-mul-edges-2 Inv-loop μ-loop
-mul-edges-2 c = search needs
-
 element-write-edges : tie.Need-element-write-edges Inv-loop μ-loop
 element-write-edges c = omega (arith, c .before .before .loop .inv .1 .long)
-
-add-k : tie.Need-add-k Inv-loop μ-loop
-add-k c = search needs
-
-loop-less : tie.Need-loop-less Inv-loop μ-loop
-loop-less c = search needs
 
 loop-again : tie.Need-loop-again Inv-loop μ-loop
 loop-again c =
@@ -59,13 +44,13 @@ start-streams-spec =
     Inv-loop
     μ-loop
     loop-holds
-    mul-edges
-    element-copy-out-edges
+    (λ c. search needs)
+    (λ c. search needs)
     add-edges
     sub-edges
-    mul-edges-2
+    (λ c. search needs)
     element-write-edges
-    add-k
-    loop-less
+    (λ c. search needs)
+    (λ c. search needs)
     loop-again
     returns)
