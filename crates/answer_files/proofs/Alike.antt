@@ -9,8 +9,7 @@ use Rattle.carried.specs.Carried.{sheetOf}
 use Rattle.carried.proofs.Plans.{one-sheet}
 use Rattle.file.specs.File.{readAs}
 use Rattle.file.proofs.RoundTrip.{reads-as-its-values}
-use Rattle.answers.specs.Answers.{answerOf}
-use Rattle.answers.specs.Claims.{SheetOf}
+use Rattle.answers.specs.Answers.{answerOf, SheetOf}
 use Rattle.answers.proofs.Values.{sheet-refused, checked-by-plan, sheets-alike}
 use Rattle.answer_files.specs.AnswerFiles.{answerRead, answerFileOf, FileAlike}
 

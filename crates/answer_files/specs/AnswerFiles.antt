@@ -1,17 +1,16 @@
 -- The answers of a plan file into lent memory.
+use mathlib.Core.Path.{_≡_}
 use mathlib.Core.List.{List}
 use Prim.Native.Nat.{ℕ, _^_, _≤_}
-use mathlib.Core.Path.{_≡_}
 use lib.ListN.{length}
-use Rattle.plan.specs.declared.Sheet.{Sheet}
-use Rattle.judge.specs.declared.Checked.{Checked}
-use Rattle.judge.specs.declared.Checked.the-variants.{Fine, Refused}
-use Rattle.file.specs.File.{readOf, fileWords, fileOf}
-use Rattle.answers.specs.Answers.{answerOf}
 use Rattle.names.specs.Limits.{streams, sources}
 use Rattle.words.specs.Words.{Below}
+use Rattle.judge.specs.declared.Checked.{Checked}
+use Rattle.judge.specs.declared.Checked.the-variants.{Fine, Refused}
+use Rattle.plan.specs.declared.Sheet.{Sheet}
 use Rattle.plan.specs.Plan.{Plan}
-use Rattle.answers.specs.Claims.{SheetOf}
+use Rattle.file.specs.File.{readOf, fileWords, fileOf}
+use Rattle.answers.specs.Answers.{answerOf, SheetOf}
 
 -- a refused file is refused, and what was read is answered
 abbrev pub answerRead : Checked → Sheet → List ℕ → Checked × List ℕ

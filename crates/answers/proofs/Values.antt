@@ -13,8 +13,7 @@ use Rattle.judge.specs.declared.Checked.the-variants.{Refused}
 use Rattle.judge.specs.Table.{judge}
 use Rattle.checks.specs.Checks.{lines, checkedOf}
 use Rattle.checks.proofs.Fine.{fine-within}
-use Rattle.answers.specs.Answers.{answerWords, answerWith, answerOf}
-use Rattle.answers.specs.Claims.{RowsAnswered, SheetOf, SheetsAlike}
+use Rattle.answers.specs.Answers.{answerWords, answerWith, answerOf, RowsAnswered, SheetOf, SheetsAlike}
 use Rattle.answers.proofs.Outcome as outcome
 
 -- a sheet whose values are refused

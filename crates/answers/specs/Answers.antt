@@ -1,16 +1,17 @@
 -- The answers of a plan's values into lent memory, and the refusals that go with them.
+use mathlib.Core.Path.{_≡_}
 use mathlib.Core.List.{List, [], _∷_, _++_, flatMap}
-use Prim.Native.Nat.{ℕ, _*_}
+use Prim.Native.Nat.{ℕ, _*_, _≤_}
 use lib.Dec.{leb}
 use lib.ListN.{length, drop}
-use Rattle.row_words.specs.RowWords.{rowWords, wordsPerRow}
-use Rattle.plan.specs.declared.Sheet.{Sheet}
-use Rattle.plan.specs.Plan.{Plan, planOf}
-use Rattle.plan.specs.Rules.{answers}
 use Rattle.judge.specs.declared.Checked.{Checked}
 use Rattle.judge.specs.declared.Checked.the-variants.{Fine, Refused}
 use Rattle.judge.specs.Table.{Line, judge, unless}
-use Rattle.checks.specs.Checks.{lines}
+use Rattle.row_words.specs.RowWords.{rowWords, wordsPerRow, answersIn}
+use Rattle.plan.specs.declared.Sheet.{Sheet}
+use Rattle.plan.specs.Plan.{Plan, planOf}
+use Rattle.plan.specs.Rules.{answers}
+use Rattle.checks.specs.Checks.{lines, checkedOf}
 
 -- the words of a plan's rows, in file order
 abbrev pub answerWords : Plan → List ℕ
@@ -32,3 +33,21 @@ answerWith n m p out = answerAs (judge (lines n m p ++ tooFew n out)) n p out
 -- of a sheet: by its counts and its plan
 unfoldable pub answerOf : Sheet → List ℕ → Checked × List ℕ
 answerOf s out = answerWith (s .count) (s .sources) (planOf s) out
+
+-- ---- What is proved of the answers of values; the proofs are in proofs/Values.antt.
+
+-- where a sheet is fine and there is room, its words say the rules' answer of every row
+abbrev pub RowsAnswered : Type 0
+RowsAnswered =
+    (s : Sheet) (out : List ℕ) → checkedOf s ≡ Fine → wordsPerRow * s .count ≤ length out
+    → answersIn (s .count) (answerOf s out .1) ≡ answers (planOf s)
+
+-- s is a sheet of the plan p: its unused places may hold anything
+pub record SheetOf (s : Sheet) (p : Plan) : Type 0 where
+  pub plan : planOf s ≡ p
+  pub count : s .count ≡ length (p .streams)
+  pub sources : s .sources ≡ length (p .gaps)
+
+-- two sheets of one plan are answered alike
+abbrev pub SheetsAlike : Type 0
+SheetsAlike = (p : Plan) (s t : Sheet) → SheetOf s p → SheetOf t p → (out : List ℕ) → answerOf s out ≡ answerOf t out

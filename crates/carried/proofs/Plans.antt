@@ -17,8 +17,7 @@ use Rattle.plan.specs.declared.Timing.{Timing}
 use Rattle.plan.specs.declared.Stream.{Stream}
 use Rattle.plan.specs.Plan.{Plan, blank}
 use Rattle.carried.specs.Layout as layout
-use Rattle.carried.specs.Carried.{timingIn, streamIn, planIn, timingWords, streamWords, valuesOf, inPlaces, sheetOf, noSheet}
-use Rattle.carried.specs.Claims.{PlanInValues, ValuesBack, OneSheet}
+use Rattle.carried.specs.Carried.{timingIn, streamIn, planIn, timingWords, streamWords, valuesOf, inPlaces, sheetOf, noSheet, PlanInValues, ValuesBack, OneSheet}
 
 pub six : (s : Stream) → length (streamWords s) ≡ layout.streamLength
 six s = refl

@@ -1,13 +1,14 @@
 -- A plan as it is carried: its words, lent, with its counts beside them; and a plan's one sheet.
+use mathlib.Core.Path.{_≡_}
 use mathlib.Core.List.{List, [], _∷_, _++_, flatMap}
-use Prim.Native.Nat.{ℕ, _+_}
-use lib.ListN.{length, getD}
+use Prim.Native.Nat.{ℕ, _+_, _≤_}
+use lib.ListN.{length, getD, take}
 use Rattle.names.specs.Limits.{streams, sources}
 use Rattle.laws.specs.Lists.{rows, placed}
 use Rattle.plan.specs.declared.Timing.{Timing}
 use Rattle.plan.specs.declared.Stream.{Stream}
 use Rattle.plan.specs.declared.Sheet.{Sheet}
-use Rattle.plan.specs.Plan.{Plan, blank}
+use Rattle.plan.specs.Plan.{Plan, blank, planOf}
 use Rattle.carried.specs.Layout as layout
 
 -- ---- from words to a plan; a word past the end is 0
@@ -80,3 +81,17 @@ sheetOf p =
 -- the sheet on which all is zero
 abbrev pub noSheet : Sheet
 noSheet = sheetOf (planIn 0 0 [])
+
+-- ---- What is proved of a plan's words and its sheet, in proofs/Plans.antt.
+
+-- a plan's words hold that plan, whatever stands after them, ..
+abbrev pub PlanInValues : Type 0
+PlanInValues = (p : Plan) (after : List ℕ) → planIn (length (p .streams)) (length (p .gaps)) (valuesOf p ++ after) ≡ p
+
+-- .. and the words of the plan in some words are these words
+abbrev pub ValuesBack : Type 0
+ValuesBack = (n m : ℕ) (ws : List ℕ) → layout.gapAt n m ≤ length ws → valuesOf (planIn n m ws) ≡ take (layout.gapAt n m) ws
+
+-- the plan on a plan's sheet is that plan, if it is no larger than a sheet
+abbrev pub OneSheet : Type 0
+OneSheet = (p : Plan) → length (p .streams) ≤ streams → length (p .gaps) ≤ sources → planOf (sheetOf p) ≡ p

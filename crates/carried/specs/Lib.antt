@@ -1,3 +1,2 @@
 pub mod Layout
 pub mod Carried
-pub mod Claims

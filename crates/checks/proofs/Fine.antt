@@ -16,8 +16,7 @@ use Rattle.fields.proofs.Inside.{nothing-if-inside}
 use Rattle.fields.proofs.Limits.{inside-if-fields-within}
 use Rattle.judge.specs.declared.Checked.the-variants.{Fine}
 use Rattle.judge.specs.Table.{judge, unless, rowIn}
-use Rattle.checks.specs.Checks.{inRange, counted, byteIn, priorities, labels, lines, checkedOf}
-use Rattle.checks.specs.Claims.{Right, FineIfRight, FineWithin}
+use Rattle.checks.specs.Checks.{inRange, counted, byteIn, priorities, labels, lines, checkedOf, Right, FineIfRight, FineWithin}
 use Rattle.judge.proofs.Table.{passed, nothing-given, not-given, unless-not, row-not}
 use Rattle.checks.proofs.Counts.{range-within, within-range, counted-so}
 

@@ -25,8 +25,7 @@ use Rattle.compare.specs.declared.Compared.{Compared}
 use Rattle.compare.specs.declared.Compared.the-variants.{FirstRefused, SecondRefused, Lighter, RunAgain}
 use Rattle.compare_files.specs.Files.{comparedFiles}
 use Rattle.compare_files.proofs.Kept.{said-of-files}
-use Rattle.chief.specs.Told.{constantName, greaterText, noiseText, reasonText, againLine, toldAs, toldOf}
-use Rattle.chief.specs.Claims.{ToldLighter, named, LargestLine}
+use Rattle.chief.specs.Told.{constantName, greaterText, noiseText, reasonText, againLine, toldAs, toldOf, ToldLighter, named, LargestLine}
 
 -- ---- the first letter
 abbrev letter : List ℕ → ℕ

@@ -17,8 +17,7 @@ use Rattle.promise.proofs.Promise.{lighter-keeps}
 use Rattle.compare.specs.declared.Change.{Change}
 use Rattle.compare.specs.declared.Change.the-variants.{Of, Nothing}
 use Rattle.compare.specs.declared.Compared.the-variants.{Lighter as Compared·Lighter}
-use Rattle.compare.specs.Changes.{changes}
-use Rattle.compare.specs.Compared.{comparedAs, comparedOf}
+use Rattle.compare.specs.Changes.{changes, comparedAs, comparedOf}
 use Rattle.compare.specs.Claims.{SaysLighter}
 use Rattle.compare.proofs.Exactly.{lighter-exactly}
 

@@ -12,16 +12,22 @@ use Rattle.laws.specs.declared.Found.the-variants.{At as Found·At, Nothing as 
 use Rattle.laws.specs.Lists.{those}
 use Rattle.laws.specs.Search.{first}
 use Rattle.laws.specs.Rows.{some}
+use Rattle.judge.specs.declared.Checked.{Checked}
+use Rattle.judge.specs.declared.Checked.the-variants.{Fine, Refused}
 use Rattle.plan.specs.declared.Timing.{Timing}
 use Rattle.plan.specs.declared.Stream.{Stream}
-use Rattle.plan.specs.Plan.{Plan, at}
+use Rattle.plan.specs.declared.Sheet.{Sheet}
+use Rattle.plan.specs.Plan.{Plan, at, planOf}
 use Rattle.carried.specs.Layout as layout
 use Rattle.carried.specs.Carried.{timingWords}
+use Rattle.checks.specs.Checks.{checkedOf}
 use Rattle.compare.specs.declared.Reason.{Reason}
 use Rattle.compare.specs.declared.Reason.the-variants.{GreaterConstant, NewLabel, ShorterPeriod, LongerJitter}
 use Rattle.compare.specs.declared.Reason.the-variants.{LongerPayload, ShorterDeadline, LessUrgent, MoreNoise}
 use Rattle.compare.specs.declared.Change.{Change}
 use Rattle.compare.specs.declared.Change.the-variants.{Of, Nothing}
+use Rattle.compare.specs.declared.Compared.{Compared}
+use Rattle.compare.specs.declared.Compared.the-variants.{FirstRefused, SecondRefused, Lighter, RunAgain}
 
 -- a reason, where what must hold does not
 abbrev pub must : Bool → Reason → Change
@@ -110,3 +116,15 @@ ofNoise old new = firstChange (λ k. ofGap old new (getD (new .gaps) k 0)) (leng
 
 unfoldable pub changes : Plan → Plan → Change
 changes old new = ofConstants (old .timing) (new .timing) or ofStreams old new or ofOrder old new or ofNoise old new
+
+-- ---- the answer to two plans: which is refused, or that the second is lighter, or why it is to be run again
+
+-- the first plan is looked at first
+abbrev pub comparedAs : Checked → Checked → Change → Compared
+comparedAs (Refused r) second c = FirstRefused r
+comparedAs Fine (Refused r) c = SecondRefused r
+comparedAs Fine Fine Nothing = Lighter
+comparedAs Fine Fine (Of r) = RunAgain r
+
+unfoldable pub comparedOf : Sheet → Sheet → Compared
+comparedOf old new = comparedAs (checkedOf old) (checkedOf new) (changes (planOf old) (planOf new))

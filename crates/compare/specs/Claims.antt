@@ -13,8 +13,7 @@ use Rattle.compare.specs.declared.Change.the-variants.{Of, Nothing}
 use Rattle.compare.specs.declared.Reason.{Reason}
 use Rattle.compare.specs.declared.Compared.{Compared}
 use Rattle.compare.specs.declared.Compared.the-variants.{Lighter as Compared·Lighter}
-use Rattle.compare.specs.Changes.{firstChange, changes}
-use Rattle.compare.specs.Compared.{comparedOf}
+use Rattle.compare.specs.Changes.{firstChange, changes, comparedOf}
 
 -- r is one of the changes, and there is none before it
 pub record FirstChange (f : ℕ → Change) (n : ℕ) (r : Reason) : Type 0 where

@@ -1,4 +1,3 @@
 pub mod Changes
-pub mod Compared
 pub mod Claims
 pub mod private

@@ -9,7 +9,7 @@ ghost use Rattle.names.specs.Limits as limit;
 ghost use Rattle.laws.specs.Rows.{some};
 ghost use Rattle.plan.specs.Plan.{planOf};
 ghost use Rattle.compare.specs.Changes as rule;
-ghost use Rattle.compare.specs.Compared.{comparedAs};
+ghost use Rattle.compare.specs.Changes.{comparedAs};
 ghost use Rattle.compare.specs.Claims.{SaysLighter};
 ghost use Rattle.compare.specs.private.Columns.{labelOf, priorityOf, numberThen, column, columnPlaced, rowBy, overtakesBy, orderBy};
 use carried::TIMING;

@@ -1,19 +1,18 @@
 -- The answer to two files: which is refused, or that the plan in the second is lighter, or why it is to be run again.
-use mathlib.Core.List.{List}
-use Prim.Native.Nat.{ℕ, _≤_, _<_}
 use mathlib.Core.Path.{_≡_}
+use mathlib.Core.List.{List}
 use mathlib.Core.Logic.{_↔_}
+use Prim.Native.Nat.{ℕ, _≤_, _<_}
 use lib.ListN.{length}
-use Rattle.plan.specs.Plan.{Plan, planOf, at}
-use Rattle.file.specs.File.{readOf}
-use Rattle.compare.specs.declared.Compared.{Compared}
-use Rattle.compare.specs.Changes.{changes}
-use Rattle.compare.specs.Compared.{comparedAs}
 use Rattle.judge.specs.declared.Checked.the-variants.{Fine}
 use Rattle.row_words.specs.RowWords.{verdictAt, boundAt}
-use Rattle.answer_files.specs.AnswerFiles.{answerFileOf}
+use Rattle.plan.specs.Plan.{Plan, planOf, at}
 use Rattle.promise.specs.Lighter.{Namesakes, Lighter, Kept}
+use Rattle.compare.specs.declared.Compared.{Compared}
 use Rattle.compare.specs.declared.Compared.the-variants.{Lighter as Compared·Lighter}
+use Rattle.compare.specs.Changes.{changes, comparedAs}
+use Rattle.file.specs.File.{readOf}
+use Rattle.answer_files.specs.AnswerFiles.{answerFileOf}
 
 -- the plan in a file
 abbrev pub planFrom : List ℕ → Plan

@@ -1,6 +1,6 @@
 -- V and U of every timing, and how large they are within the limits.
-use Prim.Native.Nat.{ℕ, _+_, _-_, _*_, min, _≤_}
 use mathlib.Core.Path.{_≡_}
+use Prim.Native.Nat.{ℕ, _+_, _-_, _*_, min, _≤_}
 use Rattle.names.specs.Limits.{constant, bits}
 use Rattle.plan.specs.declared.Timing.{Timing}
 use Rattle.plan.specs.Rules.{«V», U}

@@ -1,9 +1,9 @@
 -- A number as decimal text, in bytes: most significant digit first, "0" for 0, no other text with a 0 in front.
+use mathlib.Core.Path.{_≡_}
 use mathlib.Core.Bool.{true, false}
 use mathlib.Core.List.{List, [], _∷_, _++_}
 use Prim.Native.Nat.{ℕ, zero, suc, _+_, _-_, _*_, _/_, _%_, _^_, _≤_, _<_}
 use lib.Dec.{ltb}
-use mathlib.Core.Path.{_≡_}
 use lib.ListN.{length, getD}
 
 -- the byte of a digit: "0" is 48, "9" is 57

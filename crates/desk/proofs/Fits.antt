@@ -8,7 +8,7 @@ use lib.Pow.{pow-mono}
 use Rattle.plan.specs.Plan.{Plan, planOf, blank}
 use Rattle.plan.specs.Rules.{rowAnswer, answers}
 use Rattle.plan.proofs.Rules.{row-within}
-use Rattle.checks.specs.Claims.{Right}
+use Rattle.checks.specs.Checks.{Right}
 use Rattle.checks.proofs.Fine.{fine-if-right}
 use Rattle.file.proofs.Reading.{planAt, fine-read}
 use Rattle.carried.proofs.Plans.{one-sheet}

@@ -1,20 +1,20 @@
 -- What is shown of a plan file: its listing, whether it is fine, or the file again; of a refused file always the one line of its refusal.
+use mathlib.Core.Path.{_≡_}
 use mathlib.Core.List.{List}
 use Prim.Native.Nat.{ℕ, _^_, _≤_, _<_}
-use mathlib.Core.Path.{_≡_}
 use lib.ListN.{length}
-use Rattle.plan.specs.Plan.{Plan, planOf}
-use Rattle.plan.specs.Rules.{answers}
+use Rattle.names.specs.declared.Refusal.{Refusal}
+use Rattle.names.specs.Limits.{streams, sources, ticks}
+use Rattle.words.specs.Words.{Below}
 use Rattle.judge.specs.declared.Checked.{Checked}
 use Rattle.judge.specs.declared.Checked.the-variants.{Fine, Refused}
+use Rattle.plan.specs.Plan.{Plan, planOf}
+use Rattle.plan.specs.Rules.{answers}
+use Rattle.carried.specs.Layout as layout
 use Rattle.file.specs.File.{fileOf, readOf}
 use Rattle.ascii.specs.Ascii.{ascii}
-use Rattle.text.specs.Listing.{listingOf, refusedOf}
-use Rattle.names.specs.Limits.{streams, sources, ticks}
-use Rattle.names.specs.declared.Refusal.{Refusal}
-use Rattle.words.specs.Words.{Below}
-use Rattle.carried.specs.Layout as layout
 use Rattle.text.specs.declared.Put.the-variants.{At}
+use Rattle.text.specs.Listing.{listingOf, refusedOf}
 use Rattle.text.specs.Claims.{most}
 use Rattle.text.specs.Put.{put}
 

@@ -43,7 +43,7 @@ pub fn file_buffer() -> [u8; FILE]
     [0; FILE]
 }
 
-// Zeros, for a program to have a listing in, however large the plan and its bounds (ListingFits, in specs/Claims.antt).
+// Zeros, for a program to have a listing in, however large the plan and its bounds (ListingFits, in specs/Desk.antt).
 pub fn listing_buffer() -> [u8; LISTED]
     ensures { λ r. ⌜ r ≡ replicate (most 10) 0 ⌝ }
     ensures { λ r. ⌜ most 10 ≡ length r ⌝ }

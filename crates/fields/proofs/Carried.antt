@@ -8,8 +8,7 @@ use Rattle.plan.specs.Plan.{Plan}
 use Rattle.carried.specs.Layout as layout
 use Rattle.carried.specs.Carried.{timingWords}
 use Rattle.carried.proofs.Plans.{length-values}
-use Rattle.fields.specs.Fields.{Field, streamFields, gapField, fields}
-use Rattle.fields.specs.Claims.{WordsAreCarried}
+use Rattle.fields.specs.Fields.{Field, streamFields, gapField, fields, WordsAreCarried}
 
 pub words-are-carried : WordsAreCarried
 unfolding fields

@@ -12,8 +12,7 @@ use lib.ListN.{length}
 use Rattle.laws.specs.declared.Found.{Found}
 use Rattle.laws.specs.declared.Found.the-variants.{At, Nothing}
 use Rattle.laws.proofs.Tests.{both}
-use Rattle.fields.specs.Fields.{Field, inside, lowest}
-use Rattle.fields.specs.Claims.{fieldAt, LowestOutside, AllInside, LowestExactly, NothingIfInside, InsideIfWithin}
+use Rattle.fields.specs.Fields.{Field, inside, lowest, fieldAt, LowestOutside, AllInside, LowestExactly, NothingIfInside, InsideIfWithin}
 use Rattle.fields.proofs.Lowest.{within}
 
 pub inside-if-within : InsideIfWithin

@@ -11,8 +11,7 @@ use Rattle.names.specs.Limits.{payload, ticks}
 use Rattle.plan.specs.declared.Timing.{Timing}
 use Rattle.plan.specs.declared.Stream.{Stream}
 use Rattle.plan.specs.Plan.{blank, TimingWithin, StreamWithin, GapWithin}
-use Rattle.fields.specs.Fields.{Field, _from_to_, timingFields, streamFields, gapField, fields, inside}
-use Rattle.fields.specs.Claims.{fieldAt, AllInside, InsideIfFieldsWithin}
+use Rattle.fields.specs.Fields.{Field, _from_to_, timingFields, streamFields, gapField, fields, inside, fieldAt, AllInside, InsideIfFieldsWithin}
 use Rattle.fields.proofs.All.{Shown, none, next, shown, all-front, all-back, all-both, flat-each, flat-all, map-each, map-all}
 use Rattle.fields.proofs.Lowest.{within}
 use Rattle.fields.proofs.Inside.{inside-if-within}

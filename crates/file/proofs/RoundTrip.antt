@@ -22,8 +22,7 @@ use Rattle.fields.proofs.All.{none, next, All, shown, all-both, flat-all}
 use Rattle.judge.specs.declared.Checked.{Checked}
 use Rattle.judge.specs.declared.Checked.the-variants.{Fine, Refused}
 use Rattle.judge.specs.Table.{judge}
-use Rattle.checks.specs.Checks.{lines, checkedOf}
-use Rattle.checks.specs.Claims.{Right}
+use Rattle.checks.specs.Checks.{lines, checkedOf, Right}
 use Rattle.judge.proofs.Table.{fine-parts}
 use Rattle.checks.proofs.Fine.{fine-if-right, own-counts}
 use Rattle.file.specs.declared.ReadPlan.{ReadPlan}

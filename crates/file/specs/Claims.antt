@@ -12,8 +12,7 @@ use Rattle.plan.specs.declared.Sheet.{Sheet}
 use Rattle.plan.specs.Plan.{Plan, planOf}
 use Rattle.carried.specs.Layout as layout
 use Rattle.carried.specs.Carried.{sheetOf}
-use Rattle.fields.specs.Fields.{fields}
-use Rattle.fields.specs.Claims.{fieldAt}
+use Rattle.fields.specs.Fields.{fields, fieldAt}
 use Rattle.judge.specs.declared.Checked.the-variants.{Fine, Refused as Checked·Refused}
 use Rattle.judge.specs.Table.{judge}
 use Rattle.checks.specs.Checks.{lines}

@@ -1,15 +1,15 @@
 -- Document 01, "When the answer is no": a table of refusals as its lines in their order, whatever it is that they refuse.
+use mathlib.Core.Path.{_≡_}
 use mathlib.Core.Bool.{Bool, cond}
 use mathlib.Core.List.{List, [], _∷_, _++_}
-use Prim.Native.Nat.{ℕ, _<_}
-use mathlib.Core.Path.{_≡_}
 use mathlib.Core.Logic.{_↔_}
+use Prim.Native.Nat.{ℕ, _<_}
 use lib.ListN.{length, getD}
-use Rattle.laws.specs.declared.Found.{Found}
-use Rattle.laws.specs.declared.Found.the-variants.{At, Nothing}
 use Rattle.names.specs.declared.FoundRow.{FoundRow}
 use Rattle.names.specs.declared.FoundRow.the-variants.{At as FoundRow·At, Nothing as FoundRow·Nothing}
 use Rattle.names.specs.declared.Refusal.{Refusal}
+use Rattle.laws.specs.declared.Found.{Found}
+use Rattle.laws.specs.declared.Found.the-variants.{At, Nothing}
 use Rattle.judge.specs.declared.Checked.{Checked}
 use Rattle.judge.specs.declared.Checked.the-variants.{Fine, Refused}
 

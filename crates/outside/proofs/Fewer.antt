@@ -17,8 +17,7 @@ use Rattle.tournament_state.specs.declared.Tournament.{Tournament}
 use Rattle.tournament_state.specs.Refusals.{verdictOf}
 use Rattle.states.specs.States.{prioritiesFrom, phaseFrom, stateFrom}
 use Rattle.outside.specs.declared.Stepped.{Stepped}
-use Rattle.outside.specs.Outside.{stepped, steppedBy, lentLines, startFrom, stepFrom, bytesUnless}
-use Rattle.outside.specs.Claims.{StartEnough, StepEnough}
+use Rattle.outside.specs.Outside.{stepped, steppedBy, lentLines, startFrom, stepFrom, bytesUnless, StartEnough, StepEnough}
 
 -- refused 6, with the state as it was
 abbrev pub refusedSix : Checked

@@ -20,8 +20,7 @@ use Rattle.tournament_state.specs.declared.Tournament.{Tournament}
 use Rattle.tournament_state.proofs.Ranges.{refusal-range}
 use Rattle.states.specs.States.{phaseFrom, stateFrom, markedOut}
 use Rattle.states.proofs.Placed.{unchanged, unused}
-use Rattle.outside.specs.Outside.{lentLines, startFrom, stepFrom, bytesUnless}
-use Rattle.outside.specs.Claims.{StartSix, StepSix, UnusedKept, FinishedKept}
+use Rattle.outside.specs.Outside.{lentLines, startFrom, stepFrom, bytesUnless, StartSix, StepSix, UnusedKept, FinishedKept}
 use Rattle.outside.proofs.Fewer.{refusedSix, fewer, enough}
 
 -- ---- the tournament's own refusals are above 6

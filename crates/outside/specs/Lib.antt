@@ -1,2 +1,1 @@
 pub mod Outside
-pub mod Claims

@@ -1,32 +1,33 @@
 -- What is handed to a caller in another language: numbers, with 0 for "not refused" and document 01's numbers else.
 use mathlib.Core.Path.{_≡_}
 use mathlib.Core.List.{List, _∷_}
-use Prim.Native.Nat.{ℕ}
+use mathlib.Core.Logic.{_↔_}
+use Prim.Native.Nat.{ℕ, _≤_, _<_}
 use lib.Dec.{leb}
-use lib.ListN.{length}
+use lib.ListN.{length, getD}
 use Rattle.names.specs.declared.Refusal.{Refusal}
 use Rattle.judge.specs.declared.Checked.{Checked}
 use Rattle.judge.specs.declared.Checked.the-variants.{Fine, Refused}
 use Rattle.judge.specs.Table.{Line, judge, unless}
-use Rattle.file.specs.declared.Written.{Written}
-use Rattle.file.specs.declared.Written.the-variants.{Bytes, Refused as Written·Refused}
-use Rattle.carried.specs.Carried.{timingIn}
 use Rattle.plan.specs.declared.Stream.{Stream}
-use Rattle.answers.specs.Answers.{answerOf}
-use Rattle.screen.specs.Screen.{sheetFor}
+use Rattle.carried.specs.Carried.{timingIn}
 use Rattle.compare.specs.declared.Reason.{Reason}
 use Rattle.compare.specs.declared.Reason.the-variants.{GreaterConstant, NewLabel, ShorterPeriod, LongerJitter}
 use Rattle.compare.specs.declared.Reason.the-variants.{LongerPayload, ShorterDeadline, LessUrgent, MoreNoise}
 use Rattle.compare.specs.declared.Compared.{Compared}
 use Rattle.compare.specs.declared.Compared.the-variants.{FirstRefused, SecondRefused, Lighter, RunAgain}
+use Rattle.file.specs.declared.Written.{Written}
+use Rattle.file.specs.declared.Written.the-variants.{Bytes, Refused as Written·Refused}
+use Rattle.answers.specs.Answers.{answerOf}
+use Rattle.tournament_state.specs.declared.Phase.{Phase}
+use Rattle.tournament_state.specs.declared.Phase.the-variants.{AtBit, Finished, NoWinner}
+use Rattle.tournament_state.specs.Refusals.{stateLines}
 use Rattle.tournament.specs.declared.Parting.{Parting}
 use Rattle.tournament.specs.declared.Parting.the-variants.{At, Refused as Parting·Refused}
 use Rattle.tournament.specs.declared.Outcome.{Outcome}
 use Rattle.tournament.specs.Rule.{begunOf, next}
-use Rattle.tournament.specs.Answers.{outcome, nobody}
-use Rattle.tournament_state.specs.declared.Phase.{Phase}
-use Rattle.tournament_state.specs.declared.Phase.the-variants.{AtBit, Finished, NoWinner}
-use Rattle.tournament_state.specs.Refusals.{stateLines}
+use Rattle.tournament.specs.Answers.{outcome, nobody, startOf, stepOf}
+use Rattle.screen.specs.Screen.{sheetFor}
 use Rattle.states.specs.States.{prioritiesFrom, phaseFrom, stateFrom, marksInto, markedOut}
 use Rattle.outside.specs.declared.Said.{Said}
 use Rattle.outside.specs.declared.Stepped.{Stepped}
@@ -62,34 +63,27 @@ screenOf xs ws gaps out = answerOf (sheetFor xs (timingIn ws) gaps) out
 abbrev pub Screened : List Stream → List ℕ → List ℕ → List ℕ → Said → List ℕ → Type 0
 Screened xs ws gaps out said left = let o = screenOf xs ws gaps out in (said ≡ checked (o .0)) × (left ≡ o .1)
 
--- the conditions of the lighter plan, numbered from 1 in the order in which they are looked at
-abbrev pub condition : Reason → ℕ
-condition (GreaterConstant k) = 1
-condition (NewLabel l) = 2
-condition (ShorterPeriod l) = 3
-condition (LongerJitter l) = 4
-condition (LongerPayload l) = 5
-condition (ShorterDeadline l) = 6
-condition (LessUrgent l) = 7
-condition (MoreNoise x) = 8
+-- run again: the conditions of the lighter plan, numbered from 1 in the order in which they are looked at, each with what breaks it, the
+-- constant from 0 in file order, the label, or the gap
+abbrev pub broken : ℕ → ℕ → Weighed
+broken condition value = record { answer = 3; number = condition; value = value }
 
--- and what breaks it: the constant from 0 in file order, the label, or the gap
-abbrev pub breaker : Reason → ℕ
-breaker (GreaterConstant k) = k
-breaker (NewLabel l) = l .0
-breaker (ShorterPeriod l) = l .0
-breaker (LongerJitter l) = l .0
-breaker (LongerPayload l) = l .0
-breaker (ShorterDeadline l) = l .0
-breaker (LessUrgent l) = l .0
-breaker (MoreNoise x) = x
+abbrev pub again : Reason → Weighed
+again (GreaterConstant k) = broken 1 k
+again (NewLabel l) = broken 2 (l .0)
+again (ShorterPeriod l) = broken 3 (l .0)
+again (LongerJitter l) = broken 4 (l .0)
+again (LongerPayload l) = broken 5 (l .0)
+again (ShorterDeadline l) = broken 6 (l .0)
+again (LessUrgent l) = broken 7 (l .0)
+again (MoreNoise x) = broken 8 x
 
 -- 0 lighter, 1 the first plan is refused, 2 the second is, 3 run again
 abbrev pub weighed : Compared → Weighed
 weighed Lighter = record { answer = 0; number = 0; value = 0 }
 weighed (FirstRefused r) = record { answer = 1; number = r .number; value = r .place }
 weighed (SecondRefused r) = record { answer = 2; number = r .number; value = r .place }
-weighed (RunAgain r) = record { answer = 3; number = condition r; value = breaker r }
+weighed (RunAgain r) = again r
 
 -- the phase, 0 at a bit, 1 finished, 2 no winner, ..
 abbrev pub phaseNumber : Phase → ℕ
@@ -144,3 +138,31 @@ startMarks NB ps bs = startBytes (startFrom NB ps bs) bs
 
 abbrev pub stepMarks : ℕ → ℕ → ℕ → List ℕ → List ℕ → List ℕ
 stepMarks NB phase at ps bs = stepBytes (stepFrom NB phase at ps bs) bs
+
+-- ---- What a caller that lends a tournament can count on, beside the definitions. Proved in proofs/Fewer.antt and proofs/Marks.antt.
+
+-- 6 is given exactly when fewer marks than priorities are lent, by a start ..
+abbrev pub StartSix : Type 0
+StartSix = (NB : ℕ) (ps bs : List ℕ) → (startFrom NB ps bs .checked ≡ Refused (record { number = 6; place = 0 })) ↔ (length bs < length ps)
+
+-- .. and by a step
+abbrev pub StepSix : Type 0
+StepSix =
+    (NB phase at : ℕ) (ps bs : List ℕ)
+    → (stepFrom NB phase at ps bs .checked ≡ Refused (record { number = 6; place = 0 })) ↔ (length bs < length ps)
+
+-- where enough are, a start is the tournament's own, ..
+abbrev pub StartEnough : Type 0
+StartEnough = (NB : ℕ) (ps bs : List ℕ) → length ps ≤ length bs → startFrom NB ps bs ≡ startOf NB (length ps) (prioritiesFrom ps)
+
+-- .. and so is a step
+abbrev pub StepEnough : Type 0
+StepEnough = (NB phase at : ℕ) (ps bs : List ℕ) → length ps ≤ length bs → stepFrom NB phase at ps bs ≡ stepOf (stateFrom NB phase at ps bs)
+
+-- a step touches no byte after the contenders', ..
+abbrev pub UnusedKept : Type 0
+UnusedKept = (NB phase at : ℕ) (ps bs : List ℕ) (i : ℕ) → length ps ≤ i → getD (stepMarks NB phase at ps bs) i 0 ≡ getD bs i 0
+
+-- .. and none at all of a finished state, which has a phase from 1 on
+abbrev pub FinishedKept : Type 0
+FinishedKept = (NB phase at : ℕ) (ps bs : List ℕ) → 1 ≤ phase → stepMarks NB phase at ps bs ≡ bs

@@ -146,7 +146,7 @@ pub extern "C" fn livnakesh_parting(bits: u32, a: u32, b: u32) -> Said
 }
 
 fn broken(condition: u64, value: u64) -> Weighed
-    ensures { λ s. ⌜ s ≡ record { answer = 3; number = condition; value = value } ⌝ }
+    ensures { λ s. ⌜ s ≡ number.broken condition value ⌝ }
 {
     Weighed {
         answer: 3,
@@ -156,13 +156,13 @@ fn broken(condition: u64, value: u64) -> Weighed
 }
 
 fn by_label(condition: u64, label: Label) -> Weighed
-    ensures { λ s. ⌜ s ≡ record { answer = 3; number = condition; value = label .0 } ⌝ }
+    ensures { λ s. ⌜ s ≡ number.broken condition (label .0) ⌝ }
 {
     broken(condition, label.0 as u64)
 }
 
 fn again(reason: Reason) -> Weighed
-    ensures { λ s. ⌜ s ≡ record { answer = 3; number = number.condition reason; value = number.breaker reason } ⌝ }
+    ensures { λ s. ⌜ s ≡ number.again reason ⌝ }
 {
     match reason {
         Reason::GreaterConstant(k) => broken(1, k as u64),

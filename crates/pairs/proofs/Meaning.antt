@@ -16,8 +16,7 @@ use Rattle.laws.proofs.Tests.{both}
 use Rattle.pairs.specs.declared.Part.{Part}
 use Rattle.pairs.specs.declared.Named.the-variants.{Names, Wrong, Over}
 use Rattle.ascii.specs.Ascii.{space, newline}
-use Rattle.pairs.specs.Pairs.{before, free, lineFrom, nextLine, firstName, secondName, twoNames, part, nameIn, lineAs, lineOf}
-use Rattle.pairs.specs.Claims.{Name, ReadsItsNames, ReadsItsLast, Two, OnlyTwoNames, Ordered, InOrder, WrongGoesOn, GoesOn, ends, stops, NothingPassedOver, OverAtTheEnd}
+use Rattle.pairs.specs.Pairs.{before, free, lineFrom, nextLine, firstName, secondName, twoNames, part, nameIn, lineAs, lineOf, Name, ReadsItsNames, ReadsItsLast, Two, OnlyTwoNames, Ordered, InOrder, WrongGoesOn, GoesOn, ends, stops, NothingPassedOver, OverAtTheEnd}
 use Rattle.pairs.proofs.Laws.{length-rest, before-short, before-start, two-names, over, inside}
 
 -- ---- a text up to a byte

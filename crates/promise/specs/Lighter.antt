@@ -12,7 +12,7 @@ use Rattle.plan.specs.declared.Timing.{Timing}
 use Rattle.plan.specs.declared.Stream.{Stream}
 use Rattle.plan.specs.Plan.{Plan, at}
 use Rattle.plan.specs.Rules.{terms, rowAnswer}
-use Rattle.checks.specs.Claims.{Right}
+use Rattle.checks.specs.Checks.{Right}
 
 -- two streams are under one label
 abbrev pub Namesakes : Stream → Stream → Type 0

@@ -20,8 +20,7 @@ use Rattle.text.proofs.Size.{largest-refusal}
 use Rattle.tournament_state.specs.declared.Phase.{Phase}
 use Rattle.tournament_state.specs.declared.Phase.the-variants.{AtBit, Finished, NoWinner}
 use Rattle.tournament_state.specs.declared.Tournament.{Tournament}
-use Rattle.tournament_state.specs.Refusals.{number, none, verdictOf}
-use Rattle.tournament_state.specs.Meaning.{numberAt, PhaseWithin}
+use Rattle.tournament_state.specs.Refusals.{number, none, verdictOf, numberAt, PhaseWithin}
 use Rattle.tournament_state.proofs.Meaning.{fine-passed}
 use Rattle.tournament_state.proofs.Ranges.{refusal-range}
 use Rattle.tournament.specs.Rule.{begunOf, heardAt, steps}

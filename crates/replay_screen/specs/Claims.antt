@@ -8,8 +8,7 @@ use Rattle.names.specs.declared.Priority.{Priority}
 use Rattle.names.specs.Limits.{contenders, bits, ticks}
 use Rattle.laws.specs.Lists.{rows}
 use Rattle.judge.specs.declared.Checked.the-variants.{Fine}
-use Rattle.tournament_state.specs.Refusals.{none}
-use Rattle.tournament_state.specs.Meaning.{numberAt}
+use Rattle.tournament_state.specs.Refusals.{none, numberAt}
 use Rattle.tournament.specs.Rule.{begunOf}
 use Rattle.tournament.specs.Answers.{startOf}
 use Rattle.tournament_laws.specs.Facts.{Smallest}
@@ -30,8 +29,8 @@ mostRows = length (spaced (rows contenders (λ i. i)))
 -- the longest line of a bit, whose number has two digits at most, with every row in both places
 abbrev pub mostOfBit : ℕ
 mostOfBit =
-    length (ascii "bit ") + 2 + length (ascii ": ") + length (ascii "carrier heard") + length (ascii "; goes silent:") + mostRows + length (ascii "; still in:") + mostRows
-    + length (ascii "\n")
+    length (ascii "bit ") + 2 + length (ascii ": ") + length (ascii "carrier heard") + length (ascii "; goes silent:") + mostRows
+    + length (ascii "; still in:") + mostRows + length (ascii "\n")
 
 -- the longest line of a winner, whose row has three digits and whose priority has ten
 abbrev pub mostOfWinner : ℕ

@@ -13,8 +13,7 @@ use Rattle.decimal.specs.Decimal.{valueOf}
 use Rattle.decimal.proofs.Decimal.{few-digits}
 use Rattle.text.specs.Put.{lastPlace}
 use Rattle.text.proofs.Laying.{all-put}
-use Rattle.tournament_state.specs.Refusals.{none}
-use Rattle.tournament_state.specs.Meaning.{numberAt}
+use Rattle.tournament_state.specs.Refusals.{none, numberAt}
 use Rattle.replay_screen.specs.Claims.{mostShown, LentPlaces}
 use Rattle.replay_screen.specs.Shown.{shownOf}
 use Rattle.replay_screen.proofs.Size.{largest-shown}

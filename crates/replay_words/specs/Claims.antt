@@ -19,8 +19,8 @@ NumberRead = (n : ℕ) → n ≤ ticks → (isNumber (digits n) ≡ true) × (nu
 -- .. and bytes that part nothing are a word, where a byte that parts words comes next
 abbrev pub WordRead : Type 0
 WordRead =
-    (word : List ℕ) (b : ℕ) (text : List ℕ) → 1 ≤ length word → ((i : ℕ) → i < length word → separates (getD word i 0) ≡ false) → separates b ≡ true
-    → textWords (word ++ b ∷ text) ≡ word ∷ textWords text
+    (word : List ℕ) (b : ℕ) (text : List ℕ) → 1 ≤ length word → ((i : ℕ) → i < length word → separates (getD word i 0) ≡ false)
+    → separates b ≡ true → textWords (word ++ b ∷ text) ≡ word ∷ textWords text
 
 -- a buffer that holds the longest replay holds what is shown of any text that can be lent
 abbrev pub ReplayFits : Type 0

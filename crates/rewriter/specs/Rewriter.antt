@@ -1,15 +1,15 @@
 -- The plan in a file, written again.
+use mathlib.Core.Path.{_≡_}
 use mathlib.Core.List.{List, _++_}
 use Prim.Native.Nat.{ℕ, _≤_}
-use mathlib.Core.Path.{_≡_}
 use lib.ListN.{length, drop}
-use Rattle.plan.specs.declared.Sheet.{Sheet}
+use Rattle.words.specs.Words.{Below}
 use Rattle.judge.specs.declared.Checked.{Checked}
 use Rattle.judge.specs.declared.Checked.the-variants.{Fine, Refused}
+use Rattle.plan.specs.declared.Sheet.{Sheet}
 use Rattle.file.specs.declared.Written.{Written}
 use Rattle.file.specs.declared.Written.the-variants.{Refused as Written·Refused, Bytes}
 use Rattle.file.specs.File.{readOf, writeOf}
-use Rattle.words.specs.Words.{Below}
 
 -- what was read is written, and a refused file is refused, with the lent bytes as they were
 abbrev pub rewriteAs : Checked → Sheet → List ℕ → Written × List ℕ

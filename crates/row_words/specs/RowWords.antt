@@ -1,10 +1,10 @@
 -- How a row's answer is laid into words, and how it is read from them.
+use mathlib.Core.Path.{_≡_}
 use mathlib.Core.Bool.{Bool, cond, true}
 use mathlib.Core.List.{List, [], _∷_, _++_, flatMap}
 use Prim.Native.Nat.{ℕ, _+_, _*_, _/_}
 use lib.Dec.{ltb, eqb}
 use lib.ListN.{length, take, drop, getD}
-use mathlib.Core.Path.{_≡_}
 use Rattle.laws.specs.Lists.{rows}
 use Rattle.bound.specs.declared.Verdict.{Verdict}
 use Rattle.bound.specs.declared.Verdict.the-variants.{Met, Missed, None}

@@ -9,8 +9,7 @@ use Rattle.checks.specs.Checks.{inRange, checkedOf}
 use Rattle.checks.proofs.Counts.{too-few, too-many, too-noisy, out-of-range}
 use Rattle.answers.specs.Answers.{answerOf}
 use Rattle.answers.proofs.Values.{sheet-refused}
-use Rattle.screen.specs.Screen.{sheetFor}
-use Rattle.screen.specs.Claims.{WrongLists}
+use Rattle.screen.specs.Screen.{sheetFor, WrongLists}
 
 pub wrong-counts : WrongLists
 unfolding sheetFor checkedOf

@@ -2,8 +2,7 @@
 use mathlib.Core.Path.{refl, sym}
 use Rattle.answer_files.proofs.Alike.{file-alike}
 use Rattle.carried.proofs.Plans.{one-sheet}
-use Rattle.screen.specs.Screen.{planFor, sheetFor}
-use Rattle.screen.specs.Claims.{SamePlan, SameAsFile}
+use Rattle.screen.specs.Screen.{planFor, sheetFor, SamePlan, SameAsFile}
 
 pub same-plan : SamePlan
 unfolding sheetFor

@@ -1,4 +1,3 @@
 pub mod Screen
-pub mod Claims
 pub mod private
 pub mod Determined

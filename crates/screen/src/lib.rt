@@ -3,7 +3,7 @@
 // `screen` answers for every list, however long, just as `answers::answer_values` does for the sheet of these values: the
 // first 64 streams and 8 gaps are copied out, and the list's own lengths are its counts, so an empty or over-long list is
 // refused 2. Nothing is assumed. Its code must not know of files or text, and it makes no check and no bound
-// of its own; specs/Claims.antt holds it against the file.
+// of its own; specs/Screen.antt holds it against the file.
 ghost use mathlib.Core.Path.{_≡_};
 ghost use Prim.Native.Nat.{_<_};
 ghost use lib.ListN.{length, getD, set, replicate};

@@ -17,7 +17,7 @@ use Rattle.judge.specs.declared.Checked.the-variants.{Fine, Refused}
 use Rattle.tournament_state.specs.declared.Phase.{Phase}
 use Rattle.tournament_state.specs.declared.Phase.the-variants.{AtBit, Finished, NoWinner}
 use Rattle.tournament_state.specs.declared.Tournament.{Tournament}
-use Rattle.tournament_state.specs.Meaning.{PhaseWithin}
+use Rattle.tournament_state.specs.Refusals.{PhaseWithin}
 use Rattle.tournament_state.proofs.Meaning.{fine-passed}
 use Rattle.tournament.specs.declared.Outcome.{Outcome}
 use Rattle.tournament.specs.Rule.{lowestMarked, finishedBy, winnerOf, marksAfter, nextAt, next, steps}

@@ -20,7 +20,7 @@ ghost use Rattle.tournament.specs.Rule.{bitAt, heardAt, silencedAt, winn
 ghost use Rattle.tournament.specs.Answers.{judgedOf, nobody as Answers·nobody, startOf, stepOf, runOf};
 ghost use Rattle.tournament.specs.Answers.{carrierOf, partingBit, partingOf};
 ghost use Rattle.tournament.specs.private.Ready.{AtABit, Ready};
-ghost use Rattle.tournament_state.specs.Meaning.{PlayablePair};
+ghost use Rattle.tournament_state.specs.Refusals.{PlayablePair};
 
 // The state after the call, beside whether it was fine: a refused call changes nothing.
 pub struct Outcome {

@@ -16,8 +16,7 @@ use Rattle.judge.specs.declared.Checked.the-variants.{Fine, Refused}
 use Rattle.tournament_state.specs.declared.Phase.{Phase}
 use Rattle.tournament_state.specs.declared.Phase.the-variants.{AtBit, Finished, NoWinner}
 use Rattle.tournament_state.specs.declared.Tournament.{Tournament}
-use Rattle.tournament_state.specs.Refusals.{verdictOf}
-use Rattle.tournament_state.specs.Meaning.{numberAt, PhaseWithin}
+use Rattle.tournament_state.specs.Refusals.{verdictOf, numberAt, PhaseWithin}
 use Rattle.tournament_state.proofs.Meaning.{fine-passed, fine-if-playable}
 use Rattle.tournament.specs.Rule.{begunOf, marksAfter, lowestMarked, finishedBy, winnerOf, nextAt, next, steps}
 use Rattle.tournament.specs.Answers.{judgedOf, outcome, nobody, startOf, stepOf, runOf}

@@ -13,8 +13,7 @@ use Rattle.laws.specs.Search.{first, orZero}
 use Rattle.laws.proofs.Rows.{finds-lowest, finds-nothing}
 use Rattle.judge.specs.declared.Checked.{Checked}
 use Rattle.judge.specs.declared.Checked.the-variants.{Fine, Refused}
-use Rattle.tournament_state.specs.Refusals.{number, pairVerdictOf}
-use Rattle.tournament_state.specs.Meaning.{PlayablePair}
+use Rattle.tournament_state.specs.Refusals.{number, pairVerdictOf, PlayablePair}
 use Rattle.tournament_state.proofs.Meaning.{fine-if-playable-pair}
 use Rattle.tournament.specs.declared.Parting.the-variants.{At as Parting·At}
 use Rattle.tournament.specs.Rule.{bitAt}

@@ -14,8 +14,7 @@ use lib.ListN.{getD}
 use lib.Pow.{shr-mono}
 use Rattle.names.specs.declared.Priority.{Priority}
 use Rattle.tournament_state.specs.declared.Phase.the-variants.{AtBit, Finished}
-use Rattle.tournament_state.specs.Refusals.{none}
-use Rattle.tournament_state.specs.Meaning.{numberAt, Fair}
+use Rattle.tournament_state.specs.Refusals.{none, numberAt, Fair}
 use Rattle.tournament.specs.Rule.{bitAt, begunOf, isIn, heardAt, next, steps}
 use Rattle.tournament.proofs.Bits.{top, bit, top-none, top-all, top-less, top-more, top-fewer, same-top}
 use Rattle.tournament_laws.specs.Facts.{Start, after, Smallest, Won, SmallestWins, LoserGoesSilent, WinnerStaysIn, FirstDifference, Handled}

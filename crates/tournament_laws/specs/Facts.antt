@@ -12,8 +12,7 @@ use Rattle.names.specs.Limits.{contenders}
 use Rattle.tournament_state.specs.declared.Phase.the-variants.{AtBit, Finished, NoWinner}
 use Rattle.tournament_state.specs.declared.Tournament.{Tournament}
 use Rattle.judge.specs.declared.Checked.the-variants.{Fine}
-use Rattle.tournament_state.specs.Refusals.{number, none}
-use Rattle.tournament_state.specs.Meaning.{numberAt, Fair, PlayablePair}
+use Rattle.tournament_state.specs.Refusals.{number, none, numberAt, Fair, PlayablePair}
 use Rattle.tournament.specs.declared.Parting.the-variants.{At as Parting·At}
 use Rattle.tournament.specs.Rule.{bitAt, begunOf, isIn, heardAt, winnerOf, next, steps}
 use Rattle.tournament.specs.Answers.{judgedOf, partingBit, partingOf, startOf, stepOf, runOf}
@@ -33,7 +32,7 @@ pub record Smallest (n : ℕ) (places : List Priority) (w : ℕ) : Type 0 where
   pub among : w < n
   pub below : (i : ℕ) → i < n → (i ≡ w → ⊥) → numberAt places w < numberAt places i
 
--- the run ends with the smallest priority as its one winner: it alone is marked numberAt the end, so neither "no winner" nor "several" happens
+-- the run ends with the smallest priority as its one winner: it alone is marked at the end, so neither "no winner" nor "several" happens
 pub record Won (NB n : ℕ) (places : List Priority) (w : ℕ) : Type 0 where
   pub smallest : Smallest n places w
   pub ends : after NB n places NB .phase ≡ Finished (record { 0 = w })

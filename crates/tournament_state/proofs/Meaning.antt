@@ -22,8 +22,7 @@ use Rattle.judge.specs.Table.{judge, unless, rowIn}
 use Rattle.judge.proofs.Table.{passed, not-given, unless-not, row-not, nothing-given, refused-by-the-first}
 use Rattle.tournament_state.specs.declared.Phase.{Phase}
 use Rattle.tournament_state.specs.declared.Phase.the-variants.{AtBit, Finished, NoWinner}
-use Rattle.tournament_state.specs.Refusals.{number, none, oneTo, fitsIn, lowestUnfit, phaseInside, lowestRepeat, verdictOf, pairVerdictOf}
-use Rattle.tournament_state.specs.Meaning.{numberAt, StateRefused, PairRefused, PlaceOfEight, PlaceOfNine, PhaseWithin, Playable, FineIfPlayable, PlayablePair, FineIfPlayablePair}
+use Rattle.tournament_state.specs.Refusals.{number, none, oneTo, fitsIn, lowestUnfit, phaseInside, lowestRepeat, verdictOf, pairVerdictOf, numberAt, StateRefused, PairRefused, PlaceOfEight, PlaceOfNine, PhaseWithin, Playable, FineIfPlayable, PlayablePair, FineIfPlayablePair}
 
 pub state-refused : StateRefused
 unfolding verdictOf

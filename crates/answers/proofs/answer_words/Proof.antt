@@ -56,13 +56,5 @@ returns-3 c =
 pub answer-words-spec : {M : Type 1} → statement M
 answer-words-spec =
     tie.close
-    (tie.spec
-    (λ c κs. search needs)
-    (λ c. search needs)
-    returns
-    enum-told
-    mul-if1
-    returns-2
-    put-rows-requires
-    (λ c. search needs)
+    (tie.spec (λ c κs. search needs) (λ c. search needs) returns enum-told mul-if1 returns-2 put-rows-requires (λ c. search needs)
     returns-3)

@@ -21,11 +21,4 @@ returns-4 c = let a = c .before .before .before .args in sym (range-fine (a .n) 
 pub check-counts-spec : {M : Type 1} → statement M
 check-counts-spec =
     tie.close
-    (tie.spec
-    (λ c κs. search needs)
-    returns
-    (λ c κs. search needs)
-    returns-2
-    (λ c κs. search needs)
-    returns-3
-    returns-4)
+    (tie.spec (λ c κs. search needs) returns (λ c κs. search needs) returns-2 (λ c κs. search needs) returns-3 returns-4)

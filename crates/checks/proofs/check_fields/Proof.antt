@@ -51,12 +51,4 @@ returns-2 c = sym (passed _ _ (ap byteIn (sym (c .before .before .outside .ensur
 pub check-fields-spec : {M : Type 1} → statement M
 check-fields-spec =
     tie.close
-    (tie.spec
-    (λ c κs. search needs)
-    (λ c. search needs)
-    add-refused
-    mul-refused
-    (λ c κs. search needs)
-    enum-told
-    returns
-    returns-2)
+    (tie.spec (λ c κs. search needs) (λ c. search needs) add-refused mul-refused (λ c κs. search needs) enum-told returns returns-2)

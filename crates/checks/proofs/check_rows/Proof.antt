@@ -70,22 +70,6 @@ returns-3 c =
 pub check-rows-spec : {M : Type 1} → statement M
 check-rows-spec =
     tie.close
-    (tie.spec
-    (λ c κs. search needs)
-    (λ c κs. search needs)
-    (λ c. search needs)
-    slice-aggregate-first-repeat
-    (λ c κs. search needs)
-    (λ c. search needs)
-    (λ c κs. search needs)
-    returns
-    enum-told
-    (λ c κs. search needs)
-    (λ c. search needs)
-    slice-aggregate-first-repeat-2
-    (λ c κs. search needs)
-    (λ c. search needs)
-    (λ c κs. search needs)
-    (λ c. search needs)
-    returns-2
-    returns-3)
+    (tie.spec (λ c κs. search needs) (λ c κs. search needs) (λ c. search needs) slice-aggregate-first-repeat (λ c κs. search needs)
+    (λ c. search needs) (λ c κs. search needs) returns enum-told (λ c κs. search needs) (λ c. search needs) slice-aggregate-first-repeat-2
+    (λ c κs. search needs) (λ c. search needs) (λ c κs. search needs) (λ c. search needs) returns-2 returns-3)

@@ -139,27 +139,7 @@ returns-4 c =
 pub changes-spec : {M : Type 1} → statement M
 changes-spec =
     tie.close
-    (tie.spec
-    (λ c κs. search needs)
-    (λ c. search needs)
-    returns
-    enum-told
-    (λ c κs. search needs)
-    (λ c κs. search needs)
-    (λ c κs. search needs)
-    array-share-prefix-labels
-    slice-aggregate-streams
-    streams-requires
-    (λ c. search needs)
-    returns-2
-    (λ c. search needs)
-    array-share-prefix-was
-    slice-aggregate-urgency
-    array-share-prefix-is
-    slice-aggregate-urgency-2
-    urgency-requires
-    (λ c. search needs)
-    returns-3
-    (λ c. search needs)
-    (λ c κs. search needs)
-    returns-4)
+    (tie.spec (λ c κs. search needs) (λ c. search needs) returns enum-told (λ c κs. search needs) (λ c κs. search needs)
+    (λ c κs. search needs) array-share-prefix-labels slice-aggregate-streams streams-requires (λ c. search needs) returns-2
+    (λ c. search needs) array-share-prefix-was slice-aggregate-urgency array-share-prefix-is slice-aggregate-urgency-2 urgency-requires
+    (λ c. search needs) returns-3 (λ c. search needs) (λ c κs. search needs) returns-4)

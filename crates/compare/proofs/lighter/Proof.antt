@@ -4,8 +4,7 @@ use borrow.Author.Needs.{needs}
 use Rattle.plan.specs.declared.Sheet.{Sheet}
 use Rattle.plan.specs.Plan.{planOf}
 use Rattle.compare.specs.declared.Compared.{Compared}
-use Rattle.compare.specs.Changes.{changes}
-use Rattle.compare.specs.Compared.{comparedAs, comparedOf}
+use Rattle.compare.specs.Changes.{changes, comparedAs, comparedOf}
 use Rattle.compare.specs.Claims.{SaysLighter}
 use Rattle.compare.proofs.Says.{said-of-sheets}
 use Rattle.compare.proofs.lighter.Statement.{statement}

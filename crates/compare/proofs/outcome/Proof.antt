@@ -8,7 +8,7 @@ use Rattle.compare.specs.declared.Change.{Change}
 use Rattle.compare.specs.declared.Change.the-variants.{Of, Nothing}
 use Rattle.compare.specs.declared.Reason.{Reason}
 use Rattle.compare.specs.declared.Compared.the-variants.{FirstRefused, SecondRefused, Lighter, RunAgain}
-use Rattle.compare.specs.Compared.{comparedAs}
+use Rattle.compare.specs.Changes.{comparedAs}
 use Rattle.compare.proofs.outcome.Statement.{statement}
 use Rattle.compare.proofs.outcome.Tie as tie
 
@@ -53,15 +53,5 @@ returns-4 c =
 pub outcome-spec : {M : Type 1} → statement M
 outcome-spec =
     tie.close
-    (tie.spec
-    (λ c. search needs)
-    returns
-    enum-told
-    (λ c. search needs)
-    returns-2
-    (λ c. search needs)
-    (λ c κs. search needs)
-    (λ c. search needs)
-    (λ c. search needs)
-    returns-3
-    returns-4)
+    (tie.spec (λ c. search needs) returns enum-told (λ c. search needs) returns-2 (λ c. search needs) (λ c κs. search needs)
+    (λ c. search needs) (λ c. search needs) returns-3 returns-4)

@@ -138,26 +138,6 @@ returns-3 c =
 pub streams-spec : {M : Type 1} → statement M
 streams-spec =
     tie.close
-    (tie.spec
-    Inv-loop
-    μ-loop
-    (λ c κs. search needs)
-    loop-holds
-    (λ c. search needs)
-    (λ c. search needs)
-    (λ c κs. search needs)
-    returns
-    mul-namesake
-    element-copy-out-namesake
-    (λ c κs. search needs)
-    (λ c. search needs)
-    returns-2
-    enum-told
-    (λ c. search needs)
-    (λ c. search needs)
-    (λ c. search needs)
-    (λ c. search needs)
-    (λ c. search needs)
-    (λ c. search needs)
-    loop-again
-    returns-3)
+    (tie.spec Inv-loop μ-loop (λ c κs. search needs) loop-holds (λ c. search needs) (λ c. search needs) (λ c κs. search needs) returns
+    mul-namesake element-copy-out-namesake (λ c κs. search needs) (λ c. search needs) returns-2 enum-told (λ c. search needs)
+    (λ c. search needs) (λ c. search needs) (λ c. search needs) (λ c. search needs) (λ c. search needs) loop-again returns-3)

@@ -70,19 +70,5 @@ returns-2 c =
 pub urgency-spec : {M : Type 1} → statement M
 urgency-spec =
     tie.close
-    (tie.spec
-    Inv-loop
-    μ-loop
-    loop-holds
-    (λ c. search needs)
-    (λ c. search needs)
-    (λ c. search needs)
-    (λ c. search needs)
-    (λ c κs. search needs)
-    mul-s
-    element-copy-out-s
-    returns
-    (λ c. search needs)
-    (λ c. search needs)
-    loop-again
-    returns-2)
+    (tie.spec Inv-loop μ-loop loop-holds (λ c. search needs) (λ c. search needs) (λ c. search needs) (λ c. search needs)
+    (λ c κs. search needs) mul-s element-copy-out-s returns (λ c. search needs) (λ c. search needs) loop-again returns-2)

@@ -6,8 +6,7 @@ use borrow.Author.Needs.{needs}
 use Rattle.plan.specs.Plan.{planOf}
 use Rattle.file.specs.declared.ReadPlan.{ReadPlan}
 use Rattle.compare.specs.declared.Compared.{Compared}
-use Rattle.compare.specs.Changes.{changes}
-use Rattle.compare.specs.Compared.{comparedAs}
+use Rattle.compare.specs.Changes.{changes, comparedAs}
 use Rattle.compare_files.specs.Files.{comparedFiles, SaysLighterOfFiles}
 use Rattle.compare_files.proofs.Kept.{said-of-files}
 use Rattle.compare_files.proofs.lighter_files.Statement.{statement}

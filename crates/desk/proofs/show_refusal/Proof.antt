@@ -37,13 +37,5 @@ returns-2 c =
 pub show-refusal-spec : {M : Type 1} → statement M
 show-refusal-spec =
     tie.close
-    (tie.spec
-    (λ c κs. search needs)
-    (λ c. search needs)
-    (λ c κs. search needs)
-    enum-told
-    (λ c κs. search needs)
-    (λ c. search needs)
-    returns
-    (λ c. search needs)
-    returns-2)
+    (tie.spec (λ c κs. search needs) (λ c. search needs) (λ c κs. search needs) enum-told (λ c κs. search needs) (λ c. search needs) returns
+    (λ c. search needs) returns-2)

@@ -45,18 +45,6 @@ returns c =
 pub gaps-outside-spec : {M : Type 1} → statement M
 gaps-outside-spec =
     tie.close
-    (tie.spec
-    (λ c. search needs)
-    (λ c. search needs)
-    (λ c. search needs)
-    (λ c. search needs)
-    (λ c. search needs)
-    (λ c. search needs)
-    (λ c. search needs)
-    (λ c. search needs)
-    (λ c. search needs)
-    slice-aggregate-words-outside
-    (λ c. search needs)
-    slice-aggregate-words-outside-2
-    words-outside-requires
-    returns)
+    (tie.spec (λ c. search needs) (λ c. search needs) (λ c. search needs) (λ c. search needs) (λ c. search needs) (λ c. search needs)
+    (λ c. search needs) (λ c. search needs) (λ c. search needs) slice-aggregate-words-outside (λ c. search needs)
+    slice-aggregate-words-outside-2 words-outside-requires returns)

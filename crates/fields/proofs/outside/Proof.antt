@@ -75,19 +75,6 @@ returns-3 c =
 pub outside-spec : {M : Type 1} → statement M
 outside-spec =
     tie.close
-    (tie.spec
-    (λ c κs. search needs)
-    (λ c κs. search needs)
-    (λ c. search needs)
-    returns
-    enum-told
-    (λ c. search needs)
-    (λ c. search needs)
-    (λ c. search needs)
-    streams-outside-requires
-    (λ c. search needs)
-    returns-2
-    (λ c. search needs)
-    (λ c κs. search needs)
-    (λ c κs. search needs)
-    returns-3)
+    (tie.spec (λ c κs. search needs) (λ c κs. search needs) (λ c. search needs) returns enum-told (λ c. search needs) (λ c. search needs)
+    (λ c. search needs) streams-outside-requires (λ c. search needs) returns-2 (λ c. search needs) (λ c κs. search needs)
+    (λ c κs. search needs) returns-3)

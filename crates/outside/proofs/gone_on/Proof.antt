@@ -22,13 +22,5 @@ returns-2 c =
 pub gone-on-spec : {M : Type 1} → statement M
 gone-on-spec =
     tie.close
-    (tie.spec
-    enum-told
-    (λ c κs. search needs)
-    (λ c κs. search needs)
-    (λ c. search needs)
-    (λ c. search needs)
-    (λ c κs. search needs)
-    (λ c. search needs)
-    returns
-    returns-2)
+    (tie.spec enum-told (λ c κs. search needs) (λ c κs. search needs) (λ c. search needs) (λ c. search needs) (λ c κs. search needs)
+    (λ c. search needs) returns returns-2)

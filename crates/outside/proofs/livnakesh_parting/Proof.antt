@@ -14,12 +14,5 @@ returns-2 c = c .refused .ensures ∙ ap parting (sym (sym (c .before .before .b
 pub livnakesh-parting-spec : {M : Type 1} → statement M
 livnakesh-parting-spec =
     tie.close
-    (tie.spec
-    (λ c κs. search needs)
-    (λ c. search needs)
-    (λ c. search needs)
-    (λ c κs. search needs)
-    (λ c. search needs)
-    (λ c κs. search needs)
-    returns
-    returns-2)
+    (tie.spec (λ c κs. search needs) (λ c. search needs) (λ c. search needs) (λ c κs. search needs) (λ c. search needs)
+    (λ c κs. search needs) returns returns-2)

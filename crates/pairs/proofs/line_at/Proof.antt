@@ -34,12 +34,5 @@ returns-3 c =
 pub line-at-spec : {M : Type 1} → statement M
 line-at-spec =
     tie.close
-    (tie.spec
-    returns
-    (λ c κs. search needs)
-    slice-aggregate-names-in
-    (λ c. search needs)
-    names-in-requires
-    returns-2
-    (λ c κs. search needs)
+    (tie.spec returns (λ c κs. search needs) slice-aggregate-names-in (λ c. search needs) names-in-requires returns-2 (λ c κs. search needs)
     returns-3)

@@ -71,12 +71,4 @@ returns-5 c =
 pub names-in-spec : {M : Type 1} → statement M
 names-in-spec =
     tie.close
-    (tie.spec
-    (λ c κs. search needs)
-    returns
-    returns-2
-    (λ c. search needs)
-    returns-3
-    (λ c κs. search needs)
-    returns-4
-    returns-5)
+    (tie.spec (λ c κs. search needs) returns returns-2 (λ c. search needs) returns-3 (λ c κs. search needs) returns-4 returns-5)

@@ -51,14 +51,5 @@ returns-2 c =
 pub carry-spec : {M : Type 1} → statement M
 carry-spec =
     tie.close
-    (tie.spec
-    (λ c κs. search needs)
-    enum-told
-    (λ c. search needs)
-    (λ c. search needs)
-    sub-words-into
-    part-words-into-start
-    (λ c. search needs)
-    (λ c κs. search needs)
-    returns
-    returns-2)
+    (tie.spec (λ c κs. search needs) enum-told (λ c. search needs) (λ c. search needs) sub-words-into part-words-into-start
+    (λ c. search needs) (λ c κs. search needs) returns returns-2)

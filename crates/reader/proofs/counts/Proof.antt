@@ -129,31 +129,7 @@ returns-6 c =
 pub counts-spec : {M : Type 1} → statement M
 counts-spec =
     tie.close
-    (tie.spec
-    (λ c. search needs)
-    (λ c κs. search needs)
-    returns
-    (λ c. search needs)
-    (λ c. search needs)
-    (λ c κs. search needs)
-    (λ c κs. search needs)
-    returns-2
-    (λ c κs. search needs)
-    (λ c. search needs)
-    (λ c. search needs)
-    (λ c. search needs)
-    (λ c κs. search needs)
-    (λ c. search needs)
-    (λ c κs. search needs)
-    (λ c. search needs)
-    returns-3
-    enum-told
-    contents-in-requires
-    (λ c κs. search needs)
-    returns-4
-    cast-size-3
-    cast-size-4
-    (λ c κs. search needs)
-    (λ c κs. search needs)
-    returns-5
-    returns-6)
+    (tie.spec (λ c. search needs) (λ c κs. search needs) returns (λ c. search needs) (λ c. search needs) (λ c κs. search needs)
+    (λ c κs. search needs) returns-2 (λ c κs. search needs) (λ c. search needs) (λ c. search needs) (λ c. search needs)
+    (λ c κs. search needs) (λ c. search needs) (λ c κs. search needs) (λ c. search needs) returns-3 enum-told contents-in-requires
+    (λ c κs. search needs) returns-4 cast-size-3 cast-size-4 (λ c κs. search needs) (λ c κs. search needs) returns-5 returns-6)

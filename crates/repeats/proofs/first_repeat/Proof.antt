@@ -58,15 +58,5 @@ returns-3 c =
 pub first-repeat-spec : {M : Type 1} → statement M
 first-repeat-spec =
     tie.close
-    (tie.spec
-    Inv-loop
-    μ-loop
-    loop-holds
-    (λ c κs. search needs)
-    returns
-    (λ c. search needs)
-    returns-2
-    (λ c. search needs)
-    (λ c. search needs)
-    loop-again
-    returns-3)
+    (tie.spec Inv-loop μ-loop loop-holds (λ c κs. search needs) returns (λ c. search needs) returns-2 (λ c. search needs)
+    (λ c. search needs) loop-again returns-3)

@@ -15,12 +15,5 @@ returns-2 c = is (ap carrierText (sym (c .before .before .before .before .before
 pub lay-carrier-spec : {M : Type 1} → statement M
 lay-carrier-spec =
     tie.close
-    (tie.spec
-    (λ c. search needs)
-    (λ c κs. search needs)
-    (λ c. search needs)
-    returns
-    (λ c. search needs)
-    (λ c κs. search needs)
-    (λ c. search needs)
-    returns-2)
+    (tie.spec (λ c. search needs) (λ c κs. search needs) (λ c. search needs) returns (λ c. search needs) (λ c κs. search needs)
+    (λ c. search needs) returns-2)

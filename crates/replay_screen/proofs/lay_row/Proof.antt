@@ -20,10 +20,4 @@ returns-2 c = is (ap (λ b. rowText b (c .before .before .args .row .0)) (sym (c
 pub lay-row-spec : {M : Type 1} → statement M
 lay-row-spec =
     tie.close
-    (tie.spec
-    (λ c. search needs)
-    (λ c κs. search needs)
-    (λ c κs. search needs)
-    (λ c. search needs)
-    returns
-    returns-2)
+    (tie.spec (λ c. search needs) (λ c κs. search needs) (λ c κs. search needs) (λ c. search needs) returns returns-2)

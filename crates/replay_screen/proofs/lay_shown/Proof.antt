@@ -28,13 +28,5 @@ returns-2 c =
 pub lay-shown-spec : {M : Type 1} → statement M
 lay-shown-spec =
     tie.close
-    (tie.spec
-    (λ c κs. search needs)
-    enum-told
-    lay-played-requires
-    (λ c. search needs)
-    (λ c κs. search needs)
-    (λ c. search needs)
-    returns
-    (λ c. search needs)
-    returns-2)
+    (tie.spec (λ c κs. search needs) enum-told lay-played-requires (λ c. search needs) (λ c κs. search needs) (λ c. search needs) returns
+    (λ c. search needs) returns-2)

@@ -34,13 +34,5 @@ returns-3 c =
 pub lay-winner-spec : {M : Type 1} → statement M
 lay-winner-spec =
     tie.close
-    (tie.spec
-    (λ c. search needs)
-    (λ c κs. search needs)
-    (λ c κs. search needs)
-    enum-told
-    (λ c. search needs)
-    (λ c. search needs)
-    returns
-    returns-2
-    returns-3)
+    (tie.spec (λ c. search needs) (λ c κs. search needs) (λ c κs. search needs) enum-told (λ c. search needs) (λ c. search needs) returns
+    returns-2 returns-3)

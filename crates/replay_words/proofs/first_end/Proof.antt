@@ -66,16 +66,5 @@ returns-2 c =
 pub first-end-spec : {M : Type 1} → statement M
 first-end-spec =
     tie.close
-    (tie.spec
-    Inv-loop
-    μ-loop
-    loop-holds
-    (λ c κs. search needs)
-    returns
-    (λ c. search needs)
-    ends-with-requires
-    (λ c κs. search needs)
-    (λ c. search needs)
-    (λ c. search needs)
-    loop-again
-    returns-2)
+    (tie.spec Inv-loop μ-loop loop-holds (λ c κs. search needs) returns (λ c. search needs) ends-with-requires (λ c κs. search needs)
+    (λ c. search needs) (λ c. search needs) loop-again returns-2)

@@ -26,16 +26,5 @@ returns-3 c =
 pub lay-replay-spec : {M : Type 1} → statement M
 lay-replay-spec =
     tie.close
-    (tie.spec
-    (λ c κs. search needs)
-    (λ c. search needs)
-    (λ c κs. search needs)
-    (λ c. search needs)
-    returns
-    (λ c. search needs)
-    (λ c κs. search needs)
-    (λ c. search needs)
-    returns-2
-    (λ c κs. search needs)
-    (λ c. search needs)
-    returns-3)
+    (tie.spec (λ c κs. search needs) (λ c. search needs) (λ c κs. search needs) (λ c. search needs) returns (λ c. search needs)
+    (λ c κs. search needs) (λ c. search needs) returns-2 (λ c κs. search needs) (λ c. search needs) returns-3)

@@ -23,11 +23,4 @@ returns-3 c = rw (ne-eqb (c .before .before .before .args .words) 0 (c .before .
 pub places-with-spec : {M : Type 1} → statement M
 places-with-spec =
     tie.close
-    (tie.spec
-    returns
-    returns-2
-    (λ c κs. search needs)
-    (λ c. search needs)
-    (λ c. search needs)
-    (λ c. search needs)
-    returns-3)
+    (tie.spec returns returns-2 (λ c κs. search needs) (λ c. search needs) (λ c. search needs) (λ c. search needs) returns-3)

@@ -38,15 +38,5 @@ returns c =
 pub read-spec : {M : Type 1} → statement M
 read-spec =
     tie.close
-    (tie.spec
-    Inv-loop
-    μ-loop
-    (λ c κs. search needs)
-    loop-holds
-    (λ c. search needs)
-    with-byte-requires
-    (λ c. search needs)
-    (λ c. search needs)
-    loop-again
-    closed-if-requires
-    returns)
+    (tie.spec Inv-loop μ-loop (λ c κs. search needs) loop-holds (λ c. search needs) with-byte-requires (λ c. search needs)
+    (λ c. search needs) loop-again closed-if-requires returns)

@@ -21,16 +21,5 @@ returns-3 c = is (ap (λ v. boundText v (c .before .before .before .before .befo
 pub lay-bound-spec : {M : Type 1} → statement M
 lay-bound-spec =
     tie.close
-    (tie.spec
-    enum-told
-    (λ c κs. search needs)
-    (λ c. search needs)
-    (λ c κs. search needs)
-    (λ c. search needs)
-    (λ c κs. search needs)
-    (λ c. search needs)
-    returns
-    (λ c. search needs)
-    returns-2
-    (λ c. search needs)
-    returns-3)
+    (tie.spec enum-told (λ c κs. search needs) (λ c. search needs) (λ c κs. search needs) (λ c. search needs) (λ c κs. search needs)
+    (λ c. search needs) returns (λ c. search needs) returns-2 (λ c. search needs) returns-3)

@@ -31,14 +31,5 @@ returns c = whole {k = c .before .loop .i} (c .before .before .before .before .a
 pub lay-text-spec : {M : Type 1} → statement M
 lay-text-spec =
     tie.close
-    (tie.spec
-    Inv-loop
-    μ-loop
-    loop-holds
-    (λ c. search needs)
-    (λ c κs. search needs)
-    (λ c. search needs)
-    (λ c. search needs)
-    loop-again
-    same-length
-    returns)
+    (tie.spec Inv-loop μ-loop loop-holds (λ c. search needs) (λ c κs. search needs) (λ c. search needs) (λ c. search needs) loop-again
+    same-length returns)

@@ -56,16 +56,5 @@ returns-5 c = heard-in _ NoWinner (judged-fine (c .before .before)) (c .enum-tol
 pub listen-spec : {M : Type 1} → statement M
 listen-spec =
     tie.close
-    (tie.spec
-    (λ c κs. search needs)
-    (λ c. search needs)
-    returns
-    enum-told
-    (λ c. search needs)
-    heard-requires
-    (λ c. search needs)
-    (λ c. search needs)
-    returns-2
-    returns-3
-    returns-4
-    returns-5)
+    (tie.spec (λ c κs. search needs) (λ c. search needs) returns enum-told (λ c. search needs) heard-requires (λ c. search needs)
+    (λ c. search needs) returns-2 returns-3 returns-4 returns-5)

@@ -57,15 +57,5 @@ returns-4 c = search needs
 pub next-spec : {M : Type 1} → statement M
 next-spec =
     tie.close
-    (tie.spec
-    (λ c. search needs)
-    heard-requires
-    silenced-requires
-    (λ c κs. search needs)
-    add-t14
-    (λ c. search needs)
-    (λ c. search needs)
-    returns
-    returns-2
-    returns-3
-    returns-4)
+    (tie.spec (λ c. search needs) heard-requires silenced-requires (λ c κs. search needs) add-t14 (λ c. search needs) (λ c. search needs)
+    returns returns-2 returns-3 returns-4)

@@ -28,10 +28,4 @@ returns-2 c = rw (sym (c .before .before .before .pair-verdict .ensures) ∙ c .
 pub parting-bit-spec : {M : Type 1} → statement M
 parting-bit-spec =
     tie.close
-    (tie.spec
-    (λ c κs. search needs)
-    enum-told
-    first-difference-requires
-    (λ c. search needs)
-    returns
-    returns-2)
+    (tie.spec (λ c κs. search needs) enum-told first-difference-requires (λ c. search needs) returns returns-2)

@@ -51,16 +51,5 @@ returns-2 c = outcome-refused _ _ _ _ _ (sym (c .before .before .before .judged 
 pub run-spec : {M : Type 1} → statement M
 run-spec =
     tie.close
-    (tie.spec
-    Inv-loop
-    μ-loop
-    (λ c κs. search needs)
-    enum-told
-    loop-holds
-    next-requires
-    (λ c. search needs)
-    (λ c. search needs)
-    loop-again
-    (λ c. search needs)
-    returns
-    returns-2)
+    (tie.spec Inv-loop μ-loop (λ c κs. search needs) enum-told loop-holds next-requires (λ c. search needs) (λ c. search needs) loop-again
+    (λ c. search needs) returns returns-2)

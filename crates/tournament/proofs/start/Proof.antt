@@ -34,11 +34,4 @@ returns-2 c =
 pub start-spec : {M : Type 1} → statement M
 start-spec =
     tie.close
-    (tie.spec
-    (λ c κs. search needs)
-    enum-told
-    begun-requires
-    (λ c. search needs)
-    (λ c κs. search needs)
-    returns
-    returns-2)
+    (tie.spec (λ c κs. search needs) enum-told begun-requires (λ c. search needs) (λ c κs. search needs) returns returns-2)

@@ -2,7 +2,7 @@
 use Prim.Native.Nat.{ℕ, _≤_}
 use Rattle.names.specs.Limits.{contenders, bits}
 use Rattle.tournament_state.specs.declared.Tournament.{Tournament}
-use Rattle.tournament_state.specs.Meaning.{PhaseWithin}
+use Rattle.tournament_state.specs.Refusals.{PhaseWithin}
 
 -- the bits and the contenders are within their limits, and k is one of the bits
 pub record AtABit (t : Tournament) (k : ℕ) : Type 0 where

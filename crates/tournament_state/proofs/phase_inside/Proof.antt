@@ -13,12 +13,5 @@ returns-2 c = rw (c .before .before .phase2 .given .1) refl
 pub phase-inside-spec : {M : Type 1} → statement M
 phase-inside-spec =
     tie.close
-    (tie.spec
-    (λ c. search needs)
-    (λ c. search needs)
-    (λ c κs. search needs)
-    (λ c. search needs)
-    (λ c. search needs)
-    returns
-    returns-2
+    (tie.spec (λ c. search needs) (λ c. search needs) (λ c κs. search needs) (λ c. search needs) (λ c. search needs) returns returns-2
     (λ c. search needs))

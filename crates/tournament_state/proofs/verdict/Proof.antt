@@ -83,25 +83,7 @@ returns-6 c =
 pub verdict-spec : {M : Type 1} → statement M
 verdict-spec =
     tie.close
-    (tie.spec
-    (λ c κs. search needs)
-    (λ c κs. search needs)
-    returns
-    (λ c. search needs)
-    (λ c κs. search needs)
-    (λ c κs. search needs)
-    returns-2
-    lowest-unfit-requires
-    (λ c. search needs)
-    (λ c κs. search needs)
-    returns-3
-    enum-told
-    (λ c κs. search needs)
-    (λ c κs. search needs)
-    returns-4
-    lowest-repeat-requires
-    (λ c. search needs)
-    (λ c κs. search needs)
-    (λ c. search needs)
-    returns-5
+    (tie.spec (λ c κs. search needs) (λ c κs. search needs) returns (λ c. search needs) (λ c κs. search needs) (λ c κs. search needs)
+    returns-2 lowest-unfit-requires (λ c. search needs) (λ c κs. search needs) returns-3 enum-told (λ c κs. search needs)
+    (λ c κs. search needs) returns-4 lowest-repeat-requires (λ c. search needs) (λ c κs. search needs) (λ c. search needs) returns-5
     returns-6)

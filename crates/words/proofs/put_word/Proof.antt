@@ -22,17 +22,5 @@ returns c = put-one (now (c .args .buf)) (c .args .at) (c .args .w) (omega arith
 pub put-word-spec : {M : Type 1} → statement M
 put-word-spec =
     tie.close
-    (tie.spec
-    (λ c. search needs)
-    (λ c. search needs)
-    (λ c. search needs)
-    (λ c. search needs)
-    slice-write-buf-2
-    (λ c. search needs)
-    (λ c. search needs)
-    slice-write-buf-3
-    (λ c. search needs)
-    (λ c. search needs)
-    slice-write-buf-4
-    (λ c. search needs)
-    returns)
+    (tie.spec (λ c. search needs) (λ c. search needs) (λ c. search needs) (λ c. search needs) slice-write-buf-2 (λ c. search needs)
+    (λ c. search needs) slice-write-buf-3 (λ c. search needs) (λ c. search needs) slice-write-buf-4 (λ c. search needs) returns)

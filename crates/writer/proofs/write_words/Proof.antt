@@ -74,15 +74,5 @@ returns-3 c =
 pub write-words-spec : {M : Type 1} → statement M
 write-words-spec =
     tie.close
-    (tie.spec
-    (λ c κs. search needs)
-    (λ c. search needs)
-    returns
-    enum-told
-    cast-size
-    cast-size-2
-    (λ c κs. search needs)
-    returns-2
-    put-file-requires
-    (λ c. search needs)
-    returns-3)
+    (tie.spec (λ c κs. search needs) (λ c. search needs) returns enum-told cast-size cast-size-2 (λ c κs. search needs) returns-2
+    put-file-requires (λ c. search needs) returns-3)

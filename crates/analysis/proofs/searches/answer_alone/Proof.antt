@@ -44,14 +44,5 @@ returns-2 c =
 pub answer-alone-spec : {M : Type 1} → statement M
 answer-alone-spec =
     tie.close
-    (tie.spec
-    (λ c κs. search needs)
-    enum-told
-    (λ c. search needs)
-    returns
-    (λ c. search needs)
-    (λ c. search needs)
-    (λ c κs. search needs)
-    cast-judged
-    (λ c κs. search needs)
-    returns-2)
+    (tie.spec (λ c κs. search needs) enum-told (λ c. search needs) returns (λ c. search needs) (λ c. search needs) (λ c κs. search needs)
+    cast-judged (λ c κs. search needs) returns-2)

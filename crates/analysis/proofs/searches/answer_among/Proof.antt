@@ -39,11 +39,4 @@ returns-2 c =
 pub answer-among-spec : {M : Type 1} → statement M
 answer-among-spec =
     tie.close
-    (tie.spec
-    busy-period-requires
-    (λ c. search needs)
-    enum-told
-    returns
-    largest-term-requires
-    (λ c κs. search needs)
-    returns-2)
+    (tie.spec busy-period-requires (λ c. search needs) enum-told returns largest-term-requires (λ c κs. search needs) returns-2)

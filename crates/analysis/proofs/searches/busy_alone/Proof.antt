@@ -60,14 +60,4 @@ returns-2 c = busy-none (c .before .loop .inv) (omega arith)
 pub busy-alone-spec : {M : Type 1} → statement M
 busy-alone-spec =
     tie.close
-    (tie.spec
-    Inv-loop
-    μ-loop
-    own-start-requires
-    loop-holds
-    own-at-requires
-    add-y
-    returns
-    loop-less
-    loop-again
-    returns-2)
+    (tie.spec Inv-loop μ-loop own-start-requires loop-holds own-at-requires add-y returns loop-less loop-again returns-2)

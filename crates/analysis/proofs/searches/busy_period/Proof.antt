@@ -135,19 +135,5 @@ returns-2 c = (busy-none (c .before .loop .inv .0) (omega arith), c .before .loo
 pub busy-period-spec : {M : Type 1} → statement M
 busy-period-spec =
     tie.close
-    (tie.spec
-    Inv-loop
-    μ-loop
-    add-n
-    start-edges-requires
-    own-start-requires
-    loop-holds
-    (λ c. search needs)
-    climbed-requires
-    own-at-requires
-    add-y
-    add-y-2
-    returns
-    loop-less
-    loop-again
-    returns-2)
+    (tie.spec Inv-loop μ-loop add-n start-edges-requires own-start-requires loop-holds (λ c. search needs) climbed-requires own-at-requires
+    add-y add-y-2 returns loop-less loop-again returns-2)

@@ -254,29 +254,6 @@ returns c =
 pub largest-term-spec : {M : Type 1} → statement M
 largest-term-spec =
     tie.close
-    (tie.spec
-    Inv-loop
-    μ-loop
-    add-n
-    add-start-edges
-    start-edges-requires
-    instances-requires
-    add-ends
-    settled-requires
-    add-term
-    term-requires
-    loop-holds
-    add-loop
-    sub-sum
-    add-base
-    add-settled
-    settled-requires-2
-    add-q
-    add-term-2
-    mul-term
-    term-requires-2
-    (λ c κs. search needs)
-    loop-less
-    loop-again
-    cast-result
-    returns)
+    (tie.spec Inv-loop μ-loop add-n add-start-edges start-edges-requires instances-requires add-ends settled-requires add-term term-requires
+    loop-holds add-loop sub-sum add-base add-settled settled-requires-2 add-q add-term-2 mul-term term-requires-2 (λ c κs. search needs)
+    loop-less loop-again cast-result returns)

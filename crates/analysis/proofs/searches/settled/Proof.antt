@@ -90,13 +90,4 @@ loop-again c =
 pub settled-spec : {M : Type 1} → statement M
 settled-spec =
     tie.close
-    (tie.spec
-    Inv-loop
-    μ-loop
-    loop-holds
-    add-climbed
-    climbed-requires
-    add-y
-    returns
-    loop-less
-    loop-again)
+    (tie.spec Inv-loop μ-loop loop-holds add-climbed climbed-requires add-y returns loop-less loop-again)

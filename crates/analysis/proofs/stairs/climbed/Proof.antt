@@ -94,13 +94,4 @@ returns c =
 pub climbed-spec : {M : Type 1} → statement M
 climbed-spec =
     tie.close
-    (tie.spec
-    Inv-loop
-    μ-loop
-    loop-holds
-    lot-end-requires
-    climbed-lot-requires
-    add-b
-    loop-less
-    loop-again
-    returns)
+    (tie.spec Inv-loop μ-loop loop-holds lot-end-requires climbed-lot-requires add-b loop-less loop-again returns)

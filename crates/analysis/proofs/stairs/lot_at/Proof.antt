@@ -105,25 +105,6 @@ returns c =
 pub lot-at-spec : {M : Type 1} → statement M
 lot-at-spec =
     tie.close
-    (tie.spec
-    Inv-loop
-    μ-loop
-    loop-holds
-    (λ c. search needs)
-    (λ c. search needs)
-    (λ c. search needs)
-    (λ c. search needs)
-    rises-requires
-    mul-next
-    add-next
-    (λ c. search needs)
-    (λ c. search needs)
-    (λ c. search needs)
-    (λ c. search needs)
-    mul-total-2
-    add-total
-    (λ c κs. search needs)
-    (λ c. search needs)
-    (λ c. search needs)
-    loop-again
-    returns)
+    (tie.spec Inv-loop μ-loop loop-holds (λ c. search needs) (λ c. search needs) (λ c. search needs) (λ c. search needs) rises-requires
+    mul-next add-next (λ c. search needs) (λ c. search needs) (λ c. search needs) (λ c. search needs) mul-total-2 add-total
+    (λ c κs. search needs) (λ c. search needs) (λ c. search needs) loop-again returns)

@@ -34,14 +34,5 @@ returns c =
 pub start-sources-spec : {M : Type 1} → statement M
 start-sources-spec =
     tie.close
-    (tie.spec
-    Inv-loop
-    μ-loop
-    loop-holds
-    (λ c. search needs)
-    (λ c. search needs)
-    element-write-edges
-    (λ c. search needs)
-    (λ c. search needs)
-    loop-again
-    returns)
+    (tie.spec Inv-loop μ-loop loop-holds (λ c. search needs) (λ c. search needs) element-write-edges (λ c. search needs) (λ c. search needs)
+    loop-again returns)

@@ -40,17 +40,5 @@ returns c =
 pub start-streams-spec : {M : Type 1} → statement M
 start-streams-spec =
     tie.close
-    (tie.spec
-    Inv-loop
-    μ-loop
-    loop-holds
-    (λ c. search needs)
-    (λ c. search needs)
-    add-edges
-    sub-edges
-    (λ c. search needs)
-    element-write-edges
-    (λ c. search needs)
-    (λ c. search needs)
-    loop-again
-    returns)
+    (tie.spec Inv-loop μ-loop loop-holds (λ c. search needs) (λ c. search needs) add-edges sub-edges (λ c. search needs) element-write-edges
+    (λ c. search needs) (λ c. search needs) loop-again returns)
