@@ -23,38 +23,6 @@ abbrev lay-number-below : ℕ → In 1 lay-number-kinds.ps
 lay-number-below t =
     and 1 lay-number-kinds.ps (falls 1 lay-number-kinds.ps _<_ μ-lay-number t) lay-number.Pre
 
-lay-number-cast-lay : (t : ℕ) → lay-number-lts.Need-cast-lay (
-  lay-reads.Asked,
-  lay-reads.Learnt,
-  lay-number-below t,
-  lay-number.Post,
-) (lay-number-at t) lay-number.Post
-lay-number-cast-lay t c = search needs
-
-lay-number-add-lay : (t : ℕ) → lay-number-lts.Need-add-lay (
-  lay-reads.Asked,
-  lay-reads.Learnt,
-  lay-number-below t,
-  lay-number.Post,
-) (lay-number-at t) lay-number.Post
-lay-number-add-lay t c = search needs
-
-lay-number-lay-requires : (t : ℕ) → lay-number-lts.Need-lay-requires (
-  lay-reads.Asked,
-  lay-reads.Learnt,
-  lay-number-below t,
-  lay-number.Post,
-) (lay-number-at t) lay-number.Post
-lay-number-lay-requires t c κs = search needs
-
-lay-number-same-length : (t : ℕ) → lay-number-lts.Need-same-length (
-  lay-reads.Asked,
-  lay-reads.Learnt,
-  lay-number-below t,
-  lay-number.Post,
-) (lay-number-at t) lay-number.Post
-lay-number-same-length t c = search needs
-
 lay-number-returns : (t : ℕ) → lay-number-lts.Need-returns (
   lay-reads.Asked,
   lay-reads.Learnt,
@@ -62,46 +30,6 @@ lay-number-returns : (t : ℕ) → lay-number-lts.Need-returns (
   lay-number.Post,
 ) (lay-number-at t) lay-number.Post
 lay-number-returns t c = number-one _ (c .before .before .before .before .if1 .taken) (c .before .before .lay .ensures)
-
-lay-number-lay-number-requires : (t : ℕ) → lay-number-lts.Need-lay-number-requires (
-  lay-reads.Asked,
-  lay-reads.Learnt,
-  lay-number-below t,
-  lay-number.Post,
-) (lay-number-at t) lay-number.Post
-lay-number-lay-number-requires t c κs = search needs
-
-lay-number-cast-lay-2 : (t : ℕ) → lay-number-lts.Need-cast-lay-2 (
-  lay-reads.Asked,
-  lay-reads.Learnt,
-  lay-number-below t,
-  lay-number.Post,
-) (lay-number-at t) lay-number.Post
-lay-number-cast-lay-2 t c = search needs
-
-lay-number-add-lay-2 : (t : ℕ) → lay-number-lts.Need-add-lay-2 (
-  lay-reads.Asked,
-  lay-reads.Learnt,
-  lay-number-below t,
-  lay-number.Post,
-) (lay-number-at t) lay-number.Post
-lay-number-add-lay-2 t c = search needs
-
-lay-number-lay-requires-2 : (t : ℕ) → lay-number-lts.Need-lay-requires-2 (
-  lay-reads.Asked,
-  lay-reads.Learnt,
-  lay-number-below t,
-  lay-number.Post,
-) (lay-number-at t) lay-number.Post
-lay-number-lay-requires-2 t c κs = search needs
-
-lay-number-same-length-2 : (t : ℕ) → lay-number-lts.Need-same-length-2 (
-  lay-reads.Asked,
-  lay-reads.Learnt,
-  lay-number-below t,
-  lay-number.Post,
-) (lay-number-at t) lay-number.Post
-lay-number-same-length-2 t c = search needs
 
 lay-number-returns-2 : (t : ℕ) → lay-number-lts.Need-returns-2 (
   lay-reads.Asked,
@@ -121,16 +49,6 @@ pub +lay-number-spec : {M : Type 1} → statement M
   lay-number-below t,
   lay-number.Post,
 )
-    (lay-number-at t)
-    lay-number.Post
-    (lay-number-cast-lay t)
-    (lay-number-add-lay t)
-    (lay-number-lay-requires t)
-    (lay-number-same-length t)
-    (lay-number-returns t)
-    (lay-number-lay-number-requires t)
-    (lay-number-cast-lay-2 t)
-    (lay-number-add-lay-2 t)
-    (lay-number-lay-requires-2 t)
-    (lay-number-same-length-2 t)
+    (lay-number-at t) lay-number.Post (λ c. search needs) (λ c. search needs) (λ c κs. search needs) (λ c. search needs)
+    (lay-number-returns t) (λ c κs. search needs) (λ c. search needs) (λ c. search needs) (λ c κs. search needs) (λ c. search needs)
     (lay-number-returns-2 t)
