@@ -9,8 +9,7 @@ use Rattle.laws.specs.Lists.{rows, every}
 use Rattle.bound.specs.Terms.{Share, Terms}
 use Rattle.bound.specs.Bound.{answer}
 use Rattle.analysis.specs.declared.Gathered.{Gathered}
-use Rattle.analysis.specs.declared.Answered.{Answered}
-use Rattle.analysis.specs.declared.Answered.the-variants.{Outside, Exact}
+use Rattle.analysis.specs.declared.Answered.{Answered, the-variants.Outside, the-variants.Exact}
 
 -- how many costs and periods are lent: a stair for each more urgent stream, and after them one for each noise source
 abbrev pub stairs : ℕ

@@ -4,8 +4,7 @@ use mathlib.Core.List.{List}
 use Prim.Native.Nat.{ℕ}
 use lib.ListN.{replicate}
 use Rattle.names.specs.declared.Refusal.{Refusal}
-use Rattle.judge.specs.declared.Checked.{Checked}
-use Rattle.judge.specs.declared.Checked.the-variants.{Refused}
+use Rattle.judge.specs.declared.Checked.{Checked, the-variants.Refused}
 use Rattle.carried.specs.Layout as layout
 use Rattle.carried.specs.Carried.{planIn}
 use Rattle.file.specs.declared.Counts.the-variants.{Of, Refused as Counts·Refused}

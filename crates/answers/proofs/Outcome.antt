@@ -8,8 +8,7 @@ use Rattle.names.specs.declared.Refusal.{Refusal}
 use Rattle.row_words.specs.RowWords.{wordsPerRow}
 use Rattle.plan.specs.declared.Sheet.{Sheet}
 use Rattle.plan.specs.Plan.{Plan, planOf}
-use Rattle.judge.specs.declared.Checked.{Checked}
-use Rattle.judge.specs.declared.Checked.the-variants.{Fine, Refused}
+use Rattle.judge.specs.declared.Checked.{Checked, the-variants.Fine, the-variants.Refused}
 use Rattle.judge.specs.Table.{judge, unless}
 use Rattle.checks.specs.Checks.{lines}
 use Rattle.judge.proofs.Table.{given, passed, nothing-given, fine-then, refused-then}

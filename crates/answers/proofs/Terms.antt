@@ -14,8 +14,7 @@ use Rattle.bound.specs.Terms as bound
 use Rattle.bound.specs.Bound.{answer}
 use Rattle.bound.specs.declared.Answer.{Answer}
 use Rattle.analysis.specs.declared.Gathered.{Gathered}
-use Rattle.analysis.specs.declared.Answered.{Answered}
-use Rattle.analysis.specs.declared.Answered.the-variants.{Outside, Exact}
+use Rattle.analysis.specs.declared.Answered.{Answered, the-variants.Outside, the-variants.Exact}
 use Rattle.analysis.specs.Gathered.{Lent, lent, termsOf, cost, shareFits, sourceFits, rowFits, fits, answered}
 use Rattle.plan.specs.declared.Stream.{Stream}
 use Rattle.plan.specs.Plan.{Plan}

@@ -4,8 +4,7 @@ use mathlib.Core.List.{List, [], _∷_, _++_, flatMap}
 use Prim.Native.Nat.{ℕ, _*_, _≤_}
 use lib.Dec.{leb}
 use lib.ListN.{length, drop}
-use Rattle.judge.specs.declared.Checked.{Checked}
-use Rattle.judge.specs.declared.Checked.the-variants.{Fine, Refused}
+use Rattle.judge.specs.declared.Checked.{Checked, the-variants.Fine, the-variants.Refused}
 use Rattle.judge.specs.Table.{Line, judge, unless}
 use Rattle.row_words.specs.RowWords.{rowWords, wordsPerRow, answersIn}
 use Rattle.plan.specs.declared.Sheet.{Sheet}

@@ -8,10 +8,8 @@ use Rattle.names.specs.Limits.{ticks}
 use Rattle.laws.specs.Lists.{ceil, sumOf}
 use Rattle.laws.specs.Search.{firstFixed, orZero}
 use Rattle.laws.specs.Signed.{largestTo}
-use Rattle.laws.specs.declared.Found.{Found}
-use Rattle.laws.specs.declared.Found.the-variants.{At, Nothing}
-use Rattle.bound.specs.declared.Verdict.{Verdict}
-use Rattle.bound.specs.declared.Verdict.the-variants.{Met, Missed, None}
+use Rattle.laws.specs.declared.Found.{Found, the-variants.At, the-variants.Nothing}
+use Rattle.bound.specs.declared.Verdict.{Verdict, the-variants.Met, the-variants.Missed, the-variants.None}
 use Rattle.bound.specs.declared.Answer.{Answer}
 use Rattle.bound.specs.Terms.{Share, Terms}
 

@@ -10,8 +10,7 @@ use Rattle.names.specs.Limits.{streams, sources}
 use Rattle.names.specs.declared.Refusal.{Refusal}
 use Rattle.laws.proofs.Lists.{length-rows}
 use Rattle.laws.proofs.Tests.{both}
-use Rattle.judge.specs.declared.Checked.{Checked}
-use Rattle.judge.specs.declared.Checked.the-variants.{Fine, Refused}
+use Rattle.judge.specs.declared.Checked.{Checked, the-variants.Fine, the-variants.Refused}
 use Rattle.judge.specs.Table.{Line, judge, unless, _then_}
 use Rattle.judge.proofs.Table.{given, passed, nothing-given, not-given, unless-not, refused-not-fine, refused-then, judged-in-turn}
 use Rattle.plan.specs.Plan.{Plan}

@@ -9,8 +9,7 @@ use borrow.Author.Tests.{ltb-true, leb-true, eqb-true, lt-ltb, le-leb, eq-eqb, n
 use lib.Dec.{leb, ltb}
 use lib.ListN.{length, getD, length-map, List·getD-map}
 use Rattle.names.specs.declared.Label.{Label}
-use Rattle.laws.specs.declared.Found.{Found}
-use Rattle.laws.specs.declared.Found.the-variants.{At as Found·At, Nothing as Found·Nothing}
+use Rattle.laws.specs.declared.Found.{Found, the-variants.At as Found·At, the-variants.Nothing as Found·Nothing}
 use Rattle.laws.proofs.Tests.{both}
 use Rattle.laws.specs.Rows.{some}
 use Rattle.laws.proofs.Rows.{is-false, some-passes, some-at, finds-lowest}

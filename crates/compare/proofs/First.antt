@@ -9,8 +9,7 @@ use native.Mathlib.Numerals.{add-one}
 use native.Mathlib.Omega.{arith}
 use borrow.Author.Tests.{leb-true, le-leb, lt-leb}
 use lib.Dec.{leb}
-use Rattle.compare.specs.declared.Change.{Change}
-use Rattle.compare.specs.declared.Change.the-variants.{Of, Nothing}
+use Rattle.compare.specs.declared.Change.{Change, the-variants.Of, the-variants.Nothing}
 use Rattle.compare.specs.declared.Reason.{Reason}
 use Rattle.compare.specs.Changes.{must, _or_, firstChange}
 use Rattle.compare.specs.Claims.{FirstChange, ChangeIfFirst, NothingIfNone}

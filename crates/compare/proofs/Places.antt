@@ -8,8 +8,7 @@ use lib.ListN.{length, getD, set, take, length-map, length-take, List·getD-map}
 use lib.Seq.{take-all, take-at}
 use Rattle.names.specs.Limits.{streams}
 use Rattle.names.specs.declared.Label.{Label}
-use Rattle.laws.specs.declared.Found.{Found}
-use Rattle.laws.specs.declared.Found.the-variants.{At, Nothing}
+use Rattle.laws.specs.declared.Found.{Found, the-variants.At, the-variants.Nothing}
 use Rattle.laws.specs.Lists.{placed}
 use Rattle.laws.specs.Search.{first}
 use Rattle.laws.proofs.Placed.{placedTo, placed-more, placed-all}

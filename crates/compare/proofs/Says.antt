@@ -7,15 +7,13 @@ use native.Mathlib.Omega.{arith}
 use lib.ListN.{length}
 use Rattle.plan.specs.declared.Sheet.{Sheet}
 use Rattle.plan.specs.Plan.{Plan, planOf}
-use Rattle.judge.specs.declared.Checked.{Checked}
-use Rattle.judge.specs.declared.Checked.the-variants.{Fine, Refused}
+use Rattle.judge.specs.declared.Checked.{Checked, the-variants.Fine, the-variants.Refused}
 use Rattle.judge.specs.Table.{judge}
 use Rattle.checks.specs.Checks.{lines, checkedOf}
 use Rattle.checks.proofs.Fine.{fine-if-right, own-counts}
 use Rattle.promise.specs.Lighter.{Lighter, NotRefused, Kept}
 use Rattle.promise.proofs.Promise.{lighter-keeps}
-use Rattle.compare.specs.declared.Change.{Change}
-use Rattle.compare.specs.declared.Change.the-variants.{Of, Nothing}
+use Rattle.compare.specs.declared.Change.{Change, the-variants.Of, the-variants.Nothing}
 use Rattle.compare.specs.declared.Compared.the-variants.{Lighter as Compared·Lighter}
 use Rattle.compare.specs.Changes.{changes, comparedAs, comparedOf}
 use Rattle.compare.specs.Claims.{SaysLighter}

@@ -8,11 +8,9 @@ use Rattle.plan.specs.Plan.{Plan, planOf}
 use Rattle.judge.specs.declared.Checked.the-variants.{Fine}
 use Rattle.checks.specs.Checks.{checkedOf}
 use Rattle.promise.specs.Lighter.{Lighter, NotRefused, Kept}
-use Rattle.compare.specs.declared.Change.{Change}
-use Rattle.compare.specs.declared.Change.the-variants.{Of, Nothing}
+use Rattle.compare.specs.declared.Change.{Change, the-variants.Of, the-variants.Nothing}
 use Rattle.compare.specs.declared.Reason.{Reason}
-use Rattle.compare.specs.declared.Compared.{Compared}
-use Rattle.compare.specs.declared.Compared.the-variants.{Lighter as Compared·Lighter}
+use Rattle.compare.specs.declared.Compared.{Compared, the-variants.Lighter as Compared·Lighter}
 use Rattle.compare.specs.Changes.{firstChange, changes, comparedOf}
 
 -- r is one of the changes, and there is none before it

@@ -7,17 +7,14 @@ use Prim.Native.Nat.{ℕ, _*_, _<_}
 use native.Mathlib.Omega.{arith}
 use lib.Dec.{leb}
 use lib.ListN.{length, drop, length-map, List·getD-map}
-use Rattle.laws.specs.declared.Found.{Found}
-use Rattle.laws.specs.declared.Found.the-variants.{At, Nothing}
-use Rattle.bound.specs.declared.Verdict.{Verdict}
-use Rattle.bound.specs.declared.Verdict.the-variants.{Met, Missed, None}
+use Rattle.laws.specs.declared.Found.{Found, the-variants.At, the-variants.Nothing}
+use Rattle.bound.specs.declared.Verdict.{Verdict, the-variants.Met, the-variants.Missed, the-variants.None}
 use Rattle.bound.specs.Terms.{Terms}
 use Rattle.bound.specs.Bound.{busy, bound, answerFor as answerFrom, answer, verdictNumber}
 use Rattle.plan.specs.declared.Sheet.{Sheet}
 use Rattle.plan.specs.Plan.{Plan, planOf, blank, at}
 use Rattle.plan.specs.Rules.{terms, rowAnswer, answers}
-use Rattle.judge.specs.declared.Checked.{Checked}
-use Rattle.judge.specs.declared.Checked.the-variants.{Fine, Refused}
+use Rattle.judge.specs.declared.Checked.{Checked, the-variants.Fine, the-variants.Refused}
 use Rattle.judge.specs.Table.{judge}
 use Rattle.checks.specs.Checks.{lines}
 use Rattle.promise.specs.Lighter.{NotRefused, Kept}

@@ -8,8 +8,7 @@ use Rattle.judge.specs.declared.Checked.the-variants.{Fine}
 use Rattle.row_words.specs.RowWords.{verdictAt, boundAt}
 use Rattle.plan.specs.Plan.{Plan, planOf, at}
 use Rattle.promise.specs.Lighter.{Namesakes, Lighter, Kept}
-use Rattle.compare.specs.declared.Compared.{Compared}
-use Rattle.compare.specs.declared.Compared.the-variants.{Lighter as Compared·Lighter}
+use Rattle.compare.specs.declared.Compared.{Compared, the-variants.Lighter as Compared·Lighter}
 use Rattle.compare.specs.Changes.{changes, comparedAs}
 use Rattle.file.specs.File.{readOf}
 use Rattle.answer_files.specs.AnswerFiles.{answerFileOf}

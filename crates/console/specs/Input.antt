@@ -2,8 +2,7 @@
 use mathlib.Core.List.{List}
 use Prim.Native.Nat.{ℕ}
 use Rattle.io.specs.Counts.{Counts}
-use Rattle.console.specs.declared.Input.{Input}
-use Rattle.console.specs.declared.Input.the-variants.{Bytes, Failed}
+use Rattle.console.specs.declared.Input.{Input, the-variants.Bytes, the-variants.Failed}
 
 -- how many bytes it is
 abbrev pub bytesIn : Input → ℕ

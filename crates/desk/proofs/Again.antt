@@ -11,11 +11,9 @@ use borrow.Author.Tests.{lt-leb}
 use lib.ListN.{length}
 use Rattle.plan.specs.Plan.{planOf}
 use Rattle.carried.specs.Layout as layout
-use Rattle.judge.specs.declared.Checked.{Checked}
-use Rattle.judge.specs.declared.Checked.the-variants.{Fine, Refused}
+use Rattle.judge.specs.declared.Checked.{Checked, the-variants.Fine, the-variants.Refused}
 use Rattle.checks.proofs.Fine.{fine-if-right}
-use Rattle.file.specs.declared.Written.{Written}
-use Rattle.file.specs.declared.Written.the-variants.{Bytes, Refused as Written·Refused}
+use Rattle.file.specs.declared.Written.{Written, the-variants.Bytes, the-variants.Refused as Written·Refused}
 use Rattle.file.specs.File.{fileOf, sizeRight, readOf}
 use Rattle.file.proofs.Exactly.{refused-number}
 use Rattle.file.proofs.Reading.{planAt, said-size, counts-refused, fine-read}

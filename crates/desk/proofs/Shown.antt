@@ -7,8 +7,7 @@ use lib.ListN.{replicate}
 use Rattle.names.specs.Limits.{streams}
 use Rattle.row_words.specs.RowWords.{wordsPerRow}
 use Rattle.plan.specs.Plan.{planOf}
-use Rattle.judge.specs.declared.Checked.{Checked}
-use Rattle.judge.specs.declared.Checked.the-variants.{Fine}
+use Rattle.judge.specs.declared.Checked.{Checked, the-variants.Fine}
 use Rattle.checks.specs.Checks.{checkedOf}
 use Rattle.file.specs.declared.ReadPlan.{ReadPlan}
 use Rattle.file.specs.File.{readOf}

@@ -6,8 +6,7 @@ use lib.ListN.{length}
 use Rattle.names.specs.declared.Refusal.{Refusal}
 use Rattle.names.specs.Limits.{streams, sources, ticks}
 use Rattle.words.specs.Words.{Below}
-use Rattle.judge.specs.declared.Checked.{Checked}
-use Rattle.judge.specs.declared.Checked.the-variants.{Fine, Refused}
+use Rattle.judge.specs.declared.Checked.{Checked, the-variants.Fine, the-variants.Refused}
 use Rattle.plan.specs.Plan.{Plan, planOf}
 use Rattle.plan.specs.Rules.{answers}
 use Rattle.carried.specs.Layout as layout

@@ -9,8 +9,7 @@ use native.Mathlib.Omega.{arith}
 use borrow.Author.Tests.{leb-true}
 use lib.Dec.{leb}
 use lib.ListN.{length}
-use Rattle.laws.specs.declared.Found.{Found}
-use Rattle.laws.specs.declared.Found.the-variants.{At, Nothing}
+use Rattle.laws.specs.declared.Found.{Found, the-variants.At, the-variants.Nothing}
 use Rattle.laws.proofs.Tests.{both}
 use Rattle.fields.specs.Fields.{Field, inside, lowest, fieldAt, LowestOutside, AllInside, LowestExactly, NothingIfInside, InsideIfWithin}
 use Rattle.fields.proofs.Lowest.{within}

@@ -9,8 +9,7 @@ use native.Mathlib.Omega.{arith}
 use borrow.Author.Tests.{leb-true, ltb-true}
 use lib.Dec.{leb, ltb}
 use lib.ListN.{length}
-use Rattle.laws.specs.declared.Found.{Found}
-use Rattle.laws.specs.declared.Found.the-variants.{Nothing}
+use Rattle.laws.specs.declared.Found.{Found, the-variants.Nothing}
 use Rattle.laws.specs.Lists.{sumOf, largestOf, those, rows}
 use Rattle.laws.specs.Search.{first}
 use Rattle.laws.specs.Signed.{largestTo}

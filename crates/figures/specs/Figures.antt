@@ -7,8 +7,7 @@ use Prim.Native.Nat.{ℕ}
 use lib.IntN.{ℤ, pos}
 use lib.ListN.{length, take}
 use Rattle.names.specs.declared.Priority.{Priority}
-use Rattle.laws.specs.declared.Found.{Found}
-use Rattle.laws.specs.declared.Found.the-variants.{At, Nothing}
+use Rattle.laws.specs.declared.Found.{Found, the-variants.At, the-variants.Nothing}
 use Rattle.laws.specs.Lists.{rows}
 use Rattle.bound.specs.declared.Answer.{Answer}
 use Rattle.bound.specs.declared.Verdict.the-variants.{Met, Missed, None}
@@ -17,15 +16,13 @@ use Rattle.bound.specs.Bound.{busy, Q, w, term}
 use Rattle.plan.specs.declared.Timing.{Timing}
 use Rattle.plan.specs.Plan.{Plan, at}
 use Rattle.plan.specs.Rules.{«V», U, C″, terms, rowAnswer, answers}
-use Rattle.judge.specs.declared.Checked.{Checked}
-use Rattle.judge.specs.declared.Checked.the-variants.{Fine, Refused}
+use Rattle.judge.specs.declared.Checked.{Checked, the-variants.Fine, the-variants.Refused}
 use Rattle.judge.specs.Table.{judge}
 use Rattle.checks.specs.Checks.{lines}
 use Rattle.file.specs.File.{fileOf, readOf}
 use Rattle.ascii.specs.Ascii.{ascii}
 use Rattle.text.specs.Listing.{listingOf}
-use Rattle.tournament_state.specs.declared.Phase.{Phase}
-use Rattle.tournament_state.specs.declared.Phase.the-variants.{AtBit, Finished}
+use Rattle.tournament_state.specs.declared.Phase.{Phase, the-variants.AtBit, the-variants.Finished}
 use Rattle.tournament_state.specs.declared.Tournament.{Tournament}
 use Rattle.tournament.specs.Rule.{steps}
 use Rattle.tournament.specs.Answers.{startOf, runOf}

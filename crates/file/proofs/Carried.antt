@@ -11,8 +11,7 @@ use Rattle.plan.specs.Plan.{Plan, planOf}
 use Rattle.carried.specs.Layout as layout
 use Rattle.carried.specs.Carried.{streamIn, planIn, sheetOf}
 use Rattle.carried.proofs.Plans.{one-sheet}
-use Rattle.judge.specs.declared.Checked.{Checked}
-use Rattle.judge.specs.declared.Checked.the-variants.{Fine, Refused}
+use Rattle.judge.specs.declared.Checked.{Checked, the-variants.Fine, the-variants.Refused}
 use Rattle.judge.specs.Table.{judge}
 use Rattle.checks.specs.Checks.{lines}
 use Rattle.file.specs.declared.Counts.the-variants.{Of, Refused as Counts·Refused}

@@ -7,13 +7,11 @@ use lib.ListN.{length}
 use Rattle.names.specs.declared.Refusal.{Refusal}
 use Rattle.words.specs.Words.{wordsOf}
 use Rattle.plan.specs.Plan.{Plan}
-use Rattle.judge.specs.declared.Checked.{Checked}
-use Rattle.judge.specs.declared.Checked.the-variants.{Fine, Refused}
+use Rattle.judge.specs.declared.Checked.{Checked, the-variants.Fine, the-variants.Refused}
 use Rattle.judge.specs.Table.{Line, judge, lineAt}
 use Rattle.checks.specs.Checks.{valueLines}
 use Rattle.judge.proofs.Table.{fine-then, refused-by-the-first}
-use Rattle.file.specs.declared.Counts.{Counts}
-use Rattle.file.specs.declared.Counts.the-variants.{Of, Refused as Counts·Refused}
+use Rattle.file.specs.declared.Counts.{Counts, the-variants.Of, the-variants.Refused as Counts·Refused}
 use Rattle.file.specs.File.{countIn, sourcesIn, contentsLines, linesIn, countsOf, readAs, readOf}
 use Rattle.file.specs.Claims.{ContentsRefused}
 use Rattle.file.proofs.Reading.{planAt, as-refused, counts-refused, first-fine}

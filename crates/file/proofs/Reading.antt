@@ -12,8 +12,7 @@ use Rattle.names.specs.declared.Refusal.{Refusal}
 use Rattle.laws.proofs.Tests.{both}
 use Rattle.words.specs.Words.{wordsOf}
 use Rattle.words.proofs.Laws.{laid-on-zeros}
-use Rattle.judge.specs.declared.Checked.{Checked}
-use Rattle.judge.specs.declared.Checked.the-variants.{Fine, Refused}
+use Rattle.judge.specs.declared.Checked.{Checked, the-variants.Fine, the-variants.Refused}
 use Rattle.judge.specs.Table.{judge, unless}
 use Rattle.judge.proofs.Table.{given, passed, not-given, refused-then, unless-not}
 use Rattle.plan.specs.Plan.{Plan}
@@ -22,8 +21,7 @@ use Rattle.carried.specs.Carried.{planIn, sheetOf, noSheet}
 use Rattle.carried.proofs.Plans.{one-sheet, plan-in-places}
 use Rattle.checks.specs.Checks.{rangeLines, valueLines, lines, checkedOf}
 use Rattle.checks.proofs.Counts.{range-number, fine-range, ranges-counted}
-use Rattle.file.specs.declared.Counts.{Counts}
-use Rattle.file.specs.declared.Counts.the-variants.{Of, Refused as Counts·Refused}
+use Rattle.file.specs.declared.Counts.{Counts, the-variants.Of, the-variants.Refused as Counts·Refused}
 use Rattle.file.specs.File.{contents, countIn, sourcesIn, bodiesIn, same, sizeRight, contentsRight, contentsLines, countsAs, countsOf, carriedAs, carriedOf, linesIn, readAs, readOf}
 use Rattle.file.proofs.Same.{same-eq}
 

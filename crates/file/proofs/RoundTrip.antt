@@ -19,15 +19,13 @@ use Rattle.carried.specs.Layout as layout
 use Rattle.carried.specs.Carried.{planIn, timingWords, streamWords, valuesOf, sheetOf}
 use Rattle.carried.proofs.Plans.{one-sheet, plan-in-values}
 use Rattle.fields.proofs.All.{none, next, All, shown, all-both, flat-all}
-use Rattle.judge.specs.declared.Checked.{Checked}
-use Rattle.judge.specs.declared.Checked.the-variants.{Fine, Refused}
+use Rattle.judge.specs.declared.Checked.{Checked, the-variants.Fine, the-variants.Refused}
 use Rattle.judge.specs.Table.{judge}
 use Rattle.checks.specs.Checks.{lines, checkedOf, Right}
 use Rattle.judge.proofs.Table.{fine-parts}
 use Rattle.checks.proofs.Fine.{fine-if-right, own-counts}
 use Rattle.file.specs.declared.ReadPlan.{ReadPlan}
-use Rattle.file.specs.declared.Written.{Written}
-use Rattle.file.specs.declared.Written.the-variants.{Bytes}
+use Rattle.file.specs.declared.Written.{Written, the-variants.Bytes}
 use Rattle.file.specs.File.{contents, fileWords, fileOf, countIn, sourcesIn, bodiesIn, readAs, readOf, linesOut, writeAs, writeWith, writeOf}
 use Rattle.file.specs.Claims.{ReadsAsItsValues, ReadsWhatWasWritten, WritesWhatWasRead, ReadsOneSheet}
 use Rattle.file.proofs.Same.{same-refl}

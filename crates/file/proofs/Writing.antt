@@ -14,8 +14,7 @@ use Rattle.plan.specs.declared.Sheet.{Sheet}
 use Rattle.plan.specs.Plan.{Plan, planOf}
 use Rattle.carried.specs.Layout as layout
 use Rattle.plan.proofs.Places.{Owned}
-use Rattle.judge.specs.declared.Checked.{Checked}
-use Rattle.judge.specs.declared.Checked.the-variants.{Fine, Refused}
+use Rattle.judge.specs.declared.Checked.{Checked, the-variants.Fine, the-variants.Refused}
 use Rattle.judge.specs.Table.{Line, judge, unless}
 use Rattle.carried.specs.Carried.{planIn, inPlaces}
 use Rattle.carried.proofs.Plans.{plan-in-places}

@@ -6,8 +6,7 @@ use lib.Dec.{leb, eqb}
 use lib.ListN.{length, getD, take, drop}
 use Rattle.names.specs.Limits.{streams, sources}
 use Rattle.words.specs.Words.{wordsOf, laidOnto, bytesOf}
-use Rattle.judge.specs.declared.Checked.{Checked}
-use Rattle.judge.specs.declared.Checked.the-variants.{Fine, Refused}
+use Rattle.judge.specs.declared.Checked.{Checked, the-variants.Fine, the-variants.Refused}
 use Rattle.judge.specs.Table.{Line, judge, unless}
 use Rattle.plan.specs.declared.Sheet.{Sheet}
 use Rattle.plan.specs.Plan.{Plan, planOf}
@@ -15,10 +14,8 @@ use Rattle.carried.specs.Layout as layout
 use Rattle.carried.specs.Carried.{planIn, valuesOf, sheetOf, noSheet}
 use Rattle.checks.specs.Checks.{rangeLines, valueLines, lines}
 use Rattle.file.specs.declared.ReadPlan.{ReadPlan}
-use Rattle.file.specs.declared.Counts.{Counts}
-use Rattle.file.specs.declared.Counts.the-variants.{Of, Refused as Counts·Refused}
-use Rattle.file.specs.declared.Written.{Written}
-use Rattle.file.specs.declared.Written.the-variants.{Bytes, Refused as Written·Refused}
+use Rattle.file.specs.declared.Counts.{Counts, the-variants.Of, the-variants.Refused as Counts·Refused}
+use Rattle.file.specs.declared.Written.{Written, the-variants.Bytes, the-variants.Refused as Written·Refused}
 
 -- ---- a plan's file
 

@@ -6,13 +6,10 @@ use Prim.Native.Nat.{ℕ, zero, suc, _<_}
 use native.Mathlib.Omega.{arith}
 use lib.ListN.{length}
 use Rattle.names.specs.declared.Refusal.{Refusal}
-use Rattle.laws.specs.declared.Found.{Found}
-use Rattle.laws.specs.declared.Found.the-variants.{At, Nothing}
+use Rattle.laws.specs.declared.Found.{Found, the-variants.At, the-variants.Nothing}
 use Rattle.laws.proofs.Tests.{apart}
-use Rattle.names.specs.declared.FoundRow.{FoundRow}
-use Rattle.names.specs.declared.FoundRow.the-variants.{At as FoundRow·At, Nothing as FoundRow·Nothing}
-use Rattle.judge.specs.declared.Checked.{Checked}
-use Rattle.judge.specs.declared.Checked.the-variants.{Fine, Refused}
+use Rattle.names.specs.declared.FoundRow.{FoundRow, the-variants.At as FoundRow·At, the-variants.Nothing as FoundRow·Nothing}
+use Rattle.judge.specs.declared.Checked.{Checked, the-variants.Fine, the-variants.Refused}
 use Rattle.judge.specs.Table.{Line, judge, unless, rowIn, _then_, lineAt, FirstGiven, RefusedByTheFirst, FineIfNone, JudgedInTurn}
 
 -- ---- one line

@@ -5,13 +5,10 @@ use mathlib.Core.List.{List, [], _∷_, _++_}
 use mathlib.Core.Logic.{_↔_}
 use Prim.Native.Nat.{ℕ, _<_}
 use lib.ListN.{length, getD}
-use Rattle.names.specs.declared.FoundRow.{FoundRow}
-use Rattle.names.specs.declared.FoundRow.the-variants.{At as FoundRow·At, Nothing as FoundRow·Nothing}
+use Rattle.names.specs.declared.FoundRow.{FoundRow, the-variants.At as FoundRow·At, the-variants.Nothing as FoundRow·Nothing}
 use Rattle.names.specs.declared.Refusal.{Refusal}
-use Rattle.laws.specs.declared.Found.{Found}
-use Rattle.laws.specs.declared.Found.the-variants.{At, Nothing}
-use Rattle.judge.specs.declared.Checked.{Checked}
-use Rattle.judge.specs.declared.Checked.the-variants.{Fine, Refused}
+use Rattle.laws.specs.declared.Found.{Found, the-variants.At, the-variants.Nothing}
+use Rattle.judge.specs.declared.Checked.{Checked, the-variants.Fine, the-variants.Refused}
 
 -- a line of the table: the refusal's number, and its place if it is given
 pub record Line : Type 0 where

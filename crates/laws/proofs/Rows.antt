@@ -9,8 +9,7 @@ use native.Mathlib.Decide.{decLe}
 use native.Mathlib.Numerals.{add-one}
 use native.Mathlib.Omega.{arith}
 use borrow.Author.Count.{below-none, below-more}
-use Rattle.laws.specs.declared.Found.{Found}
-use Rattle.laws.specs.declared.Found.the-variants.{At, Nothing}
+use Rattle.laws.specs.declared.Found.{Found, the-variants.At, the-variants.Nothing}
 use Rattle.laws.specs.Search.{first}
 use Rattle.laws.specs.Rows.{some, Lowest, SomePasses, FindsLowest, FindsNothing}
 

@@ -15,15 +15,13 @@ use Rattle.laws.proofs.Tests.{both}
 use Rattle.laws.specs.Rows.{some}
 use Rattle.repeats.specs.Repeats.{firstRepeat}
 use Rattle.laws.proofs.Rows.{some-passes}
-use Rattle.bound.specs.declared.Verdict.{Verdict}
-use Rattle.bound.specs.declared.Verdict.the-variants.{Met, Missed, None}
+use Rattle.bound.specs.declared.Verdict.{Verdict, the-variants.Met, the-variants.Missed, the-variants.None}
 use Rattle.bound.specs.Bound.{E, demand, sideL, busy, sideW, w, bound, answer}
 use Rattle.plan.specs.Plan.{Plan, at}
 use Rattle.plan.specs.Rules.{B, hit, terms, rowAnswer}
 use Rattle.cover.specs.Cover.{Partnered}
 use Rattle.fields.specs.Fields.{fields, lowest}
-use Rattle.judge.specs.declared.Checked.{Checked}
-use Rattle.judge.specs.declared.Checked.the-variants.{Fine, Refused}
+use Rattle.judge.specs.declared.Checked.{Checked, the-variants.Fine, the-variants.Refused}
 use Rattle.judge.specs.Table.{judge}
 use Rattle.checks.specs.Checks.{lines}
 use Rattle.checks.proofs.Fine.{fine-if-right}

@@ -7,8 +7,7 @@ use mathlib.Core.List.{List, [], _∷_}
 use Prim.Native.Nat.{ℕ, _<_}
 use lib.Dec.{leb}
 use lib.ListN.{length, getD}
-use Rattle.laws.specs.declared.Found.{Found}
-use Rattle.laws.specs.declared.Found.the-variants.{At as Found·At, Nothing as Found·Nothing}
+use Rattle.laws.specs.declared.Found.{Found, the-variants.At as Found·At, the-variants.Nothing as Found·Nothing}
 use Rattle.laws.specs.Lists.{every}
 use Rattle.laws.specs.Rows.{some}
 use Rattle.plan.specs.declared.Timing.{Timing}

@@ -4,15 +4,13 @@ use mathlib.Core.List.{List}
 use Prim.Native.Nat.{ℕ, _≤_, _<_}
 use borrow.Author.Tests.{le-leb, lt-leb}
 use lib.ListN.{length}
-use Rattle.judge.specs.declared.Checked.{Checked}
-use Rattle.judge.specs.declared.Checked.the-variants.{Refused}
+use Rattle.judge.specs.declared.Checked.{Checked, the-variants.Refused}
 use Rattle.judge.specs.Table.{judge, unless}
 use Rattle.judge.proofs.Table.{given, passed}
 use Rattle.tournament.specs.declared.Outcome.{Outcome}
 use Rattle.tournament.specs.Rule.{begunOf, next}
 use Rattle.tournament.specs.Answers.{outcome, nobody, startOf, stepOf}
-use Rattle.tournament_state.specs.declared.Phase.{Phase}
-use Rattle.tournament_state.specs.declared.Phase.the-variants.{AtBit}
+use Rattle.tournament_state.specs.declared.Phase.{Phase, the-variants.AtBit}
 use Rattle.tournament_state.specs.declared.Tournament.{Tournament}
 use Rattle.tournament_state.specs.Refusals.{verdictOf}
 use Rattle.states.specs.States.{prioritiesFrom, phaseFrom, stateFrom}

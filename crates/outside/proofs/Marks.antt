@@ -8,14 +8,12 @@ use native.Mathlib.Nat.{lt-of-not-le}
 use native.Mathlib.Decide.{decLe}
 use native.Mathlib.Omega.{arith}
 use lib.ListN.{length, getD}
-use Rattle.judge.specs.declared.Checked.{Checked}
-use Rattle.judge.specs.declared.Checked.the-variants.{Fine, Refused}
+use Rattle.judge.specs.declared.Checked.{Checked, the-variants.Fine, the-variants.Refused}
 use Rattle.judge.specs.Table.{judge}
 use Rattle.tournament.specs.Answers.{outcome}
 use Rattle.tournament.specs.Rule.{nextAt, next}
 use Rattle.tournament.proofs.Readiness.{same-size}
-use Rattle.tournament_state.specs.declared.Phase.{Phase}
-use Rattle.tournament_state.specs.declared.Phase.the-variants.{AtBit}
+use Rattle.tournament_state.specs.declared.Phase.{Phase, the-variants.AtBit}
 use Rattle.tournament_state.specs.declared.Tournament.{Tournament}
 use Rattle.tournament_state.proofs.Ranges.{refusal-range}
 use Rattle.states.specs.States.{phaseFrom, stateFrom, markedOut}

@@ -6,8 +6,7 @@ use Prim.Native.Nat.{ℕ, _≤_, _<_}
 use lib.Dec.{leb}
 use lib.ListN.{length, getD}
 use Rattle.names.specs.declared.Refusal.{Refusal}
-use Rattle.judge.specs.declared.Checked.{Checked}
-use Rattle.judge.specs.declared.Checked.the-variants.{Fine, Refused}
+use Rattle.judge.specs.declared.Checked.{Checked, the-variants.Fine, the-variants.Refused}
 use Rattle.judge.specs.Table.{Line, judge, unless}
 use Rattle.plan.specs.declared.Stream.{Stream}
 use Rattle.carried.specs.Carried.{timingIn}
@@ -16,14 +15,11 @@ use Rattle.compare.specs.declared.Reason.the-variants.{GreaterConstant, NewLabe
 use Rattle.compare.specs.declared.Reason.the-variants.{LongerPayload, ShorterDeadline, LessUrgent, MoreNoise}
 use Rattle.compare.specs.declared.Compared.{Compared}
 use Rattle.compare.specs.declared.Compared.the-variants.{FirstRefused, SecondRefused, Lighter, RunAgain}
-use Rattle.file.specs.declared.Written.{Written}
-use Rattle.file.specs.declared.Written.the-variants.{Bytes, Refused as Written·Refused}
+use Rattle.file.specs.declared.Written.{Written, the-variants.Bytes, the-variants.Refused as Written·Refused}
 use Rattle.answers.specs.Answers.{answerOf}
-use Rattle.tournament_state.specs.declared.Phase.{Phase}
-use Rattle.tournament_state.specs.declared.Phase.the-variants.{AtBit, Finished, NoWinner}
+use Rattle.tournament_state.specs.declared.Phase.{Phase, the-variants.AtBit, the-variants.Finished, the-variants.NoWinner}
 use Rattle.tournament_state.specs.Refusals.{stateLines}
-use Rattle.tournament.specs.declared.Parting.{Parting}
-use Rattle.tournament.specs.declared.Parting.the-variants.{At, Refused as Parting·Refused}
+use Rattle.tournament.specs.declared.Parting.{Parting, the-variants.At, the-variants.Refused as Parting·Refused}
 use Rattle.tournament.specs.declared.Outcome.{Outcome}
 use Rattle.tournament.specs.Rule.{begunOf, next}
 use Rattle.tournament.specs.Answers.{outcome, nobody, startOf, stepOf}

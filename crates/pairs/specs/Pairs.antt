@@ -8,8 +8,7 @@ use lib.Dec.{ltb, eqb}
 use lib.ListN.{length, take, drop}
 use Rattle.ascii.specs.Ascii.{space, newline}
 use Rattle.pairs.specs.declared.Part.{Part}
-use Rattle.pairs.specs.declared.Named.{Named}
-use Rattle.pairs.specs.declared.Named.the-variants.{Names, Wrong, Over}
+use Rattle.pairs.specs.declared.Named.{Named, the-variants.Names, the-variants.Wrong, the-variants.Over}
 
 -- a text up to the first such byte, or all of it
 unfoldable pub before : ℕ → List ℕ → List ℕ

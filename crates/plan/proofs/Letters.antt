@@ -9,8 +9,7 @@ use lib.Dec.{leb}
 use lib.ListN.{getD}
 use Rattle.laws.specs.Lists.{ceil, sumOf}
 use Rattle.laws.specs.Search.{Least}
-use Rattle.laws.specs.declared.Found.{Found}
-use Rattle.laws.specs.declared.Found.the-variants.{At, Nothing}
+use Rattle.laws.specs.declared.Found.{Found, the-variants.At, the-variants.Nothing}
 use Rattle.laws.proofs.Lists.{sum-same}
 use Rattle.bound.specs.declared.Verdict.the-variants.{Met, Missed, None}
 use Rattle.bound.specs.Bound.{E, demand, sideL, sideW, busy, w, bound, answerFor, answer, verdictNumber}

@@ -4,8 +4,7 @@ use Prim.Native.Nat.{_+_, _≤_}
 use native.Mathlib.Nat.{le-refl}
 use native.Mathlib.Omega.{arith}
 use Rattle.names.specs.Limits.{ticks}
-use Rattle.laws.specs.declared.Found.{Found}
-use Rattle.laws.specs.declared.Found.the-variants.{At, Nothing}
+use Rattle.laws.specs.declared.Found.{Found, the-variants.At, the-variants.Nothing}
 use Rattle.bound.specs.Bound.{busy, answerFor, answer}
 use Rattle.bound.proofs.Sides.{busy-is-least}
 use Rattle.bound.proofs.Largest.{bound-within}

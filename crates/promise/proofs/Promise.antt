@@ -7,11 +7,9 @@ use native.Mathlib.Omega.{arith}
 use borrow.Author.Tests.{ltb-true, lt-ltb, leb-true, le-leb}
 use lib.Dec.{leb}
 use lib.ListN.{length}
-use Rattle.laws.specs.declared.Found.{Found}
-use Rattle.laws.specs.declared.Found.the-variants.{At, Nothing}
+use Rattle.laws.specs.declared.Found.{Found, the-variants.At, the-variants.Nothing}
 use Rattle.laws.specs.Lists.{largestOf, those}
-use Rattle.bound.specs.declared.Verdict.{Verdict}
-use Rattle.bound.specs.declared.Verdict.the-variants.{Met, Missed, None}
+use Rattle.bound.specs.declared.Verdict.{Verdict, the-variants.Met, the-variants.Missed, the-variants.None}
 use Rattle.bound.specs.Bound.{busy, bound, verdict, answer, answerFor}
 use Rattle.cover.specs.Cover.{Partnered, NoHeavier, NoShorter, Covers}
 use Rattle.cover.proofs.Cover.{covered-keeps}

@@ -12,8 +12,7 @@ use borrow.Author.Tests.{eqb-true, eq-eqb}
 use lib.Dec.{eqb}
 use lib.ListN.{length, getD}
 use Rattle.names.specs.declared.Row.{Row}
-use Rattle.laws.specs.declared.Found.{Found}
-use Rattle.laws.specs.declared.Found.the-variants.{At as Found·At, Nothing as Found·Nothing}
+use Rattle.laws.specs.declared.Found.{Found, the-variants.At as Found·At, the-variants.Nothing as Found·Nothing}
 use Rattle.names.specs.declared.FoundRow.the-variants.{At, Nothing}
 use Rattle.repeats.specs.Repeats.{repeatsAt, asRow, firstRepeat, Repeats, AtTheLowest, NothingIfDistinct}
 use Rattle.laws.proofs.Rows.{is-false, not-below, some-passes, finds-lowest, finds-nothing}

@@ -7,11 +7,9 @@ use Prim.Native.Nat.{ℕ, _≤_, _<_}
 use lib.Dec.{eqb}
 use lib.ListN.{length, getD}
 use Rattle.names.specs.declared.Row.{Row}
-use Rattle.laws.specs.declared.Found.{Found}
-use Rattle.laws.specs.declared.Found.the-variants.{At as Found·At, Nothing as Found·Nothing}
+use Rattle.laws.specs.declared.Found.{Found, the-variants.At as Found·At, the-variants.Nothing as Found·Nothing}
 use Rattle.laws.specs.Search.{first}
-use Rattle.names.specs.declared.FoundRow.{FoundRow}
-use Rattle.names.specs.declared.FoundRow.the-variants.{At, Nothing}
+use Rattle.names.specs.declared.FoundRow.{FoundRow, the-variants.At, the-variants.Nothing}
 use Rattle.laws.specs.Rows.{some}
 
 -- row i has the value of an earlier row

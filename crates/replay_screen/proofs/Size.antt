@@ -12,13 +12,11 @@ use Rattle.names.specs.declared.Priority.{Priority}
 use Rattle.names.specs.declared.Row.{Row}
 use Rattle.names.specs.Limits.{contenders, bits, ticks}
 use Rattle.laws.specs.Lists.{rows, those}
-use Rattle.judge.specs.declared.Checked.{Checked}
-use Rattle.judge.specs.declared.Checked.the-variants.{Fine, Refused}
+use Rattle.judge.specs.declared.Checked.{Checked, the-variants.Fine, the-variants.Refused}
 use Rattle.decimal.specs.Decimal.{digitsOf, digits}
 use Rattle.decimal.proofs.Decimal.{few-digits}
 use Rattle.text.proofs.Size.{largest-refusal}
-use Rattle.tournament_state.specs.declared.Phase.{Phase}
-use Rattle.tournament_state.specs.declared.Phase.the-variants.{AtBit, Finished, NoWinner}
+use Rattle.tournament_state.specs.declared.Phase.{Phase, the-variants.AtBit, the-variants.Finished, the-variants.NoWinner}
 use Rattle.tournament_state.specs.declared.Tournament.{Tournament}
 use Rattle.tournament_state.specs.Refusals.{number, none, verdictOf, numberAt, PhaseWithin}
 use Rattle.tournament_state.proofs.Meaning.{fine-passed}

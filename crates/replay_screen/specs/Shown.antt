@@ -9,11 +9,9 @@ use Rattle.names.specs.Limits.{contenders}
 use Rattle.laws.specs.Lists.{rows, those}
 use Rattle.decimal.specs.Decimal.{digits}
 use Rattle.text.specs.Listing.{refusedOf}
-use Rattle.tournament_state.specs.declared.Phase.{Phase}
-use Rattle.tournament_state.specs.declared.Phase.the-variants.{AtBit, Finished, NoWinner}
+use Rattle.tournament_state.specs.declared.Phase.{Phase, the-variants.AtBit, the-variants.Finished, the-variants.NoWinner}
 use Rattle.tournament_state.specs.declared.Tournament.{Tournament}
-use Rattle.judge.specs.declared.Checked.{Checked}
-use Rattle.judge.specs.declared.Checked.the-variants.{Fine, Refused}
+use Rattle.judge.specs.declared.Checked.{Checked, the-variants.Fine, the-variants.Refused}
 use Rattle.tournament_state.specs.Refusals.{none}
 use Rattle.tournament.specs.Rule.{heardAt, steps}
 use Rattle.tournament.specs.Answers.{startOf}

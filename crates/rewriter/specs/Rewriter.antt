@@ -4,11 +4,9 @@ use mathlib.Core.List.{List, _++_}
 use Prim.Native.Nat.{ℕ, _≤_}
 use lib.ListN.{length, drop}
 use Rattle.words.specs.Words.{Below}
-use Rattle.judge.specs.declared.Checked.{Checked}
-use Rattle.judge.specs.declared.Checked.the-variants.{Fine, Refused}
+use Rattle.judge.specs.declared.Checked.{Checked, the-variants.Fine, the-variants.Refused}
 use Rattle.plan.specs.declared.Sheet.{Sheet}
-use Rattle.file.specs.declared.Written.{Written}
-use Rattle.file.specs.declared.Written.the-variants.{Refused as Written·Refused, Bytes}
+use Rattle.file.specs.declared.Written.{Written, the-variants.Refused as Written·Refused, the-variants.Bytes}
 use Rattle.file.specs.File.{readOf, writeOf}
 
 -- what was read is written, and a refused file is refused, with the lent bytes as they were

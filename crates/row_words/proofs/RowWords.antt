@@ -11,8 +11,7 @@ use Rattle.laws.specs.Lists.{rows}
 use Rattle.laws.proofs.Lists.{rows-more, rows-same, rows-take, length-rows}
 use Rattle.laws.proofs.Pieces.{flat-append, length-flat}
 use Rattle.bound.specs.declared.Answer.{Answer}
-use Rattle.bound.specs.declared.Verdict.{Verdict}
-use Rattle.bound.specs.declared.Verdict.the-variants.{Met, Missed, None}
+use Rattle.bound.specs.declared.Verdict.{Verdict, the-variants.Met, the-variants.Missed, the-variants.None}
 use Rattle.bound.specs.Bound.{verdictNumber}
 use Rattle.row_words.specs.RowWords.{rowWords, wordsPerRow, withAnswer, verdictAt, boundAt, verdictOfNumber, answerAt, ReadBack, RowsReadBack}
 

@@ -3,8 +3,7 @@ use mathlib.Core.List.{List, [], _∷_, _++_}
 use Prim.Native.Nat.{ℕ, _/_, _%_}
 use Rattle.names.specs.declared.Label.{Label}
 use Rattle.names.specs.declared.Refusal.{Refusal}
-use Rattle.bound.specs.declared.Verdict.{Verdict}
-use Rattle.bound.specs.declared.Verdict.the-variants.{Met, Missed, None}
+use Rattle.bound.specs.declared.Verdict.{Verdict, the-variants.Met, the-variants.Missed, the-variants.None}
 use Rattle.bound.specs.declared.Answer.{Answer}
 use Rattle.row_words.specs.RowWords.{answersIn}
 use Rattle.plan.specs.declared.Stream.{Stream}

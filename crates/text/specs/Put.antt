@@ -5,8 +5,7 @@ use mathlib.Core.List.{List, _++_}
 use Prim.Native.Nat.{ℕ, _+_, _-_, _^_, min}
 use lib.Dec.{leb}
 use lib.ListN.{length, take, drop}
-use Rattle.text.specs.declared.Put.{Put}
-use Rattle.text.specs.declared.Put.the-variants.{At, Full}
+use Rattle.text.specs.declared.Put.{Put, the-variants.At, the-variants.Full}
 
 -- the last place that a usize can count
 abbrev pub lastPlace : ℕ

@@ -7,8 +7,7 @@ use native.Mathlib.Omega.{arith}
 use borrow.Author.Tests.{eq-eqb}
 use lib.Bits.{bitAnd, and-mask}
 use lib.Dec.{eqb}
-use Rattle.tournament_state.specs.declared.Phase.{Phase}
-use Rattle.tournament_state.specs.declared.Phase.the-variants.{AtBit}
+use Rattle.tournament_state.specs.declared.Phase.{Phase, the-variants.AtBit}
 use Rattle.tournament_state.specs.declared.Tournament.{Tournament}
 use Rattle.tournament.specs.Rule.{marksAfter, winnerOf, nextAt, next}
 

@@ -7,17 +7,14 @@ use lib.ListN.{replicate}
 use Rattle.names.specs.declared.Priority.{Priority}
 use Rattle.names.specs.Limits.{contenders}
 use Rattle.laws.specs.Search.{first, orZero}
-use Rattle.judge.specs.declared.Checked.{Checked}
-use Rattle.judge.specs.declared.Checked.the-variants.{Fine, Refused}
-use Rattle.tournament_state.specs.declared.Phase.{Phase}
-use Rattle.tournament_state.specs.declared.Phase.the-variants.{AtBit, Finished, NoWinner}
+use Rattle.judge.specs.declared.Checked.{Checked, the-variants.Fine, the-variants.Refused}
+use Rattle.tournament_state.specs.declared.Phase.{Phase, the-variants.AtBit, the-variants.Finished, the-variants.NoWinner}
 use Rattle.tournament_state.specs.declared.Tournament.{Tournament}
 use Rattle.tournament_state.specs.Refusals.{none, verdictOf, pairVerdictOf}
 use Rattle.tournament.specs.declared.Outcome.{Outcome}
 use Rattle.tournament.specs.declared.Carrier.{Carrier}
 use Rattle.tournament.specs.declared.Carrier.the-variants.{Heard, NotHeard, Refused as Carrier·Refused}
-use Rattle.tournament.specs.declared.Parting.{Parting}
-use Rattle.tournament.specs.declared.Parting.the-variants.{At as Parting·At, Refused as Parting·Refused}
+use Rattle.tournament.specs.declared.Parting.{Parting, the-variants.At as Parting·At, the-variants.Refused as Parting·Refused}
 use Rattle.tournament.specs.Rule.{bitAt, begunOf, heardAt, next, steps}
 
 -- the verdict on a state

@@ -7,12 +7,10 @@ use native.Mathlib.Omega.{arith}
 use borrow.Author.Tests.{eqb-false, eq-eqb, ne-eqb, not-true}
 use lib.Dec.{eqb}
 use Rattle.names.specs.declared.Priority.{Priority}
-use Rattle.laws.specs.declared.Found.{Found}
-use Rattle.laws.specs.declared.Found.the-variants.{At, Nothing}
+use Rattle.laws.specs.declared.Found.{Found, the-variants.At, the-variants.Nothing}
 use Rattle.laws.specs.Search.{first, orZero}
 use Rattle.laws.proofs.Rows.{finds-lowest, finds-nothing}
-use Rattle.judge.specs.declared.Checked.{Checked}
-use Rattle.judge.specs.declared.Checked.the-variants.{Fine, Refused}
+use Rattle.judge.specs.declared.Checked.{Checked, the-variants.Fine, the-variants.Refused}
 use Rattle.tournament_state.specs.Refusals.{number, pairVerdictOf, PlayablePair}
 use Rattle.tournament_state.proofs.Meaning.{fine-if-playable-pair}
 use Rattle.tournament.specs.declared.Parting.the-variants.{At as Parting·At}

@@ -9,14 +9,11 @@ use borrow.Author.Tests.{eqb-true, eq-eqb, ne-eqb}
 use lib.Dec.{eqb}
 use lib.ListN.{getD}
 use Rattle.names.specs.declared.Row.{Row}
-use Rattle.laws.specs.declared.Found.{Found}
-use Rattle.laws.specs.declared.Found.the-variants.{At, Nothing}
+use Rattle.laws.specs.declared.Found.{Found, the-variants.At, the-variants.Nothing}
 use Rattle.laws.proofs.Rows.{some-passes, finds-lowest, finds-nothing}
-use Rattle.tournament_state.specs.declared.Phase.{Phase}
-use Rattle.tournament_state.specs.declared.Phase.the-variants.{AtBit, Finished, NoWinner}
+use Rattle.tournament_state.specs.declared.Phase.{Phase, the-variants.AtBit, the-variants.Finished, the-variants.NoWinner}
 use Rattle.tournament_state.specs.declared.Tournament.{Tournament}
-use Rattle.judge.specs.declared.Checked.{Checked}
-use Rattle.judge.specs.declared.Checked.the-variants.{Fine, Refused}
+use Rattle.judge.specs.declared.Checked.{Checked, the-variants.Fine, the-variants.Refused}
 use Rattle.tournament_state.specs.Refusals.{none}
 use Rattle.laws.proofs.Tests.{both}
 use Rattle.tournament_state.proofs.Tests.{and-both}

@@ -11,8 +11,7 @@ use Rattle.names.specs.Limits.{contenders, bits}
 use Rattle.laws.specs.declared.Found.the-variants.{At}
 use Rattle.laws.proofs.Tests.{apart}
 use Rattle.names.specs.declared.Row.{Row}
-use Rattle.names.specs.declared.FoundRow.{FoundRow}
-use Rattle.names.specs.declared.FoundRow.the-variants.{At as FoundRow·At, Nothing as FoundRow·Nothing}
+use Rattle.names.specs.declared.FoundRow.{FoundRow, the-variants.At as FoundRow·At, the-variants.Nothing as FoundRow·Nothing}
 use Rattle.judge.specs.declared.Checked.the-variants.{Refused}
 use Rattle.judge.specs.Table.{Line, unless, rowIn, lineAt}
 use Rattle.tournament_state.specs.declared.Phase.{Phase}

@@ -8,18 +8,15 @@ use Prim.Native.Nat.{ℕ, _^_, _≤_, _<_}
 use lib.Dec.{leb, ltb}
 use lib.ListN.{length, getD, take}
 use Rattle.names.specs.declared.Priority.{Priority}
-use Rattle.names.specs.declared.FoundRow.{FoundRow}
+use Rattle.names.specs.declared.FoundRow.{FoundRow, the-variants.At as FoundRow·At}
 use Rattle.names.specs.declared.Refusal.{Refusal}
 use Rattle.names.specs.declared.Row.{Row}
-use Rattle.names.specs.declared.FoundRow.the-variants.{At as FoundRow·At}
 use Rattle.names.specs.Limits.{contenders, bits}
 use Rattle.laws.specs.Search.{first}
 use Rattle.repeats.specs.Repeats.{asRow, firstRepeat, Repeats}
-use Rattle.judge.specs.declared.Checked.{Checked}
-use Rattle.judge.specs.declared.Checked.the-variants.{Fine, Refused}
+use Rattle.judge.specs.declared.Checked.{Checked, the-variants.Fine, the-variants.Refused}
 use Rattle.judge.specs.Table.{Line, judge, unless, rowIn, FirstGiven}
-use Rattle.tournament_state.specs.declared.Phase.{Phase}
-use Rattle.tournament_state.specs.declared.Phase.the-variants.{AtBit, Finished, NoWinner}
+use Rattle.tournament_state.specs.declared.Phase.{Phase, the-variants.AtBit, the-variants.Finished, the-variants.NoWinner}
 
 -- a priority as a number, a number as a priority, and the priority of an unused place
 abbrev pub number : Priority → ℕ

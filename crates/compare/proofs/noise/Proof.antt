@@ -12,8 +12,7 @@ use lib.Seq.{getD-take}
 use Rattle.names.specs.Limits.{sources}
 use Rattle.plan.specs.Plan.{planOf}
 use Rattle.plan.proofs.Places.{gaps-taken}
-use Rattle.compare.specs.declared.Change.{Change}
-use Rattle.compare.specs.declared.Change.the-variants.{Nothing}
+use Rattle.compare.specs.declared.Change.{Change, the-variants.Nothing}
 use Rattle.compare.specs.declared.Reason.the-variants.{MoreNoise}
 use Rattle.compare.specs.Changes.{must, firstChange, atMost, ofGap}
 use Rattle.compare.proofs.First.{change-none, change-more, change-here}

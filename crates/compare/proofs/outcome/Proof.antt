@@ -2,10 +2,8 @@
 use mathlib.Core.Path.{_≡_, sym, _∙_}
 use borrow.Author.Needs.{needs}
 use Rattle.names.specs.declared.Refusal.{Refusal}
-use Rattle.judge.specs.declared.Checked.{Checked}
-use Rattle.judge.specs.declared.Checked.the-variants.{Fine, Refused}
-use Rattle.compare.specs.declared.Change.{Change}
-use Rattle.compare.specs.declared.Change.the-variants.{Of, Nothing}
+use Rattle.judge.specs.declared.Checked.{Checked, the-variants.Fine, the-variants.Refused}
+use Rattle.compare.specs.declared.Change.{Change, the-variants.Of, the-variants.Nothing}
 use Rattle.compare.specs.declared.Reason.{Reason}
 use Rattle.compare.specs.declared.Compared.the-variants.{FirstRefused, SecondRefused, Lighter, RunAgain}
 use Rattle.compare.specs.Changes.{comparedAs}

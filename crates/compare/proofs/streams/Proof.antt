@@ -5,14 +5,12 @@ use native.Mathlib.Omega.{arith}
 use borrow.Author.Needs.{needs}
 use lib.ListN.{length, getD, length-map}
 use Rattle.names.specs.Limits.{streams}
-use Rattle.laws.specs.declared.Found.{Found}
-use Rattle.laws.specs.declared.Found.the-variants.{At as Found·At, Nothing as Found·Nothing}
+use Rattle.laws.specs.declared.Found.{Found, the-variants.At as Found·At, the-variants.Nothing as Found·Nothing}
 use Rattle.plan.specs.declared.Sheet.{Sheet}
 use Rattle.plan.specs.declared.Stream.{Stream}
 use Rattle.plan.specs.Plan.{Plan, planOf, blank, at}
 use Rattle.plan.proofs.Places.{streams-taken, row-in-place}
-use Rattle.compare.specs.declared.Change.{Change}
-use Rattle.compare.specs.declared.Change.the-variants.{Of, Nothing}
+use Rattle.compare.specs.declared.Change.{Change, the-variants.Of, the-variants.Nothing}
 use Rattle.compare.specs.declared.Reason.{Reason}
 use Rattle.compare.specs.Changes.{firstChange, rowOf, eased, inRow, ofStream, numberIn, numberUnder, ofStreams}
 use Rattle.compare.specs.private.Columns.{labelOf, priorityOf, numberThen, column, rowBy}

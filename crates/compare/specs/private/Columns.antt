@@ -7,8 +7,7 @@ use lib.ListN.{length, getD}
 use Rattle.names.specs.Limits.{streams}
 use Rattle.names.specs.declared.Label.{Label}
 use Rattle.names.specs.declared.Priority.{Priority}
-use Rattle.laws.specs.declared.Found.{Found}
-use Rattle.laws.specs.declared.Found.the-variants.{At, Nothing}
+use Rattle.laws.specs.declared.Found.{Found, the-variants.At, the-variants.Nothing}
 use Rattle.laws.specs.Lists.{placed}
 use Rattle.laws.specs.Search.{first}
 use Rattle.laws.specs.Rows.{some}

@@ -6,8 +6,7 @@ use Rattle.names.specs.Limits.{contenders}
 use Rattle.tournament_state.specs.declared.Phase.the-variants.{AtBit}
 use Rattle.tournament_state.specs.declared.Tournament.{Tournament}
 use Rattle.judge.specs.declared.Checked.the-variants.{Fine}
-use Rattle.tournament.specs.declared.Carrier.{Carrier}
-use Rattle.tournament.specs.declared.Carrier.the-variants.{Heard, NotHeard, Refused}
+use Rattle.tournament.specs.declared.Carrier.{Carrier, the-variants.Heard, the-variants.NotHeard, the-variants.Refused}
 use Rattle.tournament.specs.Answers.{judgedOf}
 
 -- a state that a start hands out

@@ -8,8 +8,7 @@ use Rattle.names.specs.declared.Refusal.{Refusal}
 use Rattle.carried.specs.Layout as layout
 use Rattle.carried.specs.Carried.{planIn}
 use Rattle.file.specs.declared.Counts.the-variants.{Of, Refused as Counts·Refused}
-use Rattle.file.specs.declared.Written.{Written}
-use Rattle.file.specs.declared.Written.the-variants.{Refused as Written·Refused}
+use Rattle.file.specs.declared.Written.{Written, the-variants.Refused as Written·Refused}
 use Rattle.file.specs.File.{countsOf, carriedOf, writeWith, writeOf}
 use Rattle.file.proofs.Carried.{not-counted, by-words}
 use Rattle.file.proofs.Writing.{write-refused}

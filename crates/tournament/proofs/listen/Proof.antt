@@ -2,8 +2,7 @@
 use mathlib.Core.Path.{_≡_, refl, sym, ap, _∙_}
 use mathlib.Core.Bool.{Bool, true, false}
 use Prim.Native.Nat.{ℕ}
-use Rattle.tournament_state.specs.declared.Phase.{Phase}
-use Rattle.tournament_state.specs.declared.Phase.the-variants.{AtBit, Finished, NoWinner}
+use Rattle.tournament_state.specs.declared.Phase.{Phase, the-variants.AtBit, the-variants.Finished, the-variants.NoWinner}
 use Rattle.tournament_state.specs.declared.Tournament.{Tournament}
 use Rattle.judge.specs.declared.Checked.the-variants.{Fine}
 use Rattle.tournament.specs.declared.Carrier.the-variants.{Heard, NotHeard}
