@@ -8,7 +8,7 @@ fn main() {
     let library = folder.join("liboutside.a");
     println!("cargo:rerun-if-changed={}", library.display());
     if !library.is_file() {
-        eprintln!("target/staticlib/liboutside.a is missing: run `rt staticlib outside` at the top of the repository first");
+        eprintln!("target/staticlib/liboutside.a is missing: run `bench/native` at the top of the repository first");
         std::process::exit(1);
     }
     println!("cargo:rustc-link-search=native={}", folder.display());

@@ -2,11 +2,11 @@
 use mathlib.Core.List.{List, [], _∷_}
 use Prim.Native.Nat.{ℕ}
 use Prim.Native.Char.{code}
-use Prim.Native.String.{String, [] as none, _∷_ as _then_}
+use Prim.Native.String.{String, [] as empty, _∷_ as _followed-by_}
 
 abbrev pub ascii : String → List ℕ
-ascii none = []
-ascii (c then s) = code c ∷ ascii s
+ascii empty = []
+ascii (c followed-by s) = code c ∷ ascii s
 
 -- the bytes that part fields, lines, and a label's two numbers
 abbrev pub space : ℕ

@@ -8,7 +8,7 @@ use lib.Dec.{leb, eqb}
 use lib.ListN.{length, getD}
 use Rattle.names.specs.Limits.{streams, sources, ticks}
 use Rattle.laws.specs.declared.Found.{Found, the-variants.At, the-variants.Nothing}
-use Rattle.repeats.specs.Repeats.{firstRepeat}
+use Rattle.repeats.specs.Repeats.{firstRepeat, Distinct}
 use Rattle.judge.specs.declared.Checked.{Checked, the-variants.Fine}
 use Rattle.judge.specs.Table.{Line, judge, unless, rowIn}
 use Rattle.plan.specs.declared.Stream.{Stream}
@@ -71,10 +71,6 @@ unfoldable pub checkedOf : Sheet → Checked
 checkedOf s = judge (lines (s .count) (s .sources) (planOf s))
 
 -- ---- What is proved of the table of a plan's refusals; the proofs are in proofs/Fine.antt.
-
--- no two of the numbers are equal
-abbrev pub Distinct : List ℕ → Type 0
-Distinct xs = (i j : ℕ) → i < length xs → j < length xs → getD xs i 0 ≡ getD xs j 0 → i ≡ j
 
 -- a plan of n streams and m gaps that is within the limits, with distinct priorities and distinct labels
 pub record Right (n m : ℕ) (p : Plan) : Type 0 where

@@ -37,6 +37,7 @@ Refused r then next = Refused r
 
 -- ---- What is proved of every table of refusals; the proofs are in proofs/Table.antt.
 
+-- line i of a table, counted from 0
 abbrev pub lineAt : List Line → ℕ → Line
 lineAt ls i = getD ls i (record { number = 0; place = Nothing })
 

@@ -10,7 +10,7 @@ use Rattle.cover.specs.Cover.{Partnered}
 use Rattle.plan.specs.declared.Timing.{Timing}
 use Rattle.plan.specs.declared.Stream.{Stream}
 use Rattle.plan.specs.Plan.{Plan, blank, at}
-use Rattle.checks.specs.Checks.{Distinct}
+use Rattle.repeats.specs.Repeats.{Distinct}
 use Rattle.promise.specs.Lighter.{NoGreater, Eased, Lighter, NotRefused, Fewer, FewerKeeps, Pulled, without, PulledKeeps}
 use Rattle.promise.proofs.Promise.{lighter-keeps}
 

@@ -37,6 +37,8 @@ abbrev pub AtTheLowest : Type 0
 AtTheLowest = (xs : List ℕ) (r : Row) → (firstRepeat xs ≡ At r) ↔ (Repeats xs (r .0) × ((i : ℕ) → Repeats xs i → r .0 ≤ i))
 
 -- .. and nothing exactly if no two rows have one value
+abbrev pub Distinct : List ℕ → Type 0
+Distinct xs = (i j : ℕ) → i < length xs → j < length xs → getD xs i 0 ≡ getD xs j 0 → i ≡ j
+
 abbrev pub NothingIfDistinct : Type 0
-NothingIfDistinct =
-    (xs : List ℕ) → (firstRepeat xs ≡ Nothing) ↔ ((i j : ℕ) → i < length xs → j < length xs → getD xs i 0 ≡ getD xs j 0 → i ≡ j)
+NothingIfDistinct = (xs : List ℕ) → (firstRepeat xs ≡ Nothing) ↔ Distinct xs
