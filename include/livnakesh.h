@@ -1,6 +1,10 @@
 /* The planner's functions for other languages. A slice is a pointer and then a length, counted in elements; what is lent stays
  * the caller's. No two slices of one call may overlap, and each must be aligned for its elements. A slice of length 0 may be NULL.
- * A refusal hands back document 01's number and place, and leaves lent memory as it was. Rows count from 0.
+ * A refusal hands back the number and place of documents 01 and 02, and leaves lent memory as it was. Rows count from 0. Where
+ * several fit a plan, the first in this order is given: 1, 2, 3, 4, 5, 10, 6.
+ *
+ * A plan with a master node has P, from one pulse to the next, and its file is of edition 2; a plan without one has edition 1, and
+ * its P, where it is lent, is 0. n is the number of streams, m the number of gaps.
  *
  * Every call returns, but livnakesh_answers and livnakesh_screen can take minutes: most plans take well under a millisecond, and
  * the slowest that are known more than three minutes. All other calls look at what they are lent once or a few times over. */
@@ -22,8 +26,9 @@ struct livnakesh_said {
 
 /* answer 0: the second plan is lighter; number and value are 0.
  * answer 1: the first file is refused; answer 2: the second is. number and value are the refusal's number and place.
- * answer 3: run it again; number is the first condition that is broken, and value what breaks it:
- *   1 a timing constant is greater            its place, 0 to 8 for F, E, TFCS, SWX, H, G, ETG, LAG, NB
+ * answer 3: run it again; number is a condition that is broken, and value what breaks it. 9 is looked at first, then 1 to 8:
+ *   9 one plan has a master node and the other has none       0
+ *   1 a timing constant is greater            its place, 0 to 9 for F, E, TFCS, SWX, H, G, ETG, LAG, NB, P
  *   2 a stream is not in the first plan       its label
  *   3 its period is shorter                   its label
  *   4 its jitter is longer                    its label
@@ -60,24 +65,26 @@ struct livnakesh_stepped {
 };
 
 /* The answers of a plan file: two words a row in file order, verdict (0 met, 1 missed, 2 none) and then the bound
- * (0 for none). Words after 2n stay as found; n is the word at byte 28 of the file, divided by 24. Refusals 1 to 6; 6 if fewer
- * than 2n words are lent. value is 0. */
+ * (0 for none). Words after 2n stay as found; n is the word at byte 28 of the file, divided by 24, in both editions.
+ * Refusals 1 to 5, 10 and 6; 6 if fewer than 2n words are lent. value is 0. */
 struct livnakesh_said livnakesh_answers(const uint8_t *file, size_t file_length, uint64_t *words, size_t word_count);
 
 /* Reads a plan file and writes its plan's file at the start of the lent buffer; the rest of the buffer is kept.
- * value is the number of bytes written, 80 + 24n + 4m. Refusals 1 to 6; 6 if fewer bytes than that are lent. */
+ * value is the number of bytes written, 80 + 24n + 4m, or 84 + 24n + 4m with a master node. Refusals 1 to 5, 10 and 6; 6 if fewer
+ * bytes than that are lent. */
 struct livnakesh_said livnakesh_rewrite(const uint8_t *file, size_t file_length, uint8_t *buffer, size_t buffer_length);
 
 /* Writes the file of so many streams (n) and gaps (m) at the start of the lent buffer; the rest of the buffer is kept.
- * values are the nine timing words, six words a stream and then the gaps, as in the file after its contents. A word that is not
- * lent is 0, and words after 9 + 6n + m are not looked at. value is the number of bytes written, 80 + 24n + 4m.
- * Refusals 2 to 6, with the places that the file would have; 6 if fewer bytes than that are lent. */
+ * values are ten timing words, F to NB and P, then six words a stream and then the gaps. P is lent always: it is 0 where there is no
+ * master node, and then not in the file. A word that is not lent is 0, and words after 10 + 6n + m are not looked at. value is the
+ * number of bytes written, 80 + 24n + 4m, or 84 + 24n + 4m with a master node.
+ * Refusals 2 to 5, 10 and 6, with the places that the file would have; 6 if fewer bytes than that are lent. */
 struct livnakesh_said livnakesh_write(size_t streams, size_t gaps, const uint32_t *values, size_t value_count,
                                       uint8_t *buffer, size_t buffer_length);
 
-/* The answers of the screen's values, as livnakesh_answers gives them for their file. timing is nine words, F to NB: one that is
- * not lent is 0, and words after them are not looked at. The lists' own lengths are n and m.
- * Refusals 2 to 6, with the places that the file would have; 6 if fewer than 2n words are lent. value is 0. */
+/* The answers of the screen's values, as livnakesh_answers gives them for their file. timing is ten words, F to NB and P: one that
+ * is not lent is 0, so a caller who lends nine has no master node, and words after them are not looked at. The lists' own lengths
+ * are n and m. Refusals 2 to 5, 10 and 6, with the places that the file would have; 6 if fewer than 2n words are lent. value is 0. */
 struct livnakesh_said livnakesh_screen(const struct livnakesh_stream *streams, size_t stream_count,
                                        const uint32_t *timing, size_t timing_count, const uint32_t *gaps, size_t gap_count,
                                        uint64_t *words, size_t word_count);
@@ -88,7 +95,7 @@ struct livnakesh_said livnakesh_screen(const struct livnakesh_stream *streams, s
 struct livnakesh_said livnakesh_parting(uint32_t bits, uint32_t first, uint32_t second);
 
 /* Whether the plan in the second file is lighter than that in the first: every stream of it that has a bound in the first
- * then has one in the second, no larger, and what was met is met. */
+ * then has one in the second, no larger, and what was met is met. A file is refused by 1 to 5 and 10. */
 struct livnakesh_weighed livnakesh_lighter(const uint8_t *first, size_t first_length, const uint8_t *second, size_t second_length);
 
 /* A tournament's state is its bit count, its phase, its priorities and its marks. Each lent priority is a contender's, row by row,

@@ -26,7 +26,7 @@ pub struct Stream {
     pub deadline: u32,
 }
 
-/// The number and place of document 01's refusals.
+/// The number and place of the refusals of documents 01 and 02.
 #[derive(Clone, Copy, Debug, PartialEq, Eq)]
 pub struct Refused {
     pub number: u64,
@@ -41,9 +41,11 @@ pub enum Answer {
     None,
 }
 
-/// Why a plan is not lighter: the stream by its label, a constant by its place in the file's order (0 is F, 8 is NB), noise by the gap.
+/// Why a plan is not lighter: the stream by its label, a constant by its place in the file's order (0 is F, 9 is P), noise by the gap.
 #[derive(Clone, Copy, Debug, PartialEq, Eq)]
 pub enum Reason {
+    /// One plan has a master node and the other has none.
+    MasterNode,
     GreaterConstant(usize),
     NewLabel(Label),
     ShorterPeriod(Label),
@@ -162,7 +164,8 @@ pub fn answers(file: &[u8]) -> Result<Vec<Answer>, Refused> {
     Ok(rows(&words))
 }
 
-/// As `answers`, of records. The timing is the first nine words; one that is not lent is 0.
+/// As `answers`, of records. The timing is the first ten words, F to NB and P. One that is not lent is 0, so nine words are a plan
+/// without a master node.
 pub fn screen(streams: &[Stream], timing: &[u32], gaps: &[u32]) -> Result<Vec<Answer>, Refused> {
     let mut words = [UNWRITTEN; WORDS];
     screen_words(streams, timing, gaps, &mut words)?;
@@ -197,7 +200,8 @@ pub fn rewrite(file: &[u8], buffer: &mut [u8]) -> Result<usize, Refused> {
 
 /// Writes the file of so many streams and gaps at the start of `buffer`; hands back how many bytes it wrote.
 ///
-/// `values` are the nine timing words, six words a stream and then the gaps. A word that is not lent is 0.
+/// `values` are the ten timing words, six words a stream and then the gaps. A word that is not lent is 0. The tenth is P, and 0 in a
+/// plan without a master node; the file then has nine.
 pub fn write(streams: usize, gaps: usize, values: &[u32], buffer: &mut [u8]) -> Result<usize, Refused> {
     // SAFETY: both slices outlive the call, and the library stays within them.
     said(unsafe { livnakesh_write(streams, gaps, values.as_ptr(), values.len(), buffer.as_mut_ptr(), buffer.len()) })
@@ -258,6 +262,7 @@ fn reason(condition: u64, value: u64) -> Reason {
         6 => Reason::ShorterDeadline(label),
         7 => Reason::LessUrgent(label),
         8 => Reason::MoreNoise(word(value)),
+        9 => Reason::MasterNode,
         other => panic!("the library's contract has no condition {other}"),
     }
 }

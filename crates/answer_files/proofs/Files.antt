@@ -5,6 +5,7 @@ use Prim.Native.Nat.{ℕ}
 use lib.ListN.{replicate}
 use Rattle.names.specs.declared.Refusal.{Refusal}
 use Rattle.judge.specs.declared.Checked.{Checked, the-variants.Refused}
+use Rattle.carried.specs.declared.Edition.{Edition}
 use Rattle.carried.specs.Layout as layout
 use Rattle.carried.specs.Carried.{planIn}
 use Rattle.file.specs.declared.Counts.the-variants.{Of, Refused as Counts·Refused}
@@ -22,10 +23,11 @@ module _ (bs out : List ℕ) where
   pub file-refused : (r : Refusal) → countsOf bs ≡ Counts·Refused r → answerFileOf bs out ≡ (Refused r, out)
   unfolding answerOf answerFileOf
   file-refused r e =
-      not-counted (λ c s. answerRead c s out) no (λ n m p. answerWith n m p out) (λ s. refl) (λ r s. refl) (λ n m p. outcome.refused-is n m p out) bs r e
+      not-counted (λ c s. answerRead c s out) no (λ x n m p. answerWith x n m p out) (λ s. refl) (λ r s. refl) (λ x n m p. outcome.refused-is x n m p out) bs r e
 
-  -- whose contents count n streams and m gaps, by its words
-  pub file-is : (n m : ℕ) → countsOf bs ≡ Of n m → {ws : List ℕ} → ws ≡ carriedOf bs (replicate layout.largest 0) → answerFileOf bs out ≡ answerWith n m (planIn n m ws) out
+  -- whose contents say the edition, n streams and m gaps, by its words
+  pub file-is : (x : Edition) (n m : ℕ) → countsOf bs ≡ Of x n m → {ws : List ℕ} → ws ≡ carriedOf bs (replicate layout.largest 0)
+      → answerFileOf bs out ≡ answerWith x n m (planIn n m ws) out
   unfolding answerOf answerFileOf
-  file-is n m e d =
-      by-words (λ c s. answerRead c s out) no (λ n m p. answerWith n m p out) (λ s. refl) (λ r s. refl) (λ n m p. outcome.refused-is n m p out) bs n m e d
+  file-is x n m e d =
+      by-words (λ c s. answerRead c s out) no (λ x n m p. answerWith x n m p out) (λ s. refl) (λ r s. refl) (λ x n m p. outcome.refused-is x n m p out) bs x n m e d

@@ -10,14 +10,16 @@ use Rattle.judge.specs.declared.Checked.the-variants.{Fine}
 use Rattle.judge.specs.Table.{judge}
 use Rattle.checks.specs.Checks.{lines}
 use Rattle.checks.proofs.Fine.{fine-if-right}
+use Rattle.carried.specs.declared.Edition.{Edition}
 use Rattle.carried.specs.Layout as layout
 use Rattle.carried.specs.Carried.{planIn}
 use Rattle.answers.specs.private.Gather.{PlacesWithin, rowStream}
 
-pub fine-places : (ws : List ℕ) (n m : ℕ) → judge (lines n m (planIn n m ws)) ≡ Fine → PlacesWithin ws n m
+pub fine-places : (edition : Edition) (ws : List ℕ) (n m : ℕ) → judge (lines edition n m (planIn n m ws)) ≡ Fine → PlacesWithin ws n m
 unfolding planIn
-fine-places ws n m e =
-    let w = fine-if-right n m (planIn n m ws) .0 e .within in
+fine-places edition ws n m e =
+    let r = fine-if-right edition n m (planIn n m ws) .0 e .1 in
+    let w = r .within in
     record {
       rows =
           record {
@@ -27,4 +29,5 @@ fine-places ws n m e =
       quiet = omega (arith, w .sources, length-rows m (λ k. getD ws (layout.gapAt n k) 0));
       timing = w .timing;
       gap = λ k h. rw (rows-at m (λ k. getD ws (layout.gapAt n k) 0) 0 k h) at (w .gap k (omega (arith, length-rows m (λ k. getD ws (layout.gapAt n k) 0))));
+      slots = λ k h. rw (rows-at n (rowStream ws) blank k h) at (r .slots k (omega (arith, length-rows n (rowStream ws))));
     }

@@ -1,7 +1,7 @@
 -- What was gathered are the terms of the rules, and within the analysis' limits. Assumes nothing.
 use mathlib.Core.Path.{_≡_, refl, sym, ap, ap₂, _∙_}
 use mathlib.Core.Bool.{true}
-use mathlib.Core.List.{List, map}
+use mathlib.Core.List.{List, map, map-map}
 use Prim.Native.Nat.{ℕ, max, _+_, _-_, _^_, _≤_, _<_}
 use native.Mathlib.Omega.{arith}
 use borrow.Author.Tests.{le-leb, lt-ltb, eq-eqb}
@@ -12,117 +12,164 @@ use Rattle.laws.specs.Lists.{largestOf, rows}
 use Rattle.laws.proofs.Lists.{largest-those, largest-map, rows-map, rows-same, every-all}
 use Rattle.bound.specs.Terms as bound
 use Rattle.bound.specs.Bound.{answer}
+use Rattle.bound.specs.Claims.{Sound}
 use Rattle.bound.specs.declared.Answer.{Answer}
 use Rattle.analysis.specs.declared.Gathered.{Gathered}
 use Rattle.analysis.specs.declared.Answered.{Answered, the-variants.Outside, the-variants.Exact}
 use Rattle.analysis.specs.Gathered.{Lent, lent, termsOf, cost, shareFits, sourceFits, rowFits, fits, answered}
+use Rattle.plan.specs.declared.Timing.{Timing}
 use Rattle.plan.specs.declared.Stream.{Stream}
 use Rattle.plan.specs.Plan.{Plan}
 use Rattle.plan.specs.Rules as rule
+use Rattle.plan.proofs.Rules.{terms-sound}
 use Rattle.carried.specs.Layout as layout
 use Rattle.carried.specs.Carried.{timingIn, planIn}
 use Rattle.costs.specs.declared.Overheads.{Overheads}
-use Rattle.costs.specs.Costs.{VAndU}
-use Rattle.answers.specs.private.Gather.{PlacesWithin, Gathers, After, RowTerms, blocks, shareOf, lentShare, rowStream}
-use Rattle.answers.proofs.Gather.{fits-here}
+use Rattle.costs.specs.Costs.{Overhead}
+use Rattle.answers.specs.declared.Others.{Others}
+use Rattle.answers.specs.private.Gather.{PlacesWithin, Gathers, Extremes, Slotted, After, RowTerms, blocks, shareOf, lentShare, rowStream}
+use Rattle.answers.proofs.Gather.{fits-here, either-within, fits-either}
 
-module _ (ws : List ℕ) (n m k : ℕ) (c : Overheads) (fine : PlacesWithin ws n m) (framed : VAndU (timingIn ws) c) (among : k < n) where
+module _ (ws : List ℕ) (n m k : ℕ) (c : Overheads) (slot : ℕ) (fine : PlacesWithin ws n m) (framed : Overhead (timingIn ws) c)
+    (slot-is : slot ≡ timingIn ws .p) (among : k < n) where
+  abbrev t : Timing
+  t = timingIn ws
+
   abbrev p : Plan
   p = planIn n m ws
 
   abbrev i : Stream
   i = rowStream ws k
 
-  blocking-is : largestOf (blocks (c .u) (i .priority)) (rows n (rowStream ws)) ≡ rule.B p i
-  unfolding rule.B planIn
+  few-ticks : slot ≤ cost
+  few-ticks = omega (arith, slot-is, fine .timing .p)
+
+  -- without slots and with them
+  either-is : {x y a b : ℕ} → x ≡ a → y ≡ b → rule.selfOrSlotted slot x y ≡ rule.selfOrSlotted (t .p) a b
+  either-is e d = λ z. rule.selfOrSlotted (slot-is z) (e z) (d z)
+
+  blocking-is : largestOf (blocks (c .u) (i .priority)) (rows n (rowStream ws)) ≡ largestOf (λ j. rule.C′ t j - 1) (rule.lp p i)
+  unfolding planIn
   blocking-is =
       largest-those (λ j. j .payload + c .u - 1) (λ j. ltb (i .priority .0) (j .priority .0)) (rows n (rowStream ws))
-      ∙ ap (λ u. largestOf (λ j. j .payload + u - 1) (rule.lp p i)) (framed .u)
+      ∙ ap (λ u. largestOf (λ j. j .payload + u - 1) (rule.lp p i)) (framed .u-is)
 
-  cost-is : (j : Stream) → c .v + c .u + j .payload ≡ rule.C″ p j
-  unfolding planIn
-  cost-is j = omega (arith, framed .v, framed .u)
+  whole-is : (j : Stream) → c .lead + c .u + j .payload ≡ rule.C″ t j
+  whole-is j = omega (arith, framed .lead-is, framed .u-is)
 
-  share-is : (j : Stream) → shareOf (c .v + c .u) j ≡ rule.share p j
-  share-is j = λ x. record { C″ = cost-is j x; T = j .period; J = j .jitter }
+  whole-within : c .lead + c .u + i .payload ≤ cost
+  whole-within = omega (arith, framed .little, framed .small, fine .rows .stream k among .payload)
 
-  urgent-is : map (shareOf (c .v + c .u)) (rule.hp p i) ≡ map (rule.share p) (rule.hp p i)
-  urgent-is = ap (λ f. map f (rule.hp p i)) (λ x j. share-is j x)
+  -- a share once its cost is the airtime
+  abbrev aired : bound.Share → bound.Share
+  aired j = record { C″ = rule.selfOrSlotted slot (j .C″) slot; T = j .T; J = j .J }
 
-  module _ (costs₀ periods₀ jitters costs periods : List ℕ) (urgent own hit b period jitter : ℕ)
-      (eb : (b ≡ largestOf (blocks (c .u) (i .priority)) (rows n (rowStream ws))) × (b ≤ cost)) (eo : own ≡ c .v + c .u + i .payload)
-      (eg : Gathers ws n (i .priority) (c .v + c .u) costs₀ periods₀ jitters urgent)
-      (eh : (hit ≡ max (c .v + c .u + i .payload) (largestOf (λ x. x) (rows urgent (λ j. getD costs₀ j 0)))) × (hit ≤ cost))
-      (ec : After (λ j. hit) m urgent costs₀ costs) (ep : After (λ j. getD ws (layout.streamAt n + j) 0) m urgent periods₀ periods)
+  urgent-is : map aired (map (shareOf (c .lead + c .u)) (rule.hp p i)) ≡ map (rule.share t) (rule.hp p i)
+  urgent-is =
+      map-map aired (shareOf (c .lead + c .u)) (rule.hp p i)
+      ∙ ap (λ f. map f (rule.hp p i)) (λ x j. record { C″ = either-is (whole-is j) slot-is x; T = j .period; J = j .jitter })
+
+  module _ (costs₀ periods₀ jitters costs₁ costs periods : List ℕ) (found o : Others) (whole own period jitter : ℕ)
+      (ew : whole ≡ c .lead + c .u + i .payload) (eo : own ≡ rule.selfOrSlotted slot whole slot)
+      (eg : Gathers ws n (i .priority) (c .lead + c .u) costs₀ periods₀ jitters (found .urgent))
+      (ex : Extremes ws n (i .priority) (c .u) (c .lead + c .u + i .payload) costs₀ found) (es : Slotted slot found costs₀ costs₁ o)
+      (ec : After (λ j. o .hit) m (o .urgent) costs₁ costs) (ep : After (λ j. getD ws (layout.streamAt n + j) 0) m (o .urgent) periods₀ periods)
       (et : (period ≡ i .period) × (period < 2 ^ 32)) (ej : (jitter ≡ i .jitter) × (jitter < 2 ^ 32)) where
     abbrev row : Gathered
-    row = record { blocking = b; cost = own; period = period; jitter = jitter; urgent = urgent; sources = m; hit = hit; late = c .v; last = own }
+    row = record { blocking = o .blocking; cost = own; period = period; jitter = jitter; urgent = o .urgent; sources = m; hit = o .hit; late = c .late; last = whole }
 
     abbrev given : Lent
     given = lent row costs periods jitters
 
-    -- the shares of hp(i), once the noise stands after them
-    shares-are : rows urgent (lentShare costs periods jitters) ≡ map (rule.share p) (rule.hp p i)
-    unfolding planIn
-    shares-are = rows-same urgent _ _ (λ j h. rw (ec .front j h, ep .front j h) refl) ∙ eg .is ∙ urgent-is
+    -- a share of hp(i), once the slots stand in the costs and the noise after them
+    share-at : (j : ℕ) → j < o .urgent → lentShare costs periods jitters j ≡ aired (lentShare costs₀ periods₀ jitters j)
+    share-at j h = rw (ec .front j h, ep .front j h, es .costs j (omega (arith, es .urgent))) refl
 
-    costs-are : largestOf (λ x. x) (rows urgent (λ j. getD costs₀ j 0)) ≡ largestOf (rule.C″ p) (rule.hp p i)
+    shares-are : rows (o .urgent) (lentShare costs periods jitters) ≡ map (rule.share t) (rule.hp p i)
+    unfolding planIn
+    shares-are =
+        rows-same (o .urgent) _ _ share-at
+        ∙ ap (λ r. rows r (λ j. aired (lentShare costs₀ periods₀ jitters j))) (es .urgent)
+        ∙ sym (rows-map aired (found .urgent) (lentShare costs₀ periods₀ jitters))
+        ∙ ap (map aired) (eg .is)
+        ∙ urgent-is
+
+    costs-are : largestOf (λ x. x) (rows (found .urgent) (λ j. getD costs₀ j 0)) ≡ largestOf (rule.C″ t) (rule.hp p i)
     unfolding planIn
     costs-are =
-        ap (largestOf (λ x. x)) (sym (rows-map (λ (j : bound.Share). j .C″) urgent (lentShare costs₀ periods₀ jitters)))
-        ∙ largest-map (λ x. x) (λ (j : bound.Share). j .C″) (rows urgent (lentShare costs₀ periods₀ jitters))
-        ∙ ap (largestOf (λ (j : bound.Share). j .C″)) (eg .is ∙ urgent-is)
-        ∙ largest-map (λ (j : bound.Share). j .C″) (rule.share p) (rule.hp p i)
+        ap (largestOf (λ x. x)) (sym (rows-map (λ (j : bound.Share). j .C″) (found .urgent) (lentShare costs₀ periods₀ jitters)))
+        ∙ largest-map (λ x. x) (λ (j : bound.Share). j .C″) (rows (found .urgent) (lentShare costs₀ periods₀ jitters))
+        ∙ ap (largestOf (λ (j : bound.Share). j .C″)) (eg .is)
+        ∙ largest-map (λ (j : bound.Share). j .C″) (shareOf (c .lead + c .u)) (rule.hp p i)
+        ∙ ap (λ f. largestOf f (rule.hp p i)) (λ x j. whole-is j x)
 
-    own-is : own ≡ rule.C″ p i
-    own-is = eo ∙ cost-is i
+    last-is : whole ≡ rule.C″ t i
+    last-is = ew ∙ whole-is i
 
-    hit-is : hit ≡ rule.hit p i
-    unfolding rule.hit largestOf
-    hit-is = eh .0 ∙ ap₂ max (cost-is i) costs-are
+    own-is : own ≡ rule.airtime t i
+    own-is = eo ∙ either-is last-is slot-is
+
+    blocked-is : o .blocking ≡ rule.B p i
+    unfolding rule.B planIn
+    blocked-is = es .blocking ∙ either-is (ex .blocking ∙ blocking-is) (ap (λ s. s - 1) slot-is)
+
+    hit-is : o .hit ≡ rule.hit p i
+    unfolding rule.hit largestOf planIn
+    hit-is = es .hit ∙ either-is (ex .hit ∙ ap₂ max (whole-is i) costs-are) slot-is
 
     terms-are : termsOf given ≡ rule.terms p i
     unfolding rule.terms planIn
     terms-are = λ j.
         record {
-          B = (eb .0 ∙ blocking-is) j;
+          B = blocked-is j;
           own = record { C″ = own-is j; T = et .0 j; J = ej .0 j };
           urgent = shares-are j;
-          gaps = rows-same m (λ h. getD periods (urgent + h) 0) (λ h. getD ws (layout.gapAt n h) 0) (ep .put) j;
+          gaps = rows-same m (λ h. getD periods (o .urgent + h) 0) (λ h. getD ws (layout.gapAt n h) 0) (ep .put) j;
           hit = hit-is j;
-          late = framed .v j;
-          last = own-is j;
+          late = framed .late-is j;
+          last = last-is j;
         }
+
+    -- they are sound, since the stream fits its slot
+    sound : Sound (termsOf given)
+    unfolding planIn
+    sound = rw terms-are (terms-sound p i (fine .rows .stream k among) (fine .slots k among))
 
     row-fits : rowFits row ≡ true
     unfolding rowFits
     row-fits =
-        let w = fine .rows .stream k among in
+        let h : o .hit ≤ cost = rw (es .hit) (either-within slot (ex .small) few-ticks) in
+        let b : o .blocking ≤ cost = rw (es .blocking) (either-within slot (ex .little) (omega (arith, few-ticks))) in
+        let each : own ≤ cost = rw eo (either-within slot (omega (arith, ew, whole-within)) few-ticks) in
         simp (
-          le-leb b cost (eb .1),
-          le-leb hit cost (eh .1),
-          lt-ltb (c .v) own (omega (arith, eo, w .some-payload)),
-          le-leb 1 own (omega (arith, eo, w .some-payload)),
-          le-leb own own (omega arith),
-          le-leb urgent streams (omega (arith, eg .few, fine .rows .few)),
+          le-leb (o .blocking) cost b,
+          le-leb (o .hit) cost h,
+          lt-ltb (c .late) own (omega (arith, sound .late)),
+          le-leb 1 whole (sound .ends),
+          le-leb whole own (sound .last),
+          le-leb (o .urgent) streams (omega (arith, es .urgent, eg .few, fine .rows .few)),
           le-leb m sources (fine .quiet),
-          fits-here {a = own} {b = period} {d = jitter} (omega (arith, eo, framed .little, framed .small, w .payload)) et ej (w .some-period),
+          fits-here {a = own} {b = period} {d = jitter} each et ej (fine .rows .stream k among .some-period),
         )
+
+    shares-fit : (j : ℕ) → j < o .urgent → shareFits (lentShare costs periods jitters j) ≡ true
+    shares-fit j h =
+        ap shareFits (share-at j h) ∙ fits-either slot (lentShare costs₀ periods₀ jitters j) few-ticks (eg .fits j (omega (arith, es .urgent)))
 
     terms-fit : fits given ≡ true
     unfolding fits
     terms-fit =
         simp (
           row-fits,
-          every-all (λ j. shareFits (lentShare costs periods jitters j)) urgent (λ j h. rw (ec .front j h, ep .front j h) (eg .fits j h)),
-          every-all (λ j. sourceFits hit (getD costs (urgent + j) 0) (getD periods (urgent + j) 0)) m
-              (λ j h. rw (ec .put j h, ep .put j h) (simp (le-leb _ _ (fine .gap j h .some-gap), le-leb _ _ (fine .gap j h .gap), eq-eqb hit hit refl))),
+          every-all (λ j. shareFits (lentShare costs periods jitters j)) (o .urgent) shares-fit,
+          every-all (λ j. sourceFits (o .hit) (getD costs (o .urgent + j) 0) (getD periods (o .urgent + j) 0)) m
+              (λ j h. rw (ec .put j h, ep .put j h) (simp (le-leb _ _ (fine .gap j h .some-gap), le-leb _ _ (fine .gap j h .gap), eq-eqb (o .hit) (o .hit) refl))),
         )
 
     pub gathered-is : RowTerms ws n m k given
     gathered-is =
         record {
-          long = record { of-costs = ec .long ∙ eg .long .of-costs; of-periods = ep .long ∙ eg .long .of-periods; of-jitters = eg .long .of-jitters };
+          long = record { of-costs = ec .long ∙ es .long ∙ eg .long .of-costs; of-periods = ep .long ∙ eg .long .of-periods; of-jitters = eg .long .of-jitters };
           fits = terms-fit;
           is = terms-are;
         }

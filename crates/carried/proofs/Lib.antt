@@ -1,2 +1,3 @@
+pub mod Editions
 pub mod Plans
 pub mod Unique

@@ -99,16 +99,22 @@ module _ (ws : List ℕ) where
   pub gaps-back : (n m : ℕ) → layout.gapAt n m ≤ length ws → rows m (λ k. getD ws (layout.gapAt n k) 0) ≡ take m (drop (layout.streamAt n) ws)
   gaps-back n m long = rows-part (layout.streamAt n) m ws 0 long
 
+  -- all words after the timing's
+  pub tail-back : (n m : ℕ) → layout.gapAt n m ≤ length ws
+      → flatMap streamWords (rows n (λ r. streamIn ws (layout.streamAt r))) ++ rows m (λ k. getD ws (layout.gapAt n k) 0)
+      ≡ take (layout.streamLength * n + m) (drop layout.timingLength ws)
+  tail-back n m long =
+      let t = layout.timingLength in
+      let s = layout.streamLength * n in
+      ap₂ _++_ (streams-back n (omega arith)) (gaps-back n m long ∙ ap (take m) (sym (drop-drop s t ws))) ∙ sym (take-add s m (drop t ws))
+
 pub values-back : ValuesBack
 unfolding planIn
 values-back n m ws long =
     let t = layout.timingLength in
     let s = layout.streamLength * n in
     let k : t + (s + m) ≡ layout.gapAt n m = omega arith in
-    ap₂ _++_ (timing-back ws (omega arith))
-    (ap₂ _++_ (streams-back ws n (omega arith)) (gaps-back ws n m long ∙ ap (take m) (sym (drop-drop s t ws))) ∙ sym (take-add s m (drop t ws)))
-    ∙ sym (take-add t (s + m) ws)
-    ∙ ap (λ j. take j ws) k
+    ap₂ _++_ (timing-back ws (omega arith)) (tail-back ws n m long) ∙ sym (take-add t (s + m) ws) ∙ ap (λ j. take j ws) k
 
 -- ---- a plan is what is read from its words
 pub plan-reads : (n m : ℕ) (vs ws : List ℕ) → ((k : ℕ) → k < layout.gapAt n m → getD vs k 0 ≡ getD ws k 0) → planIn n m vs ≡ planIn n m ws
@@ -120,7 +126,7 @@ plan-reads n m vs ws e =
     let s : (j : ℕ) → j < layout.streamLength → getD vs (layout.streamAt r + j) 0 ≡ getD ws (layout.streamAt r + j) 0 = λ j g. e (layout.streamAt r + j) (omega arith) in
     rw (e (layout.streamAt r) (omega arith), s 1 (omega arith), s 2 (omega arith), s 3 (omega arith), s 4 (omega arith), s 5 (omega arith)) refl) in
     let gaps : rows m (λ k. getD vs (layout.gapAt n k) 0) ≡ rows m (λ k. getD ws (layout.gapAt n k) 0) = rows-same m _ _ (λ k h. e (layout.gapAt n k) (omega arith)) in
-    rw (t 0 (omega arith), t 1 (omega arith), t 2 (omega arith), t 3 (omega arith), t 4 (omega arith), t 5 (omega arith), t 6 (omega arith), t 7 (omega arith), t 8 (omega arith), rows-same n _ _ stream, gaps) refl
+    rw (t 0 (omega arith), t 1 (omega arith), t 2 (omega arith), t 3 (omega arith), t 4 (omega arith), t 5 (omega arith), t 6 (omega arith), t 7 (omega arith), t 8 (omega arith), t 9 (omega arith), rows-same n _ _ stream, gaps) refl
 
 -- in places, where they have room, words hold the plan that they held
 pub plan-in-places : (n m : ℕ) (ws : List ℕ) → n ≤ streams → m ≤ sources → planIn n m (inPlaces ws) ≡ planIn n m ws

@@ -9,11 +9,12 @@ use Rattle.plan.specs.declared.Timing.{Timing}
 use Rattle.plan.specs.declared.Stream.{Stream}
 use Rattle.plan.specs.declared.Sheet.{Sheet}
 use Rattle.plan.specs.Plan.{Plan, blank, planOf}
+use Rattle.carried.specs.declared.Edition.{Edition}
 use Rattle.carried.specs.Layout as layout
 
 -- ---- from words to a plan; a word past the end is 0
 
--- F, E, TFCS, SWX, H, G, ETG, LAG, NB
+-- F, E, TFCS, SWX, H, G, ETG, LAG, NB, P
 abbrev pub timingIn : List ℕ → Timing
 timingIn ws =
     record {
@@ -26,6 +27,7 @@ timingIn ws =
       etg = getD ws 6 0;
       lag = getD ws 7 0;
       nb = getD ws 8 0;
+      p = getD ws 9 0;
     }
 
 -- label, priority, T, J, C, D from word k on
@@ -54,10 +56,14 @@ planIn n m ws = record { timing = timingIn ws; streams = streamsIn n ws; gaps = 
 -- ---- from a plan to its words
 
 abbrev pub timingWords : Timing → List ℕ
-timingWords t = t .f ∷ t .e ∷ t .tfcs ∷ t .swx ∷ t .h ∷ t .g ∷ t .etg ∷ t .lag ∷ t .nb ∷ []
+timingWords t = t .f ∷ t .e ∷ t .tfcs ∷ t .swx ∷ t .h ∷ t .g ∷ t .etg ∷ t .lag ∷ t .nb ∷ t .p ∷ []
 
 abbrev pub streamWords : Stream → List ℕ
 streamWords s = s .label .0 ∷ s .priority .0 ∷ s .period ∷ s .jitter ∷ s .payload ∷ s .deadline ∷ []
+
+-- the edition that a plan is written in
+abbrev pub editionOf : Plan → Edition
+editionOf p = layout.editionFor (p .timing .p)
 
 abbrev pub valuesOf : Plan → List ℕ
 valuesOf p = timingWords (p .timing) ++ (flatMap streamWords (p .streams) ++ p .gaps)

@@ -24,23 +24,47 @@ ghost use Rattle.carried.specs.Layout as layout;
 ghost use Rattle.carried.specs.Carried.{timingIn, streamIn, streamsIn, gapsIn, planIn};
 ghost use Rattle.carried.specs.Carried.{timingWords, streamWords, valuesOf, inPlaces, sheetOf};
 
+// A file of edition 1 has a plan without a master node, and no word for P; one of edition 2 has a plan with one.
+pub enum Edition {
+    One,
+    Two,
+}
+
 // A word's bytes, and the words of a file's contents, of the timing and of a stream. A noise gap is one word.
 pub const WORD: usize = 4;
 
 pub const CONTENTS: usize = 11;
 
-pub const TIMING: usize = 9;
+pub const TIMING: usize = 10;
 
 pub const STREAM: usize = 6;
 
 // The words of the largest plan.
 pub const CARRIED: usize = TIMING + STREAM * STREAMS + SOURCES;
 
+// The edition that a plan is written in: P decides.
+pub fn edition_for(p: u32) -> Edition
+    ensures { λ r. ⌜ r ≡ layout.editionFor p ⌝ }
+{
+    if p == 0 { Edition::One } else { Edition::Two }
+}
+
+// How many timing words a file has.
+pub fn timing_body(edition: Edition) -> usize
+    ensures { λ r. ⌜ r ≡ layout.timingBody edition ⌝ }
+    ensures { λ r. ⌜ r ≤ layout.timingLength ⌝ }
+{
+    match edition {
+        Edition::One => TIMING - 1,
+        Edition::Two => TIMING,
+    }
+}
+
 // The words of a timing, in their order.
 pub fn timing_words(t: Timing) -> [u32; TIMING]
     ensures { λ r. ⌜ r ≡ timingWords t ⌝ }
 {
-    [t.f, t.e, t.tfcs, t.swx, t.h, t.g, t.etg, t.lag, t.nb]
+    [t.f, t.e, t.tfcs, t.swx, t.h, t.g, t.etg, t.lag, t.nb, t.p]
 }
 
 fn stream_words(s: Stream) -> [u32; STREAM]
@@ -111,10 +135,11 @@ pub fn timing_in(words: &[u32; CARRIED]) -> Timing
         etg: words[6],
         lag: words[7],
         nb: words[8],
+        p: words[9],
     }
 }
 
-// The timing of the first nine words that a caller lends.
+// The timing of the first ten words that a caller lends; who lends nine has no master node.
 pub fn timing_from(values: &[u32]) -> Timing
     ensures { λ r. ⌜ r ≡ timingIn (now (values .entry)) ⌝ }
 {

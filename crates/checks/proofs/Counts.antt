@@ -14,8 +14,9 @@ use Rattle.judge.specs.declared.Checked.{Checked, the-variants.Fine, the-varian
 use Rattle.judge.specs.Table.{Line, judge, unless, _then_}
 use Rattle.judge.proofs.Table.{given, passed, nothing-given, not-given, unless-not, refused-not-fine, refused-then, judged-in-turn}
 use Rattle.plan.specs.Plan.{Plan}
+use Rattle.carried.specs.declared.Edition.{Edition}
 use Rattle.carried.specs.Carried.{planIn}
-use Rattle.checks.specs.Checks.{inRange, rangeLines, counted, fieldLines, rowLines, valueLines, lines}
+use Rattle.checks.specs.Checks.{inRange, rangeLines, counted, fieldLines, rowLines, slotLines, valueLines, lines}
 
 and-true : (t : Bool) → t && true ≡ t
 and-true true = refl
@@ -57,8 +58,8 @@ module _ (n m : ℕ) where
   fine-range e = range-within (unless-not (inRange n m) (not-given _ _ e .0))
 
   -- counts out of range are refused 2 at 0, whatever the plan and whatever comes after its lines
-  pub out-of-range : inRange n m ≡ false → (p : Plan) (more : List Line) → judge (lines n m p ++ more) ≡ Refused (record { number = 2; place = 0 })
-  out-of-range e p more = refused-then (lines n m p) more _ (given _ _ 0 (ap (λ t. unless (t && eqb (length (p .streams)) n && eqb (length (p .gaps)) m)) e))
+  pub out-of-range : inRange n m ≡ false → (edition : Edition) (p : Plan) (more : List Line) → judge (lines edition n m p ++ more) ≡ Refused (record { number = 2; place = 0 })
+  out-of-range e edition p more = refused-then (lines edition n m p) more _ (given _ _ 0 (ap (λ t. unless (t && eqb (length (p .streams)) n && eqb (length (p .gaps)) m)) e))
 
   -- a plan that has as many streams and gaps as are said
   module _ (p : Plan) (n-is : length (p .streams) ≡ n) (m-is : length (p .gaps) ≡ m) where
@@ -66,14 +67,23 @@ module _ (n m : ℕ) where
     counted-so = rw (eq-eqb (length (p .streams)) n n-is, eq-eqb (length (p .gaps)) m m-is) (and-true (inRange n m && true) ∙ and-true (inRange n m))
 
   -- of the words that are carried as many streams and gaps are taken as are said
-  pub ranges-counted : (ws : List ℕ) → let p = planIn n m ws in judge (rangeLines n m ++ valueLines p) ≡ judge (lines n m p)
+  pub ranges-counted : (edition : Edition) (ws : List ℕ)
+      → let p = planIn n m ws in judge (rangeLines n m ++ valueLines edition p) ≡ judge (lines edition n m p)
   unfolding planIn
-  ranges-counted ws =
+  ranges-counted edition ws =
       let p = planIn n m ws in
-      ap (λ t. judge (record { number = 2; place = unless t } ∷ valueLines p)) (sym (counted-so p (length-rows n _) (length-rows m _)))
+      ap (λ t. judge (record { number = 2; place = unless t } ∷ valueLines edition p)) (sym (counted-so p (length-rows n _) (length-rows m _)))
 
   -- so their table is judged part by part
-  pub carried-in-parts : (ws : List ℕ) → let p = planIn n m ws in judge (lines n m p) ≡ judge (rangeLines n m) then judge (fieldLines p) then judge (rowLines (p .streams))
-  carried-in-parts ws =
+  pub carried-in-parts : (edition : Edition) (ws : List ℕ)
+      → let p = planIn n m ws in
+      judge (lines edition n m p)
+      ≡ judge (rangeLines n m) then judge (fieldLines edition p) then judge (rowLines (p .streams)) then judge (slotLines (p .timing) (p .streams))
+  carried-in-parts edition ws =
       let p = planIn n m ws in
-      sym (ranges-counted ws) ∙ judged-in-turn (rangeLines n m) (valueLines p) ∙ ap (λ c. judge (rangeLines n m) then c) (judged-in-turn (fieldLines p) (rowLines (p .streams)))
+      let slots = slotLines (p .timing) (p .streams) in
+      sym (ranges-counted edition ws)
+      ∙ judged-in-turn (rangeLines n m) (valueLines edition p)
+      ∙ ap (λ c. judge (rangeLines n m) then c)
+      (judged-in-turn (fieldLines edition p) (rowLines (p .streams) ++ slots)
+      ∙ ap (λ c. judge (fieldLines edition p) then c) (judged-in-turn (rowLines (p .streams)) slots))

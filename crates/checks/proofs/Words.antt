@@ -11,8 +11,9 @@ use lib.Seq.{length-take-le}
 use Rattle.names.specs.Limits.{streams, sources}
 use Rattle.plan.specs.declared.Sheet.{Sheet}
 use Rattle.plan.specs.Plan.{Plan, planOf}
+use Rattle.carried.specs.declared.Edition.{Edition}
 use Rattle.carried.specs.Layout as layout
-use Rattle.carried.specs.Carried.{planIn, valuesOf, inPlaces}
+use Rattle.carried.specs.Carried.{planIn, editionOf, valuesOf, inPlaces}
 use Rattle.plan.proofs.Places.{Owned, stream-places, gap-places}
 use Rattle.carried.proofs.Plans.{length-values, plan-in-values}
 use Rattle.laws.proofs.Placed.{placed-short}
@@ -23,7 +24,7 @@ use Rattle.judge.proofs.Table.{fine-parts}
 use Rattle.checks.proofs.Counts.{too-many, too-noisy, out-of-range}
 use Rattle.checks.proofs.Fine.{fine-if-right}
 
-module _ (s : Sheet) (o : Owned s) where
+module _ (s : Sheet) (o : Owned s) (edition : Edition) where
   -- the plan in the sheet's words
   abbrev pub planInWords : Plan
   planInWords = planIn (s .count) (s .sources) (inPlaces (valuesOf (planOf s)))
@@ -40,25 +41,25 @@ module _ (s : Sheet) (o : Owned s) where
   -- the table of the values, with whatever lines after it
   module _ (more : List Line) where
     both-refused : inRange (s .count) (s .sources) ≡ false
-        → judge (lines (s .count) (s .sources) planInWords ++ more) ≡ judge (lines (s .count) (s .sources) (planOf s) ++ more)
-    both-refused e = out-of-range (s .count) (s .sources) e planInWords more ∙ sym (out-of-range (s .count) (s .sources) e (planOf s) more)
+        → judge (lines edition (s .count) (s .sources) planInWords ++ more) ≡ judge (lines edition (s .count) (s .sources) (planOf s) ++ more)
+    both-refused e = out-of-range (s .count) (s .sources) e edition planInWords more ∙ sym (out-of-range (s .count) (s .sources) e edition (planOf s) more)
 
-    pub same-lines : judge (lines (s .count) (s .sources) planInWords ++ more) ≡ judge (lines (s .count) (s .sources) (planOf s) ++ more)
+    pub same-lines : judge (lines edition (s .count) (s .sources) planInWords ++ more) ≡ judge (lines edition (s .count) (s .sources) (planOf s) ++ more)
     same-lines =
         elim (decLe (s .count) streams) [
           | yes few ↦
               elim (decLe (s .sources) sources) [
-                | yes quiet ↦ ap (λ p. judge (lines (s .count) (s .sources) p ++ more)) (same-plan few quiet)
+                | yes quiet ↦ ap (λ p. judge (lines edition (s .count) (s .sources) p ++ more)) (same-plan few quiet)
                 | no noisy ↦ both-refused (too-noisy (s .count) (s .sources) (lt-of-not-le noisy))
               ]
           | no many ↦ both-refused (too-many (s .count) (s .sources) (lt-of-not-le many))
         ]
 
-    pub same-plan-if-fine : judge (lines (s .count) (s .sources) (planOf s) ++ more) ≡ Fine → planInWords ≡ planOf s
+    pub same-plan-if-fine : judge (lines edition (s .count) (s .sources) (planOf s) ++ more) ≡ Fine → planInWords ≡ planOf s
     same-plan-if-fine e =
-        let r = fine-if-right (s .count) (s .sources) (planOf s) .0 (fine-parts (lines (s .count) (s .sources) (planOf s)) more e .0) in
+        let (is, r) = fine-if-right edition (s .count) (s .sources) (planOf s) .0 (fine-parts (lines edition (s .count) (s .sources) (planOf s)) more e .0) in
         same-plan (omega (arith, r .count, r .within .count)) (omega (arith, r .sources, r .within .sources))
 
-  pub same-check : judge (lines (s .count) (s .sources) planInWords) ≡ checkedOf s
-  unfolding checkedOf
-  same-check = same-lines []
+pub same-check : (s : Sheet) (o : Owned s) → let e = editionOf (planOf s) in judge (lines e (s .count) (s .sources) (planInWords s o e)) ≡ checkedOf s
+unfolding checkedOf
+same-check s o = same-lines s o (editionOf (planOf s)) []

@@ -1,4 +1,5 @@
--- Document 01, "When the answer is no": refusals 2 to 5 of a plan's values, as the lines of its table in their order.
+-- Document 01, "When the answer is no", and document 02, request 01: refusals 2, 3, 4, 5 and 10 of a plan's values, as the lines of their
+-- table. The order of the lines decides, and not the size of a number.
 use mathlib.Core.Path.{_≡_}
 use mathlib.Core.Bool.{Bool, _&&_}
 use mathlib.Core.List.{List, [], _∷_, _++_, map}
@@ -8,13 +9,18 @@ use lib.Dec.{leb, eqb}
 use lib.ListN.{length, getD}
 use Rattle.names.specs.Limits.{streams, sources, ticks}
 use Rattle.laws.specs.declared.Found.{Found, the-variants.At, the-variants.Nothing}
+use Rattle.laws.specs.Search.{first}
 use Rattle.repeats.specs.Repeats.{firstRepeat, Distinct}
 use Rattle.judge.specs.declared.Checked.{Checked, the-variants.Fine}
 use Rattle.judge.specs.Table.{Line, judge, unless, rowIn}
+use Rattle.plan.specs.declared.Timing.{Timing}
 use Rattle.plan.specs.declared.Stream.{Stream}
 use Rattle.plan.specs.declared.Sheet.{Sheet}
-use Rattle.plan.specs.Plan.{Plan, planOf, at, Within}
+use Rattle.plan.specs.Plan.{Plan, planOf, blank, at, Within}
+use Rattle.plan.specs.Rules.{exceedsSlot, FitsSlot}
+use Rattle.carried.specs.declared.Edition.{Edition}
 use Rattle.carried.specs.Layout as layout
+use Rattle.carried.specs.Carried.{editionOf}
 use Rattle.fields.specs.Fields.{fields, lowest}
 
 -- ---- the counts
@@ -33,14 +39,14 @@ counted n m p = inRange n m && eqb (length (p .streams)) n && eqb (length (p .ga
 
 -- ---- the fields
 
--- the byte at which a field that was found stands in a plan file
-abbrev pub byteIn : Found → Found
-byteIn (At k) = At (layout.byteOf k)
-byteIn Nothing = Nothing
+-- the byte at which a field that was found stands in a plan file of an edition
+abbrev pub byteIn : Edition → Found → Found
+byteIn edition (At k) = At (layout.byteOf (layout.inBodies edition k))
+byteIn edition Nothing = Nothing
 
 -- 3: a field is outside its limits (the lowest)
-abbrev pub fieldLines : Plan → List Line
-fieldLines p = record { number = 3; place = byteIn (lowest 0 (fields p)) } ∷ []
+abbrev pub fieldLines : Edition → Plan → List Line
+fieldLines edition p = record { number = 3; place = byteIn edition (lowest 0 (fields edition p)) } ∷ []
 
 -- ---- the rows
 
@@ -57,22 +63,26 @@ rowLines ss =
     ∷ record { number = 5; place = rowIn (firstRepeat (labels ss)) }
     ∷ []
 
--- ---- all of them
+-- 10: a stream's C'' exceeds P (the lowest row)
+abbrev pub slotLines : Timing → List Stream → List Line
+slotLines t ss = record { number = 10; place = first (λ k. exceedsSlot t (getD ss k blank)) 0 (length ss) } ∷ []
 
-abbrev pub valueLines : Plan → List Line
-valueLines p = fieldLines p ++ rowLines (p .streams)
+-- ---- all of them: 3, then 4 and 5, then 10
 
--- of a plan that is said to have n streams and m noise sources
-abbrev pub lines : ℕ → ℕ → Plan → List Line
-lines n m p = record { number = 2; place = unless (counted n m p) } ∷ valueLines p
+abbrev pub valueLines : Edition → Plan → List Line
+valueLines edition p = fieldLines edition p ++ rowLines (p .streams) ++ slotLines (p .timing) (p .streams)
 
--- the answer to a sheet's values
+-- of a plan in an edition that is said to have n streams and m noise sources
+abbrev pub lines : Edition → ℕ → ℕ → Plan → List Line
+lines edition n m p = record { number = 2; place = unless (counted n m p) } ∷ valueLines edition p
+
+-- the answer to a sheet's values, with the places of the edition that P asks for
 unfoldable pub checkedOf : Sheet → Checked
-checkedOf s = judge (lines (s .count) (s .sources) (planOf s))
+checkedOf s = judge (lines (editionOf (planOf s)) (s .count) (s .sources) (planOf s))
 
 -- ---- What is proved of the table of a plan's refusals; the proofs are in proofs/Fine.antt.
 
--- a plan of n streams and m gaps that is within the limits, with distinct priorities and distinct labels
+-- a plan of n streams and m gaps that is within the limits, with distinct priorities and distinct labels, each stream fitting its slot
 pub record Right (n m : ℕ) (p : Plan) : Type 0 where
   pub within : Within p
   pub count : length (p .streams) ≡ n
@@ -80,10 +90,11 @@ pub record Right (n m : ℕ) (p : Plan) : Type 0 where
   pub label : (k : ℕ) → k < length (p .streams) → at p k .label .0 ≤ ticks
   pub priorities : Distinct (priorities (p .streams))
   pub labels : Distinct (labels (p .streams))
+  pub slots : (k : ℕ) → k < length (p .streams) → FitsSlot (p .timing) (at p k)
 
--- the values are fine exactly if they are a right plan
+-- the values are fine exactly if they are a right plan, in the edition that P asks for
 abbrev pub FineIfRight : Type 0
-FineIfRight = (n m : ℕ) (p : Plan) → (judge (lines n m p) ≡ Fine) ↔ Right n m p
+FineIfRight = (edition : Edition) (n m : ℕ) (p : Plan) → (judge (lines edition n m p) ≡ Fine) ↔ ((edition ≡ editionOf p) × Right n m p)
 
 -- what a sheet that is fine promises
 abbrev pub FineWithin : Type 0

@@ -1,14 +1,19 @@
-// Refusals 2 to 5 of a plan's values, in their order, with the places that the plan's file has: the counts, the fields, the rows, each
-// by itself, and all of them.
+// Refusals 2, 3, 4, 5 and 10 of a plan's values, in this order, with the places that the plan's file has: the counts, the fields, the
+// rows, each by itself, and all of them.
 //
 // Every public function answers for every input, and what `check` and `check_words` call fine is within document 01's limits, with
-// distinct priorities and distinct labels. Nothing is assumed. This crate knows of no bytes but where a field stands in them.
+// distinct priorities and distinct labels, and fits its slots. Nothing is assumed. This crate knows of no bytes but where a field stands in
+// them.
 use carried::CARRIED;
 use carried::CONTENTS;
+use carried::Edition;
 use carried::STREAM;
 use carried::TIMING;
 use carried::WORD;
+use carried::edition_for;
+use carried::timing_in;
 use carried::words_of;
+use costs::overheads_of;
 use fields::outside;
 use judge::Checked;
 use judge::refused;
@@ -21,18 +26,23 @@ use plan::Sheet;
 use repeats::first_repeat;
 ghost use mathlib.Core.Path.{_≡_};
 ghost use Prim.Native.Nat.{_+_, _≤_, _<_, min};
+ghost use lib.Dec.{ltb};
 ghost use lib.ListN.{length, getD, take};
 ghost use Rattle.names.specs.Limits as limit;
 ghost use Rattle.laws.specs.Lists.{rows};
 ghost use Rattle.judge.specs.Table.{judge};
 ghost use Rattle.carried.specs.Layout as layout;
-ghost use Rattle.carried.specs.Carried.{streamsIn, planIn};
-ghost use Rattle.checks.specs.Checks.{rangeLines, fieldLines, rowLines, lines, checkedOf};
+ghost use Rattle.plan.specs.Plan.{TimingWithin};
+ghost use Rattle.costs.specs.Costs.{mostV, mostU};
+ghost use Rattle.carried.specs.Carried.{timingIn, streamsIn, planIn};
+ghost use Rattle.checks.specs.Checks.{rangeLines, fieldLines, rowLines, slotLines, lines, checkedOf};
 
-// The words of a stream that have its label and its priority.
+// The words of a stream that have its label, its priority and its payload.
 const LABEL: usize = 0;
 
 const PRIORITY: usize = 1;
+
+const PAYLOAD: usize = 4;
 
 // Word k of each stream, in row order: a column of plain numbers, as it can be lent.
 fn column(words: &[u32], n: usize, k: usize) -> [u32; STREAMS]
@@ -64,13 +74,30 @@ pub fn check_counts(n: usize, m: usize) -> Checked
     Checked::Fine
 }
 
+// Where in a file word k of those that are carried stands: edition 1 has no P, and all that comes after is a word earlier.
+fn byte_of(edition: Edition, k: usize) -> usize
+    requires { ⌜ k < layout.largest ⌝ }
+    ensures { λ r. ⌜ r ≡ layout.byteOf (layout.inBodies edition k) ⌝ }
+{
+    match edition {
+        Edition::One => {
+            if k < TIMING {
+                WORD * (CONTENTS + k)
+            } else {
+                WORD * (CONTENTS + (k - 1))
+            }
+        }
+        Edition::Two => WORD * (CONTENTS + k),
+    }
+}
+
 // 3: the byte of the lowest field outside its limits, of the plan of n streams and m gaps in the words. Of counts past the limits the
 // plan has as many as it may; with no stream the timing and the gaps alone are looked at.
-pub fn check_fields(words: &[u32; CARRIED], n: usize, m: usize) -> Checked
-    ensures { λ r. ⌜ r ≡ judge (fieldLines (planIn (min n limit.streams) (min m limit.sources) (now (words .entry)))) ⌝ }
+pub fn check_fields(edition: Edition, words: &[u32; CARRIED], n: usize, m: usize) -> Checked
+    ensures { λ r. ⌜ r ≡ judge (fieldLines edition (planIn (min n limit.streams) (min m limit.sources) (now (words .entry)))) ⌝ }
 {
-    match outside(words, n, m) {
-        Found::At(k) => refused(3, WORD * (CONTENTS + k as usize)),
+    match outside(edition, words, n, m) {
+        Found::At(k) => refused(3, byte_of(edition, k as usize)),
         Found::Nothing => Checked::Fine,
     }
 }
@@ -92,25 +119,63 @@ pub fn check_rows(words: &[u32; CARRIED], n: usize) -> Checked
     }
 }
 
-// The first refusal of 2, 3, 4, 5 that applies to the plan of n streams and m gaps in the words.
-pub fn check_words(words: &[u32; CARRIED], n: usize, m: usize) -> Checked
-    ensures { λ r. ⌜ r ≡ judge (lines n m (planIn n m (now (words .entry)))) ⌝ }
+// Whether a message does not fit its slot: what comes to its payload is given beside.
+fn too_long(slot: u32, beside: u64, payload: u32) -> bool
+    requires { ⌜ beside ≤ mostV + mostU ⌝ }
+    ensures { λ r. ⌜ r ≡ ltb slot (beside + payload) ⌝ }
+{
+    (slot as u64) < beside + payload as u64
+}
+
+// 10: the lowest row whose C'' exceeds P, where there is a master node.
+fn check_slots(words: &[u32; CARRIED], n: usize) -> Checked
+    requires { ⌜ TimingWithin (timingIn (now words)) ⌝ }
+    requires { ⌜ n ≤ limit.streams ⌝ }
+    ensures { λ r. ⌜ r ≡ judge (slotLines (timingIn (now (words .entry))) (streamsIn n (now (words .entry)))) ⌝ }
+{
+    let timing = timing_in(words);
+    let slot = timing.p;
+    if slot == 0 {
+        return Checked::Fine;
+    }
+    let c = overheads_of(timing);
+    let beside = c.lead + c.u;
+    for r in 0..n {
+        if too_long(slot, beside, words[TIMING + STREAM * r + PAYLOAD]) {
+            return refused(10, r);
+        }
+    }
+    Checked::Fine
+}
+
+// The first refusal of 2, 3, 4, 5, 10 that applies to the plan of n streams and m gaps in the words, as they stand in a file of an edition.
+pub fn check_words(edition: Edition, words: &[u32; CARRIED], n: usize, m: usize) -> Checked
+    ensures { λ r. ⌜ r ≡ judge (lines edition n m (planIn n m (now (words .entry)))) ⌝ }
 {
     match check_counts(n, m) {
         Checked::Refused(r) => return Checked::Refused(r),
         Checked::Fine => {}
     }
-    match check_fields(words, n, m) {
+    match check_fields(edition, words, n, m) {
         Checked::Refused(r) => return Checked::Refused(r),
         Checked::Fine => {}
     }
-    check_rows(words, n)
+    match check_rows(words, n) {
+        Checked::Refused(r) => return Checked::Refused(r),
+        Checked::Fine => {}
+    }
+    check_slots(words, n)
 }
 
-// The same of a sheet's values.
+// The same of a sheet's values, in the edition that P asks for.
 pub fn check(sheet: Sheet) -> Checked
     ensures { λ r. ⌜ r ≡ checkedOf sheet ⌝ }
 {
     let words = words_of(sheet);
-    check_words(&words, sheet.count, sheet.sources)
+    check_words(
+        edition_for(sheet.timing.p),
+        &words,
+        sheet.count,
+        sheet.sources,
+    )
 }

@@ -12,6 +12,7 @@ use Rattle.text.specs.Listing.{labelText}
 use Rattle.text.proofs.Size.{largest-refusal}
 use Rattle.compare.specs.declared.Reason.{Reason}
 use Rattle.compare.specs.declared.Reason.the-variants.{
+  MasterNode,
   GreaterConstant,
   NewLabel,
   ShorterPeriod,
@@ -68,10 +69,12 @@ constant-size (suc (suc (suc (suc zero)))) = omega arith
 constant-size (suc (suc (suc (suc (suc zero))))) = omega arith
 constant-size (suc (suc (suc (suc (suc (suc zero)))))) = omega arith
 constant-size (suc (suc (suc (suc (suc (suc (suc zero))))))) = omega arith
-constant-size (suc (suc (suc (suc (suc (suc (suc (suc k)))))))) = omega arith
+constant-size (suc (suc (suc (suc (suc (suc (suc (suc zero)))))))) = omega arith
+constant-size (suc (suc (suc (suc (suc (suc (suc (suc (suc k))))))))) = omega arith
 
 reason-size : (why : Reason) → named why ≤ ticks → length (reasonText why) ≤ 52
 unfolding reasonText greaterText noiseText
+reason-size MasterNode h = omega arith
 reason-size (GreaterConstant k) h = simp length-append (omega (arith, constant-size k))
 reason-size (NewLabel l) h = omega (arith, stream-size l (ascii " is not in the first plan") h)
 reason-size (ShorterPeriod l) h = omega (arith, stream-size l (ascii " has a shorter period") h)

@@ -8,7 +8,7 @@ use Rattle.names.specs.Limits.{ticks}
 use Rattle.judge.specs.declared.Checked.the-variants.{Fine}
 use Rattle.promise.specs.Lighter.{Lighter}
 use Rattle.compare.specs.declared.Reason.{Reason}
-use Rattle.compare.specs.declared.Reason.the-variants.{GreaterConstant, NewLabel, ShorterPeriod, LongerJitter}
+use Rattle.compare.specs.declared.Reason.the-variants.{MasterNode, GreaterConstant, NewLabel, ShorterPeriod, LongerJitter}
 use Rattle.compare.specs.declared.Reason.the-variants.{LongerPayload, ShorterDeadline, LessUrgent, MoreNoise}
 use Rattle.compare.specs.declared.Compared.{Compared}
 use Rattle.compare.specs.declared.Compared.the-variants.{FirstRefused, SecondRefused, Lighter as Compared·Lighter, RunAgain}
@@ -18,13 +18,13 @@ use Rattle.decimal.specs.Decimal.{digits}
 use Rattle.ascii.specs.Ascii.{ascii}
 use Rattle.text.specs.Listing.{labelText, refusedOf}
 
--- the timing constants in file order, NB the last
+-- the timing constants in file order, P the last
 abbrev pub constantNames : List (List ℕ)
 constantNames =
-    ascii "F" ∷ ascii "E" ∷ ascii "TFCS" ∷ ascii "SWX" ∷ ascii "H" ∷ ascii "G" ∷ ascii "ETG" ∷ ascii "LAG" ∷ []
+    ascii "F" ∷ ascii "E" ∷ ascii "TFCS" ∷ ascii "SWX" ∷ ascii "H" ∷ ascii "G" ∷ ascii "ETG" ∷ ascii "LAG" ∷ ascii "NB" ∷ []
 
 unfoldable pub constantName : ℕ → List ℕ
-constantName k = getD constantNames k (ascii "NB")
+constantName k = getD constantNames k (ascii "P")
 
 -- a timing constant is greater
 unfoldable pub greaterText : ℕ → List ℕ
@@ -36,6 +36,7 @@ noiseText gap = ascii "more noise sources with a gap of " ++ (digits gap ++ asci
 
 -- why a plan is to be run again
 unfoldable pub reasonText : Reason → List ℕ
+reasonText MasterNode = ascii "one plan has a master node and the other has none"
 reasonText (GreaterConstant k) = greaterText k
 reasonText (NewLabel l) = labelText l ++ ascii " is not in the first plan"
 reasonText (ShorterPeriod l) = labelText l ++ ascii " has a shorter period"
@@ -69,6 +70,7 @@ ToldLighter =
 
 -- the label or the gap that a reason names
 abbrev pub named : Reason → ℕ
+named MasterNode = 0
 named (GreaterConstant k) = 0
 named (NewLabel l) = l .0
 named (ShorterPeriod l) = l .0

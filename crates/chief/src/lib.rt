@@ -17,7 +17,7 @@ use text::lay_number;
 use text::lay_refusal;
 use text::lay_text;
 
-// The name of timing constant k, counted from 0 in file order; NB comes last.
+// The name of timing constant k, counted from 0 in file order; P comes last.
 fn lay_constant(out: &mut [u8], at: usize, k: usize) -> usize
     ensures { λ r. ⌜ Lays (now (out .entry)) at (told.constantName k) r (now (out .exit)) ⌝ }
 {
@@ -30,7 +30,8 @@ fn lay_constant(out: &mut [u8], at: usize, k: usize) -> usize
         5 => lay_text(out, at, b"G"),
         6 => lay_text(out, at, b"ETG"),
         7 => lay_text(out, at, b"LAG"),
-        _ => lay_text(out, at, b"NB"),
+        8 => lay_text(out, at, b"NB"),
+        _ => lay_text(out, at, b"P"),
     }
 }
 
@@ -60,6 +61,11 @@ fn lay_reason(out: &mut [u8], at: usize, why: Reason) -> usize
     ensures { λ r. ⌜ Lays (now (out .entry)) at (told.reasonText why) r (now (out .exit)) ⌝ }
 {
     match why {
+        Reason::MasterNode => lay_text(
+            out,
+            at,
+            b"one plan has a master node and the other has none",
+        ),
         Reason::GreaterConstant(k) => lay_greater(out, at, k),
         Reason::NewLabel(l) => lay_stream(out, at, l, b" is not in the first plan"),
         Reason::ShorterPeriod(l) => lay_stream(out, at, l, b" has a shorter period"),

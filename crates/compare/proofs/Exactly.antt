@@ -1,11 +1,13 @@
 -- The test is exact: of two plans that are not refused no condition is broken exactly if the second is lighter. Labels are distinct in the first,
 -- so the row that the test finds under a label is the row that a stream stands in. Assumes nothing.
 use mathlib.Core.Path.{_≡_, refl, sym, ap, _∙_}
-use mathlib.Core.Bool.{true, not, true≢false}
+use mathlib.Core.Bool.{Bool, true, false, not, Bool·beq, true≢false, false≢true}
 use mathlib.Core.List.{map}
 use Prim.Native.Nat.{ℕ, _≤_, _<_}
+use native.Mathlib.Nat.{lt-of-not-le}
+use native.Mathlib.Decide.{decLe}
 use native.Mathlib.Omega.{arith}
-use borrow.Author.Tests.{ltb-true, leb-true, eqb-true, lt-ltb, le-leb, eq-eqb, ne-eqb, not-true}
+use borrow.Author.Tests.{ltb-true, leb-true, leb-false, eqb-true, lt-ltb, le-leb, lt-leb, eq-eqb, ne-eqb, not-true}
 use lib.Dec.{leb, ltb}
 use lib.ListN.{length, getD, length-map, List·getD-map}
 use Rattle.names.specs.declared.Label.{Label}
@@ -18,12 +20,49 @@ use Rattle.plan.specs.declared.Stream.{Stream}
 use Rattle.plan.specs.Plan.{Plan, blank, at}
 use Rattle.carried.specs.Layout.{timingLength}
 use Rattle.carried.specs.Carried.{timingWords}
-use Rattle.promise.specs.Lighter.{NoGreater, Eased, Lighter, NotRefused}
+use Rattle.promise.specs.Lighter.{SameKit, NoGreater, Eased, Lighter, NotRefused}
 use Rattle.compare.specs.declared.Change.the-variants.{Nothing}
-use Rattle.compare.specs.Changes.{_or_, firstChange, grown, ofConstants, rowOf, eased, inRow, ofStream, numberIn, numberUnder, overtakes, urgency, ofGap, ofStreams, ofOrder, ofNoise, changes}
+use Rattle.compare.specs.declared.Reason.the-variants.{MasterNode}
+use Rattle.compare.specs.Changes.{_or_, firstChange, hasMaster, ofKit, grown, ofConstants, rowOf, eased, inRow, ofStream, numberIn, numberUnder, overtakes, urgency, ofGap, ofStreams, ofOrder, ofNoise, changes}
 use Rattle.compare.specs.Claims.{LighterExactly}
 use Rattle.compare.proofs.First.{of-not-nothing, or-nothing, must-nothing, must-true, passes, passes-then, no-reason, pass, nothing-if-none}
 use Rattle.compare.proofs.Gaps.{by-order, counts-of-partners, partners-of-counts}
+
+-- ---- the master node
+alike : (a b : Bool) → Bool·beq a b ≡ true → a ≡ b
+alike true true e = refl
+alike true false e = absurd (false≢true e)
+alike false true e = absurd (false≢true e)
+alike false false e = refl
+
+as-itself : (a : Bool) → Bool·beq a a ≡ true
+as-itself true = refl
+as-itself false = refl
+
+pub same-kit : (old new : Timing) → ofKit old new ≡ Nothing → SameKit old new
+same-kit old new e = (none old new same, none new old (sym same))
+  where
+    same : hasMaster old ≡ hasMaster new
+    same = alike (hasMaster old) (hasMaster new) (must-nothing _ _ e)
+
+    none : (s t : Timing) → hasMaster s ≡ hasMaster t → s .p ≡ 0 → t .p ≡ 0
+    none s t d z = omega (arith, leb-false 1 (t .p) (sym d ∙ lt-leb 1 (s .p) (omega arith)))
+
+pub kit-nothing : (old new : Timing) → SameKit old new → ofKit old new ≡ Nothing
+kit-nothing old new k = must-true (Bool·beq (hasMaster old) (hasMaster new)) MasterNode (ap (λ t. Bool·beq t (hasMaster new)) same ∙ as-itself (hasMaster new))
+  where
+    same : hasMaster old ≡ hasMaster new
+    same =
+        elim (decLe 1 (old .p)) [
+          | yes has ↦
+              elim (decLe 1 (new .p)) [
+                | yes too ↦ le-leb 1 (old .p) has ∙ sym (le-leb 1 (new .p) too)
+                | no none ↦ absurd (omega (arith, has, k .1 (omega (arith, lt-of-not-le none))))
+              ]
+          | no none ↦
+              let e = lt-of-not-le none in
+              lt-leb 1 (old .p) e ∙ sym (lt-leb 1 (new .p) (omega (arith, k .0 (omega (arith, e)))))
+        ]
 
 -- ---- the constants
 pub no-greater : (old new : Timing) → ofConstants old new ≡ Nothing → NoGreater old new
@@ -38,6 +77,7 @@ no-greater old new d =
       etg = least 6 (omega arith);
       lag = least 7 (omega arith);
       nb = least 8 (omega arith);
+      p = least 9 (omega arith);
     }
   where
     least : (k : ℕ) → k < timingLength → getD (timingWords new) k 0 ≤ getD (timingWords old) k 0
@@ -46,7 +86,7 @@ no-greater old new d =
 pub constants-nothing : (old new : Timing) → NoGreater old new → ofConstants old new ≡ Nothing
 unfolding firstChange
 constants-nothing old new n =
-    rw (le-leb _ _ (n .f), le-leb _ _ (n .e), le-leb _ _ (n .tfcs), le-leb _ _ (n .swx), le-leb _ _ (n .h), le-leb _ _ (n .g), le-leb _ _ (n .etg), le-leb _ _ (n .lag), le-leb _ _ (n .nb)) refl
+    rw (le-leb _ _ (n .f), le-leb _ _ (n .e), le-leb _ _ (n .tfcs), le-leb _ _ (n .swx), le-leb _ _ (n .h), le-leb _ _ (n .g), le-leb _ _ (n .etg), le-leb _ _ (n .lag), le-leb _ _ (n .nb), le-leb _ _ (n .p)) refl
 
 -- ---- a stream beside the one that it stands in
 pub eases : (old new : Stream) → eased old new ≡ Nothing → Eased old new
@@ -96,6 +136,7 @@ row-under p a l r h e =
 
 -- ---- all the conditions
 pub record Unbroken (old new : Plan) : Type 0 where
+  pub kit : ofKit (old .timing) (new .timing) ≡ Nothing
   pub constants : ofConstants (old .timing) (new .timing) ≡ Nothing
   pub streams : (k : ℕ) → k < length (new .streams) → ofStream old (at new k) ≡ Nothing
   pub order : (k : ℕ) → k < length (new .streams) → urgency old new k ≡ Nothing
@@ -104,10 +145,12 @@ pub record Unbroken (old new : Plan) : Type 0 where
 pub unbroken : (old new : Plan) → changes old new ≡ Nothing → Unbroken old new
 unfolding changes
 unbroken old new e =
-    let (c, e₁) = or-nothing (ofConstants (old .timing) (new .timing)) (ofStreams old new or ofOrder old new or ofNoise old new) e in
-    let (s, e₂) = or-nothing (ofStreams old new) (ofOrder old new or ofNoise old new) e₁ in
-    let (o, g) = or-nothing (ofOrder old new) (ofNoise old new) e₂ in
+    let (k, e₁) = or-nothing (ofKit (old .timing) (new .timing)) _ e in
+    let (c, e₂) = or-nothing (ofConstants (old .timing) (new .timing)) (ofStreams old new or ofOrder old new or ofNoise old new) e₁ in
+    let (s, e₃) = or-nothing (ofStreams old new) (ofOrder old new or ofNoise old new) e₂ in
+    let (o, g) = or-nothing (ofOrder old new) (ofNoise old new) e₃ in
     record {
+      kit = k;
       constants = c;
       streams = nothing-if-none _ (length (new .streams)) .0 s;
       order = nothing-if-none (urgency old new) (length (new .streams)) .0 o;
@@ -120,7 +163,7 @@ no-changes old new u =
     let s : ofStreams old new ≡ Nothing = nothing-if-none _ (length (new .streams)) .1 (u .streams) in
     let o : ofOrder old new ≡ Nothing = nothing-if-none (urgency old new) (length (new .streams)) .1 (u .order) in
     let g : ofNoise old new ≡ Nothing = nothing-if-none _ (length (new .gaps)) .1 (u .gaps) in
-    λ i. u .constants i or s i or o i or g i
+    λ i. u .kit i or u .constants i or s i or o i or g i
 
 -- ---- from the test to a lighter plan
 stands-in : (old : Plan) (s : Stream) → ofStream old s ≡ Nothing → (r : ℕ) × (rowOf old (s .label) ≡ Found·At r) × Eased (at old r) s
@@ -142,6 +185,7 @@ not-overtaken old new j k e h l = by-order (numberUnder old (at new k .label)) (
 lighter-if : (old new : Plan) → Unbroken old new → Lighter old new
 lighter-if old new u =
     record {
+      kit = same-kit (old .timing) (new .timing) (u .kit);
       timing = no-greater (old .timing) (new .timing) (u .constants);
       row = λ k h. found k h .0;
       stands = λ k h.
@@ -168,6 +212,7 @@ overtaking old new k j e =
 if-lighter : (old new : Plan) → NotRefused old → Lighter old new → Unbroken old new
 if-lighter old new a l =
     record {
+      kit = kit-nothing (old .timing) (new .timing) (l .kit);
       constants = constants-nothing (old .timing) (new .timing) (l .timing);
       streams = λ k h. ap (inRow old (at new k)) (row-is k h) ∙ eased-nothing (at old (l .row k h)) (at new k) (l .stands k h .eased);
       order = λ k h. must-true _ _ (ap not (is-false (some (overtakes old new k) (length (new .streams))) (overtaken k h)));

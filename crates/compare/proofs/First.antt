@@ -39,6 +39,9 @@ must-nothing false r e = absurd (of-not-nothing e)
 pub must-true : (t : Bool) (r : Reason) → t ≡ true → must t r ≡ Nothing
 must-true t r e = ap (λ b. must b r) e
 
+pub must-false : (t : Bool) (r : Reason) → t ≡ false → must t r ≡ Of r
+must-false t r e = ap (λ b. must b r) e
+
 -- ---- tests of numbers one after the other: the first that fails is the change, if those before it pass
 pub passes : (a b : ℕ) (r : Reason) → must (leb a b) r ≡ Nothing → a ≤ b
 passes a b r e = leb-true a b (must-nothing (leb a b) r e)
@@ -50,7 +53,7 @@ pub no-reason : (a b : ℕ) (r : Reason) → a ≤ b → must (leb a b) r ≡ No
 no-reason a b r h = must-true (leb a b) r (le-leb a b h)
 
 pub a-reason : (a b : ℕ) (r : Reason) → b < a → must (leb a b) r ≡ Of r
-a-reason a b r h = ap (λ t. must t r) (lt-leb a b h)
+a-reason a b r h = must-false (leb a b) r (lt-leb a b h)
 
 pub pass : (a b : ℕ) (r : Reason) (c : Change) {d : Change} → a ≤ b → d ≡ c → d ≡ must (leb a b) r or c
 pass a b r c h e = e ∙ sym (nothing-or (must (leb a b) r) c (no-reason a b r h))

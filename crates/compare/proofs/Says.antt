@@ -9,6 +9,8 @@ use Rattle.plan.specs.declared.Sheet.{Sheet}
 use Rattle.plan.specs.Plan.{Plan, planOf}
 use Rattle.judge.specs.declared.Checked.{Checked, the-variants.Fine, the-variants.Refused}
 use Rattle.judge.specs.Table.{judge}
+use Rattle.carried.specs.declared.Edition.{Edition}
+use Rattle.carried.specs.Carried.{editionOf}
 use Rattle.checks.specs.Checks.{lines, checkedOf}
 use Rattle.checks.proofs.Fine.{fine-if-right, own-counts}
 use Rattle.promise.specs.Lighter.{Lighter, NotRefused, Kept}
@@ -39,13 +41,13 @@ module _ (old new : Plan) (a b : Checked) (first : a ≡ Fine → NotRefused old
   said-kept e = let (f, s, n) = lighter-says a b (changes old new) e in lighter-keeps old new (first f) (second s)
 
 -- a plan whose values are fine is not refused
-pub fine-not-refused : (n m : ℕ) (p : Plan) → judge (lines n m p) ≡ Fine → NotRefused p
-fine-not-refused n m p e = own-counts n m p (fine-if-right n m p .0 e)
+pub fine-not-refused : (edition : Edition) (n m : ℕ) (p : Plan) → judge (lines edition n m p) ≡ Fine → NotRefused p
+fine-not-refused edition n m p e = own-counts n m p (fine-if-right edition n m p .0 e .1)
 
 -- ---- two sheets
 sheet-not-refused : (s : Sheet) → checkedOf s ≡ Fine → NotRefused (planOf s)
 unfolding checkedOf
-sheet-not-refused s e = fine-not-refused (s .count) (s .sources) (planOf s) e
+sheet-not-refused s e = fine-not-refused (editionOf (planOf s)) (s .count) (s .sources) (planOf s) e
 
 pub said-of-sheets : (old new : Sheet) → SaysLighter old new (comparedOf old new)
 unfolding comparedOf

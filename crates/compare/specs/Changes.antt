@@ -1,7 +1,7 @@
 -- The rule between the gate and the desk as a test of two plans, `old` and `new`: the first condition of the lighter plan that does
--- not hold. The conditions are looked at in this order: the constants, the streams, their order of priority, the noise gaps, and each
--- of these in the second plan's file order. What a plan that passes is, is said in the crate promise, specs/Lighter.antt.
-use mathlib.Core.Bool.{Bool, not, cond, _&&_}
+-- not hold. The conditions are looked at in this order: the master node, the constants, the streams, their order of priority, the noise
+-- gaps, and each of these in the second plan's file order. What a plan that passes is, is said in the crate promise, specs/Lighter.antt.
+use mathlib.Core.Bool.{Bool, not, cond, _&&_, Bool·beq}
 use mathlib.Core.List.{List}
 use Prim.Native.Nat.{ℕ, zero, suc}
 use lib.Dec.{leb, ltb, eqb}
@@ -20,7 +20,7 @@ use Rattle.carried.specs.Layout as layout
 use Rattle.carried.specs.Carried.{timingWords}
 use Rattle.checks.specs.Checks.{checkedOf}
 use Rattle.compare.specs.declared.Reason.{Reason}
-use Rattle.compare.specs.declared.Reason.the-variants.{GreaterConstant, NewLabel, ShorterPeriod, LongerJitter}
+use Rattle.compare.specs.declared.Reason.the-variants.{MasterNode, GreaterConstant, NewLabel, ShorterPeriod, LongerJitter}
 use Rattle.compare.specs.declared.Reason.the-variants.{LongerPayload, ShorterDeadline, LessUrgent, MoreNoise}
 use Rattle.compare.specs.declared.Change.{Change, the-variants.Of, the-variants.Nothing}
 use Rattle.compare.specs.declared.Compared.{Compared}
@@ -40,6 +40,14 @@ Nothing or b = b
 unfoldable pub firstChange : (ℕ → Change) → ℕ → Change
 firstChange f zero = Nothing
 firstChange f (suc n) = firstChange f n or f n
+
+-- ---- the master node: both plans have one, or neither has
+
+abbrev pub hasMaster : Timing → Bool
+hasMaster t = leb 1 (t .p)
+
+abbrev pub ofKit : Timing → Timing → Change
+ofKit old new = must (Bool·beq (hasMaster old) (hasMaster new)) MasterNode
 
 -- ---- the constants, counted from 0 in file order: each is held to its own
 
@@ -112,7 +120,12 @@ abbrev pub ofNoise : Plan → Plan → Change
 ofNoise old new = firstChange (λ k. ofGap old new (getD (new .gaps) k 0)) (length (new .gaps))
 
 unfoldable pub changes : Plan → Plan → Change
-changes old new = ofConstants (old .timing) (new .timing) or ofStreams old new or ofOrder old new or ofNoise old new
+changes old new =
+    ofKit (old .timing) (new .timing)
+    or ofConstants (old .timing) (new .timing)
+    or ofStreams old new
+    or ofOrder old new
+    or ofNoise old new
 
 -- ---- the answer to two plans: which is refused, or that the second is lighter, or why it is to be run again
 

@@ -29,6 +29,8 @@ use plan::Timing;
 
 // Why a plan is to be run again: the condition that is broken first, and the constant (from 0, in file order), label or gap that breaks it.
 pub enum Reason {
+    // One plan has a master node and the other has none.
+    MasterNode,
     GreaterConstant(usize),
     NewLabel(Label),
     ShorterPeriod(Label),
@@ -50,6 +52,16 @@ pub enum Compared {
     SecondRefused(Refusal),
     Lighter,
     RunAgain(Reason),
+}
+
+// A plan with slots is not held to one without, whatever their constants.
+fn kit(old: Timing, new: Timing) -> Change
+    ensures { λ r. ⌜ r ≡ rule.ofKit old new ⌝ }
+{
+    if (1 <= old.p) == (1 <= new.p) {
+        return Change::Nothing;
+    }
+    Change::Of(Reason::MasterNode)
 }
 
 // Each constant is held to its own: a greater TFCS is a change even below SWX.
@@ -225,6 +237,10 @@ pub fn changes(old: Sheet, new: Sheet) -> Change
 {
     let held = old.timing;
     let timing = new.timing;
+    match kit(held, timing) {
+        Change::Of(why) => return Change::Of(why),
+        Change::Nothing => {}
+    }
     match constants(held, timing) {
         Change::Of(why) => return Change::Of(why),
         Change::Nothing => {}

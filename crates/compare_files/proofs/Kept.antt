@@ -20,7 +20,9 @@ use Rattle.checks.specs.Checks.{lines}
 use Rattle.promise.specs.Lighter.{NotRefused, Kept}
 use Rattle.file.specs.declared.ReadPlan.{ReadPlan}
 use Rattle.file.specs.File as file
-use Rattle.file.proofs.Reading.{planAt, fine-read}
+use Rattle.file.proofs.Reading.{fine-read}
+use Rattle.file.proofs.RoundTrip.{planRead}
+use Rattle.carried.specs.Carried.{editionOf}
 use Rattle.carried.proofs.Plans.{one-sheet}
 use Rattle.row_words.specs.RowWords.{wordsPerRow}
 use Rattle.row_words.proofs.RowWords.{RowSays, row-says}
@@ -35,8 +37,8 @@ use Rattle.compare_files.specs.Files.{planFrom, comparedFiles, SaysLight
 file-not-refused : (bs : List ℕ) → file.readOf bs .answer ≡ Fine → NotRefused (planFrom bs)
 file-not-refused bs e =
     let f = fine-read bs e in
-    let p = planAt (f .n) (f .m) bs in
-    let right = fine-not-refused (f .n) (f .m) p (f .values) in
+    let p = planRead bs f in
+    let right = fine-not-refused (f .edition) (f .n) (f .m) p (f .values) in
     let same : planFrom bs ≡ p = ap (λ (r : ReadPlan). planOf (r .sheet)) (f .read) ∙ one-sheet p (right .within .count) (right .within .sources) in
     subst NotRefused (sym same) right
 
@@ -60,7 +62,7 @@ as-words (Refused r) n p out e = absurd (let z : _≡_ {A = ℕ} 0 1 = cc in ome
 read-words : (c : Checked) (s : Sheet) (out : List ℕ) → answerRead c s out .0 ≡ Fine
     → answerRead c s out .1 ≡ answerWords (planOf s) ++ drop (wordsPerRow * s .count) out
 unfolding answerOf answerWith
-read-words Fine s out e = as-words (judge (lines (s .count) (s .sources) (planOf s) ++ tooFew (s .count) out)) (s .count) (planOf s) out e
+read-words Fine s out e = as-words (judge (lines (editionOf (planOf s)) (s .count) (s .sources) (planOf s) ++ tooFew (s .count) out)) (s .count) (planOf s) out e
 read-words (Refused r) s out e = absurd (let z : _≡_ {A = ℕ} 0 1 = cc in omega arith)
 
 -- the words of row r are the answer to its stream

@@ -1,20 +1,52 @@
 -- Each constant is at most 65,535, and a product of two bounded numbers is bounded. Assumes nothing.
-use mathlib.Core.Path.{_≡_, refl, ap}
-use Prim.Native.Nat.{_+_, _-_, _*_, _≤_, min}
-use native.Mathlib.Nat.{mul-le-mul}
+use mathlib.Core.Path.{_≡_, refl, sym, ap, _∙_}
+use Prim.Native.Nat.{ℕ, _+_, _-_, _*_, _≤_, min}
+use native.Mathlib.Nat.{mul-le-mul, lt-of-not-le}
+use native.Mathlib.Decide.{decLe}
 use native.Mathlib.Omega.{arith}
 use Rattle.names.specs.Limits.{constant, bits}
-use Rattle.costs.specs.Costs.{overheadsOf, VAndUWithin}
+use Rattle.plan.specs.declared.Timing.{Timing}
+use Rattle.plan.specs.Rules.{«V», U, lead, late}
+use Rattle.plan.proofs.Rules.{self, slotted}
+use Rattle.costs.specs.Costs.{fewBits, overheadsOf, mostV, OverheadWithin}
+use Rattle.costs.specs.declared.Overheads.{Overheads}
 
-pub v-and-u-within : VAndUWithin
+pub overhead-within : OverheadWithin
 unfolding overheadsOf
-v-and-u-within t w =
+overhead-within t w =
     let nb : min (t .nb) bits - 1 ≡ t .nb - 1 = omega (arith, w .nb) in
     let pulses : (t .h + t .g) * (min (t .nb) bits - 1) ≤ (constant + constant) * (bits - 1) =
     mul-le-mul {n₁ = t .h + t .g} {m₁ = min (t .nb) bits - 1} {n₂ = constant + constant} {m₂ = bits - 1} (omega (arith, w .h, w .g)) (omega arith) in
+    let (little, early) = leads in
     record {
-      v = refl;
-      u = ap (λ n. t .g + (t .h + t .g) * n + t .etg + t .lag) nb;
-      little = omega (arith, w .f, w .e, w .tfcs, w .swx, w .h);
+      lead-is = refl;
+      u-is = ap (λ n. t .g + (t .h + t .g) * n + t .etg + t .lag) nb;
+      late-is = refl;
+      little = little;
       small = omega (arith, pulses, w .g, w .etg, w .lag);
+      early = early;
     }
+  where
+    leads : (lead t ≤ mostV) × (late t ≤ lead t)
+    leads =
+        elim (decLe 1 (t .p)) [
+          | yes h ↦
+              let l = slotted (t .p) («V» t) (t .h) h in
+              (omega (arith, l, w .h), omega (arith, slotted (t .p) («V» t) 0 h))
+          | no h ↦
+              let e : t .p ≡ 0 = omega (arith, lt-of-not-le h) in
+              let l = self (t .p) («V» t) (t .h) e in
+              (omega (arith, l, w .f, w .e, w .tfcs, w .swx, w .h), omega (arith, l, self (t .p) («V» t) 0 e))
+        ]
+
+-- ---- what the code hands back, without a master node and with one
+module _ (t : Timing) {u : ℕ} (e : u ≡ U (fewBits t)) where
+  pub of-self : {v : ℕ} → t .p ≡ 0 → v ≡ «V» t → _≡_ {A = Overheads} (record { lead = v; u = u; late = v }) (overheadsOf t)
+  unfolding overheadsOf
+  of-self none d = λ j. record { lead = (d ∙ sym (self (t .p) («V» t) (t .h) none)) j; u = e j; late = (d ∙ sym (self (t .p) («V» t) 0 none)) j }
+
+  pub of-slots : (t .p ≡ 0 → ⊥) → _≡_ {A = Overheads} (record { lead = t .h; u = u; late = 0 }) (overheadsOf t)
+  unfolding overheadsOf
+  of-slots there =
+      let some : 1 ≤ t .p = omega (arith, there) in
+      λ j. record { lead = sym (slotted (t .p) («V» t) (t .h) some) j; u = e j; late = sym (slotted (t .p) («V» t) 0 some) j }

@@ -1,9 +1,9 @@
--- V and U of every timing, and how large they are within the limits.
+-- What a message costs the channel beside its payload, of every timing, and how large that is within the limits.
 use mathlib.Core.Path.{_≡_}
 use Prim.Native.Nat.{ℕ, _+_, _-_, _*_, min, _≤_}
 use Rattle.names.specs.Limits.{constant, bits}
 use Rattle.plan.specs.declared.Timing.{Timing}
-use Rattle.plan.specs.Rules.{«V», U}
+use Rattle.plan.specs.Rules.{U, lead, late}
 use Rattle.plan.specs.Plan.{TimingWithin}
 use Rattle.costs.specs.declared.Overheads.{Overheads}
 
@@ -20,12 +20,13 @@ fewBits t =
       etg = t .etg;
       lag = t .lag;
       nb = min (t .nb) bits;
+      p = t .p;
     }
 
 unfoldable pub overheadsOf : Timing → Overheads
-overheadsOf t = record { v = «V» t; u = U (fewBits t) }
+overheadsOf t = record { lead = lead t; u = U (fewBits t); late = late t }
 
--- the most that V can be: F + E + max(TFCS, SWX) + H
+-- the most that V can be, and so H: F + E + max(TFCS, SWX) + H
 abbrev pub mostV : ℕ
 mostV = constant + constant + constant + constant
 
@@ -33,15 +34,17 @@ mostV = constant + constant + constant + constant
 abbrev pub mostU : ℕ
 mostU = constant + (constant + constant) * (bits - 1) + constant + constant
 
--- ---- What is proved of V and U; the proof is in proofs/Costs.antt.
+-- ---- What is proved of them; the proof is in proofs/Costs.antt.
 
--- document 01's V and U, and no larger than they can be
-pub record VAndU (t : Timing) (o : Overheads) : Type 0 where
-  pub v : o .v ≡ «V» t
-  pub u : o .u ≡ U t
-  pub little : o .v ≤ mostV
+-- the letters of the rules, and no larger than they can be
+pub record Overhead (t : Timing) (o : Overheads) : Type 0 where
+  pub lead-is : o .lead ≡ lead t
+  pub u-is : o .u ≡ U t
+  pub late-is : o .late ≡ late t
+  pub little : o .lead ≤ mostV
   pub small : o .u ≤ mostU
+  pub early : o .late ≤ o .lead
 
 -- of a timing within the limits
-abbrev pub VAndUWithin : Type 0
-VAndUWithin = (t : Timing) → TimingWithin t → VAndU t (overheadsOf t)
+abbrev pub OverheadWithin : Type 0
+OverheadWithin = (t : Timing) → TimingWithin t → Overhead t (overheadsOf t)

@@ -1,18 +1,20 @@
-// V and U: what a message costs the channel beside its payload, worked out of a plan's timing.
+// What a message costs the channel beside its payload, worked out of a plan's timing: V and U, and in slots H and U.
 //
-// The one public function answers for every timing, and its contract determines the answer; within the limits that is V and U
-// of document 01. Nothing is assumed. This crate knows of a plan's timing; it must not know of checks or refusals.
+// The one public function answers for every timing, and its contract determines the answer; within the limits these are the letters
+// of the rules. Nothing is assumed. This crate knows of a plan's timing; it must not know of checks or refusals.
 ghost use mathlib.Core.Path.{_≡_};
 ghost use Prim.Native.Nat.{_+_, _-_, _*_, _^_, _≤_, _<_, max, min};
 ghost use Rattle.names.specs.Limits as limit;
-ghost use Rattle.costs.specs.Costs.{overheadsOf};
+ghost use Rattle.plan.specs.Rules.{«V», U};
+ghost use Rattle.costs.specs.Costs.{fewBits, overheadsOf};
 use names::BITS;
 use plan::Timing;
 
-// V and U of a timing.
+// What goes before C' in C'', U, and how late a release still joins a cycle.
 pub struct Overheads {
-    pub v: u64,
+    pub lead: u64,
     pub u: u64,
+    pub late: u64,
 }
 
 fn longer(a: u32, b: u32) -> u64
@@ -44,11 +46,36 @@ fn pulses(h: u32, g: u32, nb: u32) -> u64
     (h as u64 + g as u64) * bits_but_one(nb)
 }
 
-// V = F + E + max(TFCS, SWX) + H, U = G + (H + G) * (NB - 1) + ETG + LAG.
+// V = F + E + max(TFCS, SWX) + H.
+fn v_of(t: Timing) -> u64
+    ensures { λ r. ⌜ r ≡ «V» t ⌝ }
+{
+    t.f as u64 + t.e as u64 + longer(t.tfcs, t.swx) + t.h as u64
+}
+
+// U = G + (H + G) * (NB - 1) + ETG + LAG.
+fn u_of(t: Timing) -> u64
+    ensures { λ r. ⌜ r ≡ U (fewBits t) ⌝ }
+{
+    t.g as u64 + pulses(t.h, t.g, t.nb) + t.etg as u64 + t.lag as u64
+}
+
+// V comes first, and a release joins while it lasts; in slots H alone does, and none joins after the pulse.
 pub fn overheads_of(t: Timing) -> Overheads
     ensures { λ r. ⌜ r ≡ overheadsOf t ⌝ }
 {
-    let v = t.f as u64 + t.e as u64 + longer(t.tfcs, t.swx) + t.h as u64;
-    let u = t.g as u64 + pulses(t.h, t.g, t.nb) + t.etg as u64 + t.lag as u64;
-    Overheads { v, u }
+    let u = u_of(t);
+    if t.p == 0 {
+        let v = v_of(t);
+        return Overheads {
+            lead: v,
+            u,
+            late: v,
+        };
+    }
+    Overheads {
+        lead: t.h as u64,
+        u,
+        late: 0,
+    }
 }

@@ -11,13 +11,13 @@ use borrow.Author.Tests.{lt-leb}
 use lib.ListN.{length}
 use Rattle.plan.specs.Plan.{planOf}
 use Rattle.carried.specs.Layout as layout
+use Rattle.carried.proofs.Editions.{timing-body}
 use Rattle.judge.specs.declared.Checked.{Checked, the-variants.Fine, the-variants.Refused}
-use Rattle.checks.proofs.Fine.{fine-if-right}
 use Rattle.file.specs.declared.Written.{Written, the-variants.Bytes, the-variants.Refused as Written·Refused}
 use Rattle.file.specs.File.{fileOf, sizeRight, readOf}
 use Rattle.file.proofs.Exactly.{refused-number}
-use Rattle.file.proofs.Reading.{planAt, said-size, counts-refused, fine-read}
-use Rattle.file.proofs.RoundTrip.{file-back}
+use Rattle.file.proofs.Reading.{said-size, counts-refused, fine-read}
+use Rattle.file.proofs.RoundTrip.{right-read, file-back}
 use Rattle.rewriter.specs.Rewriter.{rewriteOf}
 use Rattle.rewriter.proofs.Same.{rewrite-refused, rewrite-no-room, rewrite-fine, file-is}
 use Rattle.text.specs.declared.Put.the-variants.{At, Full}
@@ -41,7 +41,7 @@ module _ (bs buf : List ℕ) where
 
   by-answer : (c : Checked) → readOf bs .answer ≡ c → Shows (rewriteOf bs buf)
   by-answer (Refused r) e =
-      rw (rewrite-refused bs buf r e) (λ six. absurd (omega (arith, refused-number bs r e)), λ other. (file-shown (Refused r) e, refl))
+      rw (rewrite-refused bs buf r e) (λ six. absurd (refused-number bs r e six), λ other. (file-shown (Refused r) e, refl))
   by-answer Fine e =
       let file = fileOf (planOf (readOf bs .sheet)) in
       let s = ap (put buf 0) (file-shown Fine e) in
@@ -63,8 +63,8 @@ same-file bs below fine = file-shown bs [] Fine fine ∙ file-is bs [] fine ∙ 
 pub file-fits : FileFits
 file-fits bs buffer below fine room =
     let f = fine-read bs fine in
-    let r = fine-if-right (f .n) (f .m) (planAt (f .n) (f .m) bs) .0 (f .values) in
-    let short : length bs ≤ length buffer = omega (arith, f .size, r .count, r .sources, r .within .count, r .within .sources) in
+    let (is, r) = right-read bs f in
+    let short : length bs ≤ length buffer = omega (arith, f .size, timing-body (f .edition), r .count, r .sources, r .within .count, r .within .sources) in
     ap (λ t. put buffer 0 t .0) (same-file bs below fine) ∙ ap (λ x. x .0) (all-put bs buffer short)
 
 pub line-is-no-plan : LineIsNoPlan

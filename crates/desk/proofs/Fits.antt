@@ -9,8 +9,8 @@ use Rattle.plan.specs.Plan.{Plan, planOf, blank}
 use Rattle.plan.specs.Rules.{rowAnswer, answers}
 use Rattle.plan.proofs.Rules.{row-within}
 use Rattle.checks.specs.Checks.{Right}
-use Rattle.checks.proofs.Fine.{fine-if-right}
-use Rattle.file.proofs.Reading.{planAt, fine-read}
+use Rattle.file.proofs.Reading.{fine-read}
+use Rattle.file.proofs.RoundTrip.{planRead, right-read}
 use Rattle.carried.proofs.Plans.{one-sheet}
 use Rattle.text.specs.Claims.{Printed, Listed}
 use Rattle.text.specs.Listing.{listingOf}
@@ -38,7 +38,7 @@ module _ (n m : ℕ) (p : Plan) (r : Right n m p) where
   small k h =
       let g : k < length (p .streams) = omega (arith, length-map (p .streams) (rowAnswer p)) in
       rw (in-row (λ a. a .bound) (rowAnswer p) (p .streams) k blank g)
-      (omega (arith, row-within p (getD (p .streams) k blank) (r .within .stream k g)))
+      (omega (arith, row-within p (getD (p .streams) k blank) (r .within .stream k g) (r .slots k g)))
 
   listed : Listed 10 p (answers p)
   listed = record { count = r .within .count; stream = printed; bound = small }
@@ -47,8 +47,8 @@ pub listing-fits : ListingFits
 unfolding shown
 listing-fits bs buffer e h =
     let f = fine-read bs e in
-    let p = planAt (f .n) (f .m) bs in
-    let right = fine-if-right (f .n) (f .m) p .0 (f .values) in
+    let p = planRead bs f in
+    let (is, right) = right-read bs f in
     let same = one-sheet p (right .within .count) (right .within .sources) in
     let shows : shown bs ≡ listingOf p (answers p) = ap (λ r. shownAs (r .answer) (planOf (r .sheet))) (f .read) ∙ ap (λ q. listingOf q (answers q)) same in
     let size = largest-listing 10 p (answers p) (omega arith) (listed (f .n) (f .m) p right) in

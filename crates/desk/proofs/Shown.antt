@@ -14,16 +14,16 @@ use Rattle.file.specs.File.{readOf}
 use Rattle.answers.specs.Answers.{answerOf}
 use Rattle.text.specs.Listing.{listingOf, listingIn}
 use Rattle.desk.specs.Desk.{shownAs, shown}
-use Rattle.checks.proofs.Fine.{fine-if-right, fine-within}
-use Rattle.file.proofs.Reading.{planAt, fine-read, checked-sheet}
+use Rattle.checks.proofs.Fine.{fine-within}
+use Rattle.file.proofs.Reading.{fine-read}
+use Rattle.file.proofs.RoundTrip.{sheet-fine}
 use Rattle.answers.proofs.Values.{rows-answered}
 
 -- a file that is fine holds a sheet that is fine
 read-checked : (bs : List ℕ) → readOf bs .answer ≡ Fine → checkedOf (readOf bs .sheet) ≡ Fine
 read-checked bs e =
-    let r = fine-read bs e in
-    let right = fine-if-right (r .n) (r .m) (planAt (r .n) (r .m) bs) .0 (r .values) in
-    ap (λ x. checkedOf (x .sheet)) (r .read) ∙ checked-sheet (r .n) (r .m) (planAt (r .n) (r .m) bs) (right .count) (right .sources) (omega (arith, right .count, right .within .count)) (omega (arith, right .sources, right .within .sources)) ∙ r .values
+    let f = fine-read bs e in
+    ap (λ x. checkedOf (x .sheet)) (f .read) ∙ sheet-fine bs f
 
 module _ (bs : List ℕ) (found : ReadPlan) (e : found ≡ readOf bs) where
   pub shown-is : (k : Checked) → found .answer ≡ k → shown bs ≡ shownAs k (planOf (found .sheet))

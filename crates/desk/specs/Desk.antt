@@ -4,7 +4,7 @@ use mathlib.Core.List.{List}
 use Prim.Native.Nat.{ℕ, _^_, _≤_, _<_}
 use lib.ListN.{length}
 use Rattle.names.specs.declared.Refusal.{Refusal}
-use Rattle.names.specs.Limits.{streams, sources, ticks}
+use Rattle.names.specs.Limits.{ticks}
 use Rattle.words.specs.Words.{Below}
 use Rattle.judge.specs.declared.Checked.{Checked, the-variants.Fine, the-variants.Refused}
 use Rattle.plan.specs.Plan.{Plan, planOf}
@@ -57,7 +57,7 @@ SameFile = (bs : List ℕ) → Below 256 bs → readOf bs .answer ≡ Fine → s
 -- .. in full where the largest file has room, ..
 abbrev pub FileFits : Type 0
 FileFits =
-    (bs buffer : List ℕ) → Below 256 bs → readOf bs .answer ≡ Fine → layout.size streams sources ≤ length buffer
+    (bs buffer : List ℕ) → Below 256 bs → readOf bs .answer ≡ Fine → layout.largestFile ≤ length buffer
     → put buffer 0 (shownFile bs) .0 ≡ At (length bs)
 
 -- .. and the line that is shown of a refused one is no plan file: it is too short for one

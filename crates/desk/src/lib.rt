@@ -5,7 +5,6 @@
 ghost use mathlib.Core.Path.{_≡_};
 ghost use Prim.Native.Nat.{_+_};
 ghost use lib.ListN.{length, replicate};
-ghost use Rattle.names.specs.Limits.{streams, sources};
 ghost use Rattle.carried.specs.Layout as layout;
 ghost use Rattle.ascii.specs.Ascii.{ascii};
 ghost use Rattle.text.specs.Claims.{most};
@@ -41,8 +40,8 @@ const LISTED: usize = HEADER + STREAMS * ROW;
 
 // Zeros, for a program to read a file into.
 pub fn file_buffer() -> [u8; FILE]
-    ensures { λ r. ⌜ r ≡ replicate (layout.size streams sources + 1) 0 ⌝ }
-    ensures { λ r. ⌜ layout.size streams sources + 1 ≡ length r ⌝ }
+    ensures { λ r. ⌜ r ≡ replicate (layout.largestFile + 1) 0 ⌝ }
+    ensures { λ r. ⌜ layout.largestFile + 1 ≡ length r ⌝ }
 {
     [0; FILE]
 }

@@ -5,6 +5,7 @@ use Prim.Native.Nat.{ℕ}
 use lib.ListN.{length, length-map}
 use Rattle.laws.proofs.Pieces.{map-flat}
 use Rattle.plan.specs.Plan.{Plan}
+use Rattle.carried.specs.declared.Edition.{Edition}
 use Rattle.carried.specs.Layout as layout
 use Rattle.carried.specs.Carried.{timingWords}
 use Rattle.carried.proofs.Plans.{length-values}
@@ -12,14 +13,14 @@ use Rattle.fields.specs.Fields.{Field, streamFields, gapField, fields, W
 
 pub words-are-carried : WordsAreCarried
 unfolding fields
-words-are-carried p =
+words-are-carried edition p =
     let f = streamFields (p .timing .nb) in
     let word : Field → ℕ = λ f. f .word in
     ap (λ r. timingWords (p .timing) ++ r)
     (map-append word (flatMap f (p .streams)) (map gapField (p .gaps))
     ∙ ap₂ _++_ (map-flat word f (p .streams)) (map-map word gapField (p .gaps) ∙ map-id (p .gaps)))
 
-pub length-fields : (p : Plan) → length (fields p) ≡ layout.gapAt (length (p .streams)) (length (p .gaps))
-length-fields p =
+pub length-fields : (edition : Edition) (p : Plan) → length (fields edition p) ≡ layout.gapAt (length (p .streams)) (length (p .gaps))
+length-fields edition p =
     let word : Field → ℕ = λ f. f .word in
-    sym (length-map (fields p) word) ∙ ap length (words-are-carried p) ∙ length-values p
+    sym (length-map (fields edition p) word) ∙ ap length (words-are-carried edition p) ∙ length-values p

@@ -15,6 +15,7 @@ use Rattle.laws.specs.declared.Found.the-variants.{At, Nothing}
 use Rattle.laws.proofs.Tests.{apart}
 use Rattle.plan.specs.declared.Stream.{Stream}
 use Rattle.plan.specs.Plan.{Plan}
+use Rattle.carried.specs.declared.Edition.{Edition}
 use Rattle.carried.specs.Layout as layout
 use Rattle.fields.specs.Fields.{Field, _from_to_, timingFields, streamFields, gapField, fields, inside, lowest}
 use Rattle.fields.specs.private.Bands.{fieldsOf}
@@ -89,22 +90,22 @@ unfolding flatMap
 length-streams nb [] = refl
 length-streams nb (s ∷ streams) = omega (arith, length-streams nb streams)
 
-module _ (p : Plan) where
-  pub timing-here : (k : ℕ) → lowest 0 (timingFields (p .timing)) ≡ At k → lowest 0 (fields p) ≡ At k
+module _ (edition : Edition) (p : Plan) where
+  pub timing-here : (k : ℕ) → lowest 0 (timingFields edition (p .timing)) ≡ At k → lowest 0 (fields edition p) ≡ At k
   unfolding fields
-  timing-here k e = append-at 0 k (timingFields (p .timing)) _ e
+  timing-here k e = append-at 0 k (timingFields edition (p .timing)) _ e
 
-  module _ (e : lowest 0 (timingFields (p .timing)) ≡ Nothing) where
-    pub streams-here : (k : ℕ) → lowest (layout.streamAt 0) (flatMap (streamFields (p .timing .nb)) (p .streams)) ≡ At k → lowest 0 (fields p) ≡ At k
+  module _ (e : lowest 0 (timingFields edition (p .timing)) ≡ Nothing) where
+    pub streams-here : (k : ℕ) → lowest (layout.streamAt 0) (flatMap (streamFields (p .timing .nb)) (p .streams)) ≡ At k → lowest 0 (fields edition p) ≡ At k
     unfolding fields
     streams-here k d =
-        append-none 0 (timingFields (p .timing)) _ e ∙ append-at (layout.streamAt 0) k (flatMap (streamFields (p .timing .nb)) (p .streams)) _ d
+        append-none 0 (timingFields edition (p .timing)) _ e ∙ append-at (layout.streamAt 0) k (flatMap (streamFields (p .timing .nb)) (p .streams)) _ d
 
     pub gaps-left : lowest (layout.streamAt 0) (flatMap (streamFields (p .timing .nb)) (p .streams)) ≡ Nothing
-        → lowest 0 (fields p) ≡ lowest (layout.streamAt (length (p .streams))) (map gapField (p .gaps))
+        → lowest 0 (fields edition p) ≡ lowest (layout.streamAt (length (p .streams))) (map gapField (p .gaps))
     unfolding fields
     gaps-left d =
-        append-none 0 (timingFields (p .timing)) _ e
+        append-none 0 (timingFields edition (p .timing)) _ e
         ∙ append-none (layout.streamAt 0) (flatMap (streamFields (p .timing .nb)) (p .streams)) _ d
         ∙ ap (λ n. lowest (layout.streamAt 0 + n) (map gapField (p .gaps))) (length-streams (p .timing .nb) (p .streams))
 

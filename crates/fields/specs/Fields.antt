@@ -6,12 +6,13 @@ use mathlib.Core.Logic.{_↔_}
 use Prim.Native.Nat.{ℕ, _+_, _-_, _^_, _≤_, _<_}
 use lib.Dec.{leb}
 use lib.ListN.{length, getD}
-use Rattle.names.specs.Limits.{constant, payload, bits, ticks}
+use Rattle.names.specs.Limits.{constant, payload, bits, slot, ticks}
 use Rattle.laws.specs.declared.Found.{Found, the-variants.At, the-variants.Nothing}
 use Rattle.plan.specs.declared.Timing.{Timing}
 use Rattle.plan.specs.declared.Stream.{Stream}
 use Rattle.plan.specs.Plan.{Plan, at, TimingWithin, StreamWithin, GapWithin}
-use Rattle.carried.specs.Carried.{valuesOf}
+use Rattle.carried.specs.declared.Edition.{Edition, the-variants.One, the-variants.Two}
+use Rattle.carried.specs.Carried.{editionOf, valuesOf}
 
 -- a word of a plan, and the least and the most that it may be
 pub record Field : Type 0 where
@@ -23,9 +24,18 @@ infix 68 _from_to_
 abbrev pub _from_to_ : ℕ → ℕ → ℕ → Field
 w from a to b = record { word = w; least = a; most = b }
 
--- Timing, nine words: F, E, TFCS, SWX, H, G, ETG, LAG, each 0 to 65,535; then NB, 1 to 32
-abbrev pub timingFields : Timing → List Field
-timingFields t =
+-- P is 0 in edition 1, which has no word for it, and 1 to 5,000,000 in edition 2
+abbrev pub slotLeast : Edition → ℕ
+slotLeast One = 0
+slotLeast Two = 1
+
+abbrev pub slotMost : Edition → ℕ
+slotMost One = 0
+slotMost Two = slot
+
+-- Timing, ten words: F, E, TFCS, SWX, H, G, ETG, LAG, each 0 to 65,535; then NB, 1 to 32; then P
+abbrev pub timingFields : Edition → Timing → List Field
+timingFields edition t =
     t .f from 0 to constant
     ∷ t .e from 0 to constant
     ∷ t .tfcs from 0 to constant
@@ -35,6 +45,7 @@ timingFields t =
     ∷ t .etg from 0 to constant
     ∷ t .lag from 0 to constant
     ∷ t .nb from 1 to bits
+    ∷ t .p from slotLeast edition to slotMost edition
     ∷ []
 
 -- Stream, six words: label (any word), priority (0 to 2^NB - 1), T (1 to 4,294,967,295), J (0 to that), C (1 to 65,535),
@@ -53,10 +64,10 @@ streamFields nb s =
 abbrev pub gapField : ℕ → Field
 gapField n = n from 1 to ticks
 
--- the timing, the streams, the gaps
-unfoldable pub fields : Plan → List Field
-fields p =
-    timingFields (p .timing) ++ (flatMap (streamFields (p .timing .nb)) (p .streams) ++ map gapField (p .gaps))
+-- the timing, the streams, the gaps, of a plan that stands in a file of an edition or would be written in it
+unfoldable pub fields : Edition → Plan → List Field
+fields edition p =
+    timingFields edition (p .timing) ++ (flatMap (streamFields (p .timing .nb)) (p .streams) ++ map gapField (p .gaps))
 
 abbrev pub inside : Field → Bool
 inside f = leb (f .least) (f .word) && leb (f .word) (f .most)
@@ -93,16 +104,18 @@ NothingIfInside = (k : ℕ) (fs : List Field) → (lowest k fs ≡ Nothing) ↔ 
 abbrev pub InsideIfWithin : Type 0
 InsideIfWithin = (f : Field) → (inside f ≡ true) ↔ ((f .least ≤ f .word) × (f .word ≤ f .most))
 
--- a plan's fields are all inside exactly if its timing, its streams and its gaps are within document 01's limits, and each label is a word
-pub record FieldsWithin (p : Plan) : Type 0 where
+-- a plan's fields are all inside exactly if its timing, its streams and its gaps are within the limits, each label is a word, and the
+-- edition is the one that P asks for
+pub record FieldsWithin (edition : Edition) (p : Plan) : Type 0 where
+  pub edition-is : edition ≡ editionOf p
   pub timing : TimingWithin (p .timing)
   pub stream : (k : ℕ) → k < length (p .streams) → StreamWithin (p .timing .nb) (at p k)
   pub label : (k : ℕ) → k < length (p .streams) → at p k .label .0 ≤ ticks
   pub gap : (k : ℕ) → k < length (p .gaps) → GapWithin (getD (p .gaps) k 0)
 
 abbrev pub InsideIfFieldsWithin : Type 0
-InsideIfFieldsWithin = (p : Plan) → AllInside (fields p) ↔ FieldsWithin p
+InsideIfFieldsWithin = (edition : Edition) (p : Plan) → AllInside (fields edition p) ↔ FieldsWithin edition p
 
 -- the words of a plan's fields are the words that are carried, in their order
 abbrev pub WordsAreCarried : Type 0
-WordsAreCarried = (p : Plan) → map (λ f. f .word) (fields p) ≡ valuesOf p
+WordsAreCarried = (edition : Edition) (p : Plan) → map (λ f. f .word) (fields edition p) ≡ valuesOf p

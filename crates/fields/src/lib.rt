@@ -3,6 +3,7 @@
 // The one public function answers for all words and every two counts, and its contract determines the answer. Nothing is assumed. A
 // field is known by where it stands among the words that are carried; this crate must not know of bytes or of refusals.
 use carried::CARRIED;
+use carried::Edition;
 use carried::STREAM;
 use carried::TIMING;
 use laws::Found;
@@ -10,6 +11,7 @@ use laws::smaller;
 use names::BITS;
 use names::CONSTANT;
 use names::PAYLOAD;
+use names::SLOT;
 use names::SOURCES;
 use names::STREAMS;
 use names::TICKS;
@@ -22,8 +24,11 @@ ghost use Rattle.laws.specs.declared.Found.the-variants.{At};
 ghost use Rattle.laws.specs.Lists.{rows};
 ghost use Rattle.carried.specs.Layout as layout;
 ghost use Rattle.carried.specs.Carried.{timingIn, streamsIn, gapsIn, planIn};
-ghost use Rattle.fields.specs.Fields.{timingFields, streamFields, gapField, fields, lowest};
+ghost use Rattle.fields.specs.Fields.{slotLeast, slotMost, timingFields, streamFields, gapField, fields, lowest};
 ghost use Rattle.fields.specs.private.Bands.{fieldsOf};
+
+// The timing's word that has the number of priority bits.
+const NB: usize = 8;
 
 // The lowest field outside its limits, of words that stand from word k on.
 fn words_outside<'a>(words: &'a [u32], least: &'a [u32], most: &'a [u32], k: usize) -> Found
@@ -43,12 +48,31 @@ fn words_outside<'a>(words: &'a [u32], least: &'a [u32], most: &'a [u32], k: usi
     Found::Nothing
 }
 
-// F to LAG are at most 65,535, and NB is 1 to 32.
-fn timing_outside(words: &[u32]) -> Found
-    requires { ⌜ length (now words) ≡ layout.largest ⌝ }
-    ensures { λ r. ⌜ r ≡ lowest 0 (timingFields (timingIn (now (words .entry)))) ⌝ }
+// The least and the most that P may be: edition 1 has none.
+struct Band {
+    least: u32,
+    most: u32,
+}
+
+fn slot_band(edition: Edition) -> Band
+    ensures { λ r. ⌜ r ≡ record { least = slotLeast edition; most = slotMost edition } ⌝ }
 {
-    let least = [0, 0, 0, 0, 0, 0, 0, 0, 1];
+    match edition {
+        Edition::One => Band { least: 0, most: 0 },
+        Edition::Two => Band {
+            least: 1,
+            most: SLOT,
+        },
+    }
+}
+
+// F to LAG are at most 65,535, NB is 1 to 32, and P as its edition has it.
+fn timing_outside(edition: Edition, words: &[u32]) -> Found
+    requires { ⌜ length (now words) ≡ layout.largest ⌝ }
+    ensures { λ r. ⌜ r ≡ lowest 0 (timingFields edition (timingIn (now (words .entry)))) ⌝ }
+{
+    let slot = slot_band(edition);
+    let least = [0, 0, 0, 0, 0, 0, 0, 0, 1, slot.least];
     let most = [
         CONSTANT,
         CONSTANT,
@@ -59,6 +83,7 @@ fn timing_outside(words: &[u32]) -> Found
         CONSTANT,
         CONSTANT,
         BITS,
+        slot.most,
     ];
     words_outside(&words[0..TIMING], &least, &most, 0)
 }
@@ -104,17 +129,17 @@ fn gaps_outside(words: &[u32], n: usize, m: usize) -> Found
     words_outside(&words[at..at + m], &least[..m], &most[..m], at)
 }
 
-// The lowest field that is outside its limits, counted from 0, of the plan of n streams and m gaps in the words; of counts past the
-// limits the plan has as many as it may. No number is raised to the power NB before NB is known to be in its limits.
-pub fn outside(words: &[u32; CARRIED], n: usize, m: usize) -> Found
-    ensures { λ r. ⌜ r ≡ lowest 0 (fields (planIn (min n limit.streams) (min m limit.sources) (now (words .entry)))) ⌝ }
+// The lowest field that is outside its limits in an edition, counted from 0, of the plan of n streams and m gaps in the words; of counts
+// past the limits the plan has as many as it may. No number is raised to the power NB before NB is known to be in its limits.
+pub fn outside(edition: Edition, words: &[u32; CARRIED], n: usize, m: usize) -> Found
+    ensures { λ r. ⌜ r ≡ lowest 0 (fields edition (planIn (min n limit.streams) (min m limit.sources) (now (words .entry)))) ⌝ }
 {
     let rows = smaller(n, STREAMS);
-    match timing_outside(words) {
+    match timing_outside(edition, words) {
         Found::At(p) => return Found::At(p),
         Found::Nothing => {}
     }
-    let nb = words[TIMING - 1];
+    let nb = words[NB];
     match streams_outside(words, rows, nb) {
         Found::At(p) => return Found::At(p),
         Found::Nothing => {}

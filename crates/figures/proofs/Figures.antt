@@ -18,10 +18,11 @@ use Rattle.laws.specs.Rows.{some}
 use Rattle.repeats.specs.Repeats.{firstRepeat}
 use Rattle.bound.specs.Terms.{Terms}
 use Rattle.bound.specs.Bound.{E, demand, sideL, busy, sideW, w, bound, answerFor, answer}
-use Rattle.plan.specs.Rules.{«V», U, C″, B, hit, terms, answers}
+use Rattle.plan.specs.Rules.{selfOrSlotted, «V», U, C″, B, hit, terms, answers}
 use Rattle.fields.specs.Fields.{fields, lowest}
 use Rattle.judge.specs.Table.{judge}
 use Rattle.words.specs.Words.{wordsOf, bytesOf}
+use Rattle.carried.specs.Layout as layout
 use Rattle.carried.specs.Carried.{planIn}
 use Rattle.file.specs.File.{fileWords, same, sizeRight, fileOf, readOf}
 use Rattle.decimal.specs.Decimal.{digitsOf, digits}
@@ -65,7 +66,7 @@ again (ofPlan p c d) = ofPlan p (values p) (file (fileOf p))
 again (ofRow p k c L q is a) =
     let r = terms p (at p k) in
     let f = sought r (full r (r .own .T)) in
-    ofRow p k (C″ p (at p k)) f (instances r f) (rows (instances r f) (instance r)) (answerFor r (at p k .deadline) f)
+    ofRow p k (C″ (p .timing) (at p k)) f (instances r f) (rows (instances r f) (instance r)) (answerFor r (at p k .deadline) f)
 again (ofListing p size text) = ofListing p (length (fileOf p)) (listingOf p (answers p))
 again (ofBytes bs size number) = ofBytes bs (length bs) (bySize (sizeRight bs) number)
 again (ofTournament NB n places a b ss) =
@@ -99,7 +100,7 @@ all-hold (x ∷ es) e = (holds x cc, all-hold es cc)
 -- ---- the whole table is the same again: antt computes it
 same-again : map again table ≡ table
 unfolding again full load delayed sumOf largestOf those rows first largestTo some firstRepeat
-    E demand sideL busy sideW w bound answer B hit terms
+    E demand sideL busy sideW w bound answer selfOrSlotted B hit terms layout.editionFor
     fields lowest flatMap judge wordsOf bytesOf fileWords planIn same readOf
     listingOf text.listedRows text.row digits digitsOf
     lowestUnfit verdictOf begunOf heardAt silencedAt marksAfter lowestMarked winnerOf nextAt steps startOf runOf

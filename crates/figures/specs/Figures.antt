@@ -1,5 +1,6 @@
--- Document 01, "Plans to run": its figures for P1 to P12, as one table in the document's order. The claim is that every entry of it holds,
--- `Figures`, proved in proofs/Figures.antt. All rows of a plan have the same columns, so that some of them are not in the document.
+-- Document 01, "Plans to run": its figures for P1 to P12, as one table in the document's order, and two plans in slots after
+-- them. The claim is that every entry of it holds, `Figures`, proved in proofs/Figures.antt. All rows of a plan have the same columns, so
+-- that some of them are not in the document.
 use mathlib.Core.Path.{_≡_}
 use mathlib.Core.Bool.{Bool, true, false}
 use mathlib.Core.List.{List, [], _∷_, _++_}
@@ -16,6 +17,7 @@ use Rattle.bound.specs.Bound.{busy, Q, w, term}
 use Rattle.plan.specs.declared.Timing.{Timing}
 use Rattle.plan.specs.Plan.{Plan, at}
 use Rattle.plan.specs.Rules.{«V», U, C″, terms, rowAnswer, answers}
+use Rattle.carried.specs.Carried.{editionOf}
 use Rattle.judge.specs.declared.Checked.{Checked, the-variants.Fine, the-variants.Refused}
 use Rattle.judge.specs.Table.{judge}
 use Rattle.checks.specs.Checks.{lines}
@@ -26,7 +28,7 @@ use Rattle.tournament_state.specs.declared.Phase.{Phase, the-variants.AtBit, th
 use Rattle.tournament_state.specs.declared.Tournament.{Tournament}
 use Rattle.tournament.specs.Rule.{steps}
 use Rattle.tournament.specs.Answers.{startOf, runOf}
-use Rattle.figures.specs.Plans.{base, P1, P2, P3, P4, P5, P6, P7, P8, P9, P10, P11, P12}
+use Rattle.figures.specs.Plans.{base, P1, P2, P3, P4, P5, P6, P7, P8, P9, P10, P11, P12, slots}
 
 -- ---- an entry: what is run, and its figures
 
@@ -46,7 +48,7 @@ pub data Entry : Type 0 where
 
 -- the answer to a plan's values, and to a file
 abbrev pub values : Plan → Checked
-values p = judge (lines (length (p .streams)) (length (p .gaps)) p)
+values p = judge (lines (editionOf p) (length (p .streams)) (length (p .gaps)) p)
 
 abbrev pub file : List ℕ → Checked
 file bs = readOf bs .answer
@@ -75,7 +77,7 @@ Holds (ofTiming t v u) = («V» t ≡ v) × (U t ≡ u)
 Holds (ofPlan p c d) = (values p ≡ c) × (file (fileOf p) ≡ d)
 Holds (ofRow p k c L q is a) =
     let r = terms p (at p k) in
-    (C″ p (at p k) ≡ c) × (busy r ≡ L) × (instances r L ≡ q) × (rows q (instance r) ≡ is) × (rowAnswer p (at p k) ≡ a)
+    (C″ (p .timing) (at p k) ≡ c) × (busy r ≡ L) × (instances r L ≡ q) × (rows q (instance r) ≡ is) × (rowAnswer p (at p k) ≡ a)
 Holds (ofListing p size text) = (length (fileOf p) ≡ size) × (listingOf p (answers p) ≡ text)
 Holds (ofBytes bs size number) = (length bs ≡ size) × ((any : List ℕ) → length any ≡ size → file any ≡ refusal number 0)
 Holds (ofTournament NB n places a b ss) =
@@ -113,6 +115,14 @@ listingOfP1 =
     ++ ascii "10.1 1 39 60 met\n"
     ++ ascii "10.10 2 69 120 met\n"
     ++ ascii "11.2 3 68 200 met\n"
+
+-- and the one for P1 in slots of 30 ticks
+abbrev listingInSlots : List ℕ
+listingInSlots =
+    ascii "label priority bound deadline verdict\n"
+    ++ ascii "10.1 1 45 60 met\n"
+    ++ ascii "10.10 2 87 120 met\n"
+    ++ ascii "11.2 3 102 200 met\n"
 
 abbrev pub table : List Entry
 table =
@@ -157,6 +167,14 @@ table =
     -- P12: row 1 wins; rows 0 and 2 go silent at the second bit from the top
     ∷ ofTournament 4 3 P12 Fine Fine
     ((AtBit 1, three) ∷ (AtBit 2, three) ∷ (AtBit 3, row1) ∷ (AtBit 4, row1) ∷ (Finished (record { 0 = 1 }), row1) ∷ [])
+    -- in slots of 30 ticks: C'' is 16, 18, 13, each message costs 30, B is 29; the file has 156 bytes; the whole listing
+    ∷ ofPlan (slots 30) Fine Fine
+    ∷ ofRow (slots 30) 0 16 (At 59) 1 (29 gives 45 ∷ []) (met 45)
+    ∷ ofRow (slots 30) 1 18 (At 89) 1 (59 gives 87 ∷ []) (met 87)
+    ∷ ofRow (slots 30) 2 13 (At 179) 1 (89 gives 102 ∷ []) (met 102)
+    ∷ ofListing (slots 30) 156 listingInSlots
+    -- in slots of 17: refused 10 at row 1, whose C'' is 18
+    ∷ ofPlan (slots 17) (refusal 10 1) (refusal 10 1)
     ∷ []
 
 -- ---- the claim

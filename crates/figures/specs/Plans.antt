@@ -1,4 +1,5 @@
--- Document 01, "Plans to run": the base constants and P1 to P12. What the document leaves open is chosen here, and the comment says so.
+-- Document 01, "Plans to run": the base constants and P1 to P12, and two plans in slots, for which document 02 gives none. What the
+-- documents leave open is chosen here, and the comment says so.
 use mathlib.Core.List.{List, [], _∷_, _++_}
 use Prim.Native.Nat.{ℕ, _+_, _-_, _*_}
 use lib.ListN.{take, replicate}
@@ -11,9 +12,14 @@ use Rattle.file.specs.File.{fileOf}
 use Rattle.text.specs.Listing.{group}
 use Rattle.tournament_state.specs.Refusals.{priority, none}
 
--- F, E, TFCS, SWX, H, G, ETG, LAG, NB
+-- P, F, E, TFCS, SWX, H, G, ETG, LAG, NB
+abbrev pub timed : ℕ → ℕ → ℕ → ℕ → ℕ → ℕ → ℕ → ℕ → ℕ → ℕ → Timing
+timed P f e tfcs swx h g etg lag nb =
+    record { f = f; e = e; tfcs = tfcs; swx = swx; h = h; g = g; etg = etg; lag = lag; nb = nb; p = P }
+
+-- the same without a master node
 abbrev pub constants : ℕ → ℕ → ℕ → ℕ → ℕ → ℕ → ℕ → ℕ → ℕ → Timing
-constants f e tfcs swx h g etg lag nb = record { f = f; e = e; tfcs = tfcs; swx = swx; h = h; g = g; etg = etg; lag = lag; nb = nb }
+constants = timed 0
 
 -- a stream with the label g.n and its priority, T, J, C and D
 abbrev pub stream : ℕ → ℕ → ℕ → ℕ → ℕ → ℕ → ℕ → Stream
@@ -33,6 +39,10 @@ plan t ss ns = record { timing = t; streams = ss; gaps = ns }
 -- the base constants: F 4, E 1, TFCS 1, SWX 2, H 1, G 1, ETG 2, LAG 1, NB 4
 abbrev pub base : Timing
 base = constants 4 1 1 2 1 1 2 1 4
+
+-- the same with a master node that pulses every P ticks
+abbrev pub pulsing : ℕ → Timing
+pulsing P = timed P 4 1 1 2 1 1 2 1 4
 
 -- P1: labels 10.1, 10.10, 11.2; priorities 1, 2, 3; T 100, 150, 400; J 0, 10, 0; C 5, 7, 2; D 60, 120, 200
 abbrev pub P1 : Plan
@@ -86,3 +96,7 @@ P11 = plan base (stream 10 1 1 100 0 0 60 ∷ stream 10 10 2 150 10 7 120 ∷ st
 -- P12: contenders 5, 3, 6 in 4 bits, in the first of the 128 places that a start is lent; the others are 0
 abbrev pub P12 : List Priority
 P12 = (priority 5 ∷ priority 3 ∷ priority 6 ∷ []) ++ replicate (contenders - 3) none
+
+-- in slots: P1 with a master node that pulses every 30 ticks, and every 17, where 10.10 does not fit
+abbrev pub slots : ℕ → Plan
+slots P = plan (pulsing P) (P1 .streams) []

@@ -1,4 +1,4 @@
--- What is done with the plan that was read of a file may be done by the counts and the words, without a sheet. Assumes nothing.
+-- What is done with the plan that was read of a file may be done by its edition, the counts and the words, without a sheet. Assumes nothing.
 use mathlib.Core.Path.{_≡_, refl, sym, ap, ap₂, _∙_}
 use mathlib.Core.List.{List}
 use Prim.Native.Nat.{ℕ}
@@ -8,42 +8,47 @@ use Rattle.names.specs.declared.Refusal.{Refusal}
 use Rattle.laws.proofs.Lists.{length-rows}
 use Rattle.plan.specs.declared.Sheet.{Sheet}
 use Rattle.plan.specs.Plan.{Plan, planOf}
+use Rattle.carried.specs.declared.Edition.{Edition}
 use Rattle.carried.specs.Layout as layout
-use Rattle.carried.specs.Carried.{streamIn, planIn, sheetOf}
+use Rattle.carried.specs.Carried.{streamIn, planIn, editionOf, sheetOf}
 use Rattle.carried.proofs.Plans.{one-sheet}
 use Rattle.judge.specs.declared.Checked.{Checked, the-variants.Fine, the-variants.Refused}
 use Rattle.judge.specs.Table.{judge}
 use Rattle.checks.specs.Checks.{lines}
+use Rattle.checks.proofs.Fine.{fine-if-right}
 use Rattle.file.specs.declared.Counts.the-variants.{Of, Refused as Counts·Refused}
 use Rattle.file.specs.File.{bodiesIn, carriedOf, readAs, readOf, countsOf}
 use Rattle.file.proofs.Reading.{planAt, counts-refused, counts-are, counts-right, counts-plan}
 
--- `read` is what is done with an answer and its sheet: by the counts and the plan where it is fine, and else by the refusal alone
-module _ {A : Type 0} (read : Checked → Sheet → A) (no : Refusal → A) (by : ℕ → ℕ → Plan → A)
-    (fine : (s : Sheet) → read Fine s ≡ by (s .count) (s .sources) (planOf s)) (not : (r : Refusal) (s : Sheet) → read (Refused r) s ≡ no r)
-    (refused : (n m : ℕ) (p : Plan) (r : Refusal) → judge (lines n m p) ≡ Refused r → by n m p ≡ no r) where
+-- `read` is what is done with an answer and its sheet: by the edition, the counts and the plan where it is fine, and else by the refusal alone
+module _ {A : Type 0} (read : Checked → Sheet → A) (no : Refusal → A) (by : Edition → ℕ → ℕ → Plan → A)
+    (fine : (s : Sheet) → read Fine s ≡ by (editionOf (planOf s)) (s .count) (s .sources) (planOf s)) (not : (r : Refusal) (s : Sheet) → read (Refused r) s ≡ no r)
+    (refused : (edition : Edition) (n m : ℕ) (p : Plan) (r : Refusal) → judge (lines edition n m p) ≡ Refused r → by edition n m p ≡ no r) where
   pub not-counted : (bs : List ℕ) (r : Refusal) → countsOf bs ≡ Counts·Refused r → read (readOf bs .answer) (readOf bs .sheet) ≡ no r
   not-counted bs r e = ap (λ f. read (f .answer) (f .sheet)) (counts-refused bs r e) ∙ not r _
 
-  module _ (bs : List ℕ) (n m : ℕ) (e : countsOf bs ≡ Of n m) where
+  module _ (bs : List ℕ) (edition : Edition) (n m : ℕ) (e : countsOf bs ≡ Of edition n m) where
     abbrev p : Plan
-    p = planAt n m bs
+    p = planAt edition n m bs
 
-    own : read Fine (sheetOf p) ≡ by n m p
+    own : judge (lines edition n m p) ≡ Fine → read Fine (sheetOf p) ≡ by edition n m p
     unfolding planIn
-    own =
-        let n-is = length-rows n (λ r. streamIn (bodiesIn bs) (layout.streamAt r)) in
-        let m-is = length-rows m (λ k. getD (bodiesIn bs) (layout.gapAt n k) 0) in
-        let (some, few, quiet) = counts-right bs n m e in
+    own d =
+        let n-is = length-rows n (λ r. streamIn (bodiesIn edition bs) (layout.streamAt r)) in
+        let m-is = length-rows m (λ k. getD (bodiesIn edition bs) (layout.gapAt n k) 0) in
+        let (some, few, quiet) = counts-right bs edition n m e in
+        let sheet : planOf (sheetOf p) ≡ p = one-sheet p (omega (arith, n-is, few)) (omega (arith, m-is, quiet)) in
+        let is : edition ≡ editionOf p = fine-if-right edition n m p .0 d .0 in
         fine (sheetOf p)
-        ∙ ap₂ (λ i j. by i j (planOf (sheetOf p))) n-is m-is
-        ∙ ap (by n m) (one-sheet p (omega (arith, n-is, few)) (omega (arith, m-is, quiet)))
+        ∙ ap₂ (λ i j. by (editionOf (planOf (sheetOf p))) i j (planOf (sheetOf p))) n-is m-is
+        ∙ ap (λ q. by (editionOf q) n m q) sheet
+        ∙ ap (λ x. by x n m p) (sym is)
 
-    as-read : (c : Checked) → judge (lines n m p) ≡ c → read (readAs c p .answer) (readAs c p .sheet) ≡ by n m p
-    as-read Fine d = own
-    as-read (Refused r) d = not r _ ∙ sym (refused n m p r d)
+    as-read : (c : Checked) → judge (lines edition n m p) ≡ c → read (readAs c p .answer) (readAs c p .sheet) ≡ by edition n m p
+    as-read Fine d = own d
+    as-read (Refused r) d = not r _ ∙ sym (refused edition n m p r d)
 
-    pub by-words : {ws : List ℕ} → ws ≡ carriedOf bs (replicate layout.largest 0) → read (readOf bs .answer) (readOf bs .sheet) ≡ by n m (planIn n m ws)
+    pub by-words : {ws : List ℕ} → ws ≡ carriedOf bs (replicate layout.largest 0) → read (readOf bs .answer) (readOf bs .sheet) ≡ by edition n m (planIn n m ws)
     by-words d =
-        ap (λ f. read (f .answer) (f .sheet)) (counts-are bs n m e) ∙ as-read (judge (lines n m p)) refl
-        ∙ ap (by n m) (sym (counts-plan bs n m e d))
+        ap (λ f. read (f .answer) (f .sheet)) (counts-are bs edition n m e) ∙ as-read (judge (lines edition n m p)) refl
+        ∙ ap (by edition n m) (sym (counts-plan bs edition n m e d))

@@ -12,11 +12,12 @@ use Rattle.names.specs.Limits.{streams, sources}
 use Rattle.names.specs.declared.Refusal.{Refusal}
 use Rattle.plan.specs.declared.Sheet.{Sheet}
 use Rattle.plan.specs.Plan.{Plan, planOf}
+use Rattle.carried.specs.declared.Edition.{Edition}
 use Rattle.carried.specs.Layout as layout
 use Rattle.plan.proofs.Places.{Owned}
 use Rattle.judge.specs.declared.Checked.{Checked, the-variants.Fine, the-variants.Refused}
 use Rattle.judge.specs.Table.{Line, judge, unless}
-use Rattle.carried.specs.Carried.{planIn, inPlaces}
+use Rattle.carried.specs.Carried.{planIn, editionOf, inPlaces}
 use Rattle.carried.proofs.Plans.{plan-in-places}
 use Rattle.checks.specs.Checks.{inRange, lines}
 use Rattle.judge.proofs.Table.{given, passed, nothing-given, fine-then, refused-then}
@@ -26,27 +27,32 @@ use Rattle.file.specs.declared.Written.the-variants.{Bytes, Refused as W
 use Rattle.file.specs.File.{fileOf, linesOut, writeAs, writeWith, writeOf}
 use Rattle.file.specs.Claims.{WrongCounts}
 
-module _ (n m : ℕ) (p : Plan) (buf : List ℕ) where
+module _ (edition : Edition) (n m : ℕ) (p : Plan) (buf : List ℕ) where
   -- a line of the values is given
-  pub write-refused : (r : Refusal) → judge (lines n m p) ≡ Refused r → writeWith n m p buf ≡ (Written·Refused r, buf)
+  pub write-refused : (r : Refusal) → judge (lines edition n m p) ≡ Refused r → writeWith edition n m p buf ≡ (Written·Refused r, buf)
   unfolding writeWith
-  write-refused r e = ap (λ c. writeAs c n m p buf) (refused-then _ _ r e)
+  write-refused r e = ap (λ c. writeAs c edition n m p buf) (refused-then _ _ r e)
 
-  module _ (fine : judge (lines n m p) ≡ Fine) where
+  module _ (fine : judge (lines edition n m p) ≡ Fine) where
     -- 6
-    pub write-no-room : length buf < layout.size n m → writeWith n m p buf ≡ (Written·Refused (record { number = 6; place = 0 }), buf)
+    pub write-no-room : length buf < layout.size edition n m → writeWith edition n m p buf ≡ (Written·Refused (record { number = 6; place = 0 }), buf)
     unfolding writeWith
-    write-no-room h = ap (λ c. writeAs c n m p buf) (fine-then _ _ fine ∙ given _ _ 0 (ap unless (lt-leb _ _ h)))
+    write-no-room h = ap (λ c. writeAs c edition n m p buf) (fine-then _ _ fine ∙ given _ _ 0 (ap unless (lt-leb _ _ h)))
 
-    pub write-fine : layout.size n m ≤ length buf → writeWith n m p buf ≡ (Bytes (layout.size n m), fileOf p ++ drop (layout.size n m) buf)
+    pub write-fine : layout.size edition n m ≤ length buf
+        → writeWith edition n m p buf ≡ (Bytes (layout.size edition n m), fileOf p ++ drop (layout.size edition n m) buf)
     unfolding writeWith
-    write-fine h = ap (λ c. writeAs c n m p buf) (fine-then _ _ fine ∙ passed _ _ (ap unless (le-leb _ _ h)) ∙ nothing-given)
+    write-fine h = ap (λ c. writeAs c edition n m p buf) (fine-then _ _ fine ∙ passed _ _ (ap unless (le-leb _ _ h)) ∙ nothing-given)
 
 -- ---- a sheet and its words
-pub same-writing : (s : Sheet) (o : Owned s) (buf : List ℕ) → writeWith (s .count) (s .sources) (planInWords s o) buf ≡ writeOf s buf
+pub same-writing : (s : Sheet) (o : Owned s) (buf : List ℕ)
+    → let x = editionOf (planOf s) in writeWith x (s .count) (s .sources) (planInWords s o x) buf ≡ writeOf s buf
 unfolding writeWith writeOf
-same-writing s o buf = go (judge (linesOut n m (planOf s) buf)) refl
+same-writing s o buf = go (judge (linesOut x n m (planOf s) buf)) refl
   where
+    x : Edition
+    x = editionOf (planOf s)
+
     n : ℕ
     n = s .count
 
@@ -54,27 +60,28 @@ same-writing s o buf = go (judge (linesOut n m (planOf s) buf)) refl
     m = s .sources
 
     six : List Line
-    six = record { number = 6; place = unless (leb (layout.size n m) (length buf)) } ∷ []
+    six = record { number = 6; place = unless (leb (layout.size x n m) (length buf)) } ∷ []
 
-    go : (c : Checked) → judge (linesOut n m (planOf s) buf) ≡ c → writeWith n m (planInWords s o) buf ≡ writeWith n m (planOf s) buf
-    go Fine e = ap (λ p. writeWith n m p buf) (same-plan-if-fine s o six e)
-    go (Refused r) e = ap (λ c. writeAs c n m (planInWords s o) buf) (same-lines s o six ∙ e) ∙ sym (ap (λ c. writeAs c n m (planOf s) buf) e)
+    go : (c : Checked) → judge (linesOut x n m (planOf s) buf) ≡ c → writeWith x n m (planInWords s o x) buf ≡ writeWith x n m (planOf s) buf
+    go Fine e = ap (λ p. writeWith x n m p buf) (same-plan-if-fine s o x six e)
+    go (Refused r) e = ap (λ c. writeAs c x n m (planInWords s o x) buf) (same-lines s o x six ∙ e) ∙ sym (ap (λ c. writeAs c x n m (planOf s) buf) e)
 
 -- ---- counts out of range, and lent words in places
 pub wrong-counts : WrongCounts
-wrong-counts n m p buf =
-    let two : inRange n m ≡ false → writeWith n m p buf ≡ _ = λ e. write-refused n m p buf _ (out-of-range n m e p []) in
+wrong-counts edition n m p buf =
+    let two : inRange n m ≡ false → writeWith edition n m p buf ≡ _ = λ e. write-refused edition n m p buf _ (out-of-range n m e edition p []) in
     (λ h. two (too-few n m h), λ h. two (too-many n m h), λ h. two (too-noisy n m h))
 
-pub values-written : (n m : ℕ) (ws buf : List ℕ) → writeWith n m (planIn n m (inPlaces ws)) buf ≡ writeWith n m (planIn n m ws) buf
-values-written n m ws buf =
+pub values-written : (edition : Edition) (n m : ℕ) (ws buf : List ℕ)
+    → writeWith edition n m (planIn n m (inPlaces ws)) buf ≡ writeWith edition n m (planIn n m ws) buf
+values-written edition n m ws buf =
     let p = planIn n m (inPlaces ws) in
     let q = planIn n m ws in
     elim (decLe n streams) [
       | yes few ↦
           elim (decLe m sources) [
-            | yes quiet ↦ ap (λ r. writeWith n m r buf) (plan-in-places n m ws few quiet)
-            | no noisy ↦ let h = lt-of-not-le noisy in wrong-counts n m p buf .2 h ∙ sym (wrong-counts n m q buf .2 h)
+            | yes quiet ↦ ap (λ r. writeWith edition n m r buf) (plan-in-places n m ws few quiet)
+            | no noisy ↦ let h = lt-of-not-le noisy in wrong-counts edition n m p buf .2 h ∙ sym (wrong-counts edition n m q buf .2 h)
           ]
-      | no many ↦ let h = lt-of-not-le many in wrong-counts n m p buf .1 h ∙ sym (wrong-counts n m q buf .1 h)
+      | no many ↦ let h = lt-of-not-le many in wrong-counts edition n m p buf .1 h ∙ sym (wrong-counts edition n m q buf .1 h)
     ]

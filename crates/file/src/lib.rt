@@ -3,9 +3,10 @@
 // specs/ goes from bytes to raw words, from raw words to a plan, and back; proofs/ has the two round trips. The reader and
 // the writer are crates above, which promise what is defined here. Nothing is assumed. The two functions are lent nothing.
 use carried::CONTENTS;
+use carried::Edition;
 use carried::STREAM;
-use carried::TIMING;
 use carried::WORD;
+use carried::timing_body;
 use judge::Checked;
 use names::Refusal;
 use plan::Sheet;
@@ -19,9 +20,9 @@ pub struct ReadPlan {
     pub sheet: Sheet,
 }
 
-// What the contents of a file say: n streams and m noise gaps, or why they say nothing.
+// What the contents of a file say: its edition, n streams and m noise gaps, or why they say nothing.
 pub enum Counts {
-    Of(usize, usize),
+    Of(Edition, usize, usize),
     Refused(Refusal),
 }
 
@@ -32,30 +33,41 @@ pub enum Written {
 }
 
 // The bytes of a file of n streams and m noise sources.
-pub fn size(n: u16, m: u16) -> usize
-    ensures { λ r. ⌜ r ≡ layout.size n m ⌝ }
+pub fn size(edition: Edition, n: u16, m: u16) -> usize
+    ensures { λ r. ⌜ r ≡ layout.size edition n m ⌝ }
 {
-    WORD * (CONTENTS + TIMING + STREAM * n as usize + m as usize)
+    let timing = timing_body(edition);
+    WORD * (CONTENTS + (timing + (STREAM * n as usize + m as usize)))
+}
+
+fn number_of(edition: Edition) -> u32
+    ensures { λ r. ⌜ r ≡ layout.editionNumber edition ⌝ }
+{
+    match edition {
+        Edition::One => 1,
+        Edition::Two => 2,
+    }
 }
 
 // The contents of a file of n streams and m noise sources.
-pub fn contents(n: u16, m: u16) -> [u32; CONTENTS]
-    ensures { λ r. ⌜ r ≡ spec.contents n m ⌝ }
+pub fn contents(edition: Edition, n: u16, m: u16) -> [u32; CONTENTS]
+    ensures { λ r. ⌜ r ≡ spec.contents edition n m ⌝ }
 {
-    let edition = 1;
+    let number = number_of(edition);
+    let timing = timing_body(edition);
     let entries = 3;
     let streams = STREAM * n as usize;
     [
-        edition,
+        number,
         entries,
         1,
         (WORD * CONTENTS) as u32,
-        (WORD * TIMING) as u32,
+        (WORD * timing) as u32,
         2,
-        (WORD * (CONTENTS + TIMING)) as u32,
+        (WORD * (CONTENTS + timing)) as u32,
         (WORD * streams) as u32,
         3,
-        (WORD * (CONTENTS + (TIMING + streams))) as u32,
+        (WORD * (CONTENTS + (timing + streams))) as u32,
         (WORD * m as usize) as u32,
     ]
 }

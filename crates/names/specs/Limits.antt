@@ -23,6 +23,10 @@ payload = 65535
 abbrev pub bits : ℕ
 bits = 32
 
+-- P is 1 to 5,000,000 where a kit has a master node
+abbrev pub slot : ℕ
+slot = 5000000
+
 -- "none" exactly if no busy period is at most 4,294,967,295; a period, a jitter, a deadline and a gap are at most that, too
 abbrev pub ticks : ℕ
 ticks = 4294967295

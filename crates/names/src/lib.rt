@@ -41,5 +41,8 @@ pub const PAYLOAD: u32 = 65535;
 
 pub const BITS: u32 = 32;
 
+// The longest slot of a master node, in ticks.
+pub const SLOT: u32 = 5000000;
+
 // The largest busy period, in ticks, that is looked for.
 pub const TICKS: u64 = 4294967295;

@@ -18,7 +18,9 @@ use Rattle.laws.proofs.Rows.{some-passes}
 use Rattle.bound.specs.declared.Verdict.{Verdict, the-variants.Met, the-variants.Missed, the-variants.None}
 use Rattle.bound.specs.Bound.{E, demand, sideL, busy, sideW, w, bound, answer}
 use Rattle.plan.specs.Plan.{Plan, at}
-use Rattle.plan.specs.Rules.{B, hit, terms, rowAnswer}
+use Rattle.plan.specs.Rules.{selfOrSlotted, B, hit, terms, rowAnswer}
+use Rattle.carried.specs.Layout as layout
+use Rattle.carried.specs.Carried.{editionOf}
 use Rattle.cover.specs.Cover.{Partnered}
 use Rattle.fields.specs.Fields.{fields, lowest}
 use Rattle.judge.specs.declared.Checked.{Checked, the-variants.Fine, the-variants.Refused}
@@ -39,10 +41,10 @@ isFine Fine = true
 isFine (Refused r) = false
 
 abbrev fine : Plan → Bool
-fine p = isFine (judge (lines (length (p .streams)) (length (p .gaps)) p))
+fine p = isFine (judge (lines (editionOf p) (length (p .streams)) (length (p .gaps)) p))
 
 fine-says : (p : Plan) → fine p ≡ true → NotRefused p
-fine-says p e = fine-if-right _ _ p .0 (go _ e)
+fine-says p e = fine-if-right (editionOf p) _ _ p .0 (go _ e) .1
   where
     go : (c : Checked) → isFine c ≡ true → c ≡ Fine
     go Fine d = refl
@@ -108,7 +110,7 @@ right-says i p e =
     (fine-says _ a, fine-says _ b, broken-says i _ _ c, lost-says _ _ d)
 
 all-right : every howMany (λ i. right i (pair i)) ≡ true
-unfolding every some first those sumOf largestOf largestTo firstRepeat E demand sideL busy sideW w bound answer B hit terms fields lowest flatMap judge rowOf conditions
+unfolding every some first those sumOf largestOf largestTo firstRepeat E demand sideL busy sideW w bound answer selfOrSlotted B hit terms layout.editionFor fields lowest flatMap judge rowOf conditions
 all-right = refl
 
 pub each-needed : EachNeeded
@@ -116,7 +118,7 @@ each-needed i h = right-says i (pair i) (every-each (λ j. right j (pair j)) how
 
 -- ---- lighter in every respect: 11.2 and 10.1 stand in rows 2 and 0 of the first plan
 both-fine : fine (easier .old) && fine (easier .new) ≡ true
-unfolding some first firstRepeat fields lowest flatMap judge
+unfolding some first firstRepeat selfOrSlotted layout.editionFor fields lowest flatMap judge
 both-fine = refl
 
 no-greater : NoGreater (easier .old .timing) (easier .new .timing)
@@ -131,6 +133,7 @@ no-greater =
       etg = omega arith;
       lag = omega arith;
       nb = omega arith;
+      p = omega arith;
     }
 
 abbrev row : ℕ → ℕ
@@ -169,4 +172,4 @@ partners = (500 ∷ [], 900, 500 ∷ [], refl, omega arith, ([], 500, 500 ∷ []
 pub not-empty : NotEmpty
 not-empty =
     let (a, b) = both (fine (easier .old)) (fine (easier .new)) both-fine in
-    (fine-says _ a, fine-says _ b, record { timing = no-greater; row = λ k h. row k; stands = stand; order = order; gaps = partners })
+    (fine-says _ a, fine-says _ b, record { kit = (λ e. e, λ e. e); timing = no-greater; row = λ k h. row k; stands = stand; order = order; gaps = partners })

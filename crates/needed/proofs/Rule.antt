@@ -1,4 +1,5 @@
--- The 16 conditions are the rule: 0 to 8 are its test of the constants, 9 to 13 of a stream, 14 of the order, 15 of a noise gap. Assumes nothing.
+-- The 18 conditions are the rule: 0 is its test of the master node, 1 to 10 of the constants, 11 to 15 of a stream, 16 of the order, 17 of a
+-- noise gap. Assumes nothing.
 use mathlib.Core.Path.{_≡_, refl, sym}
 use mathlib.Core.Bool.{Bool, true, false, true≢false}
 use mathlib.Core.List.{List, [], _∷_}
@@ -29,7 +30,7 @@ each-true none j h = absurd (omega arith)
 each-true (e and a) zero h = e
 each-true (e and a) (suc j) h = each-true a j (omega arith)
 
--- ---- a stream of the second plan: conditions 9 to 13 of its row
+-- ---- a stream of the second plan: conditions 11 to 15 of its row
 module _ (old : Plan) (s : Stream) where
   in-row : (f : Found) → stands s f ≡ true
       → holds (λ a b. leb (a .period) (b .period)) old s f ≡ true
@@ -59,31 +60,33 @@ module _ (old new : Plan) where
   unfolding conditions
   constants-hold h =
       record {
-        f = leb-true _ _ (h 0 (omega arith));
-        e = leb-true _ _ (h 1 (omega arith));
-        tfcs = leb-true _ _ (h 2 (omega arith));
-        swx = leb-true _ _ (h 3 (omega arith));
-        h = leb-true _ _ (h 4 (omega arith));
-        g = leb-true _ _ (h 5 (omega arith));
-        etg = leb-true _ _ (h 6 (omega arith));
-        lag = leb-true _ _ (h 7 (omega arith));
-        nb = leb-true _ _ (h 8 (omega arith));
+        f = leb-true _ _ (h 1 (omega arith));
+        e = leb-true _ _ (h 2 (omega arith));
+        tfcs = leb-true _ _ (h 3 (omega arith));
+        swx = leb-true _ _ (h 4 (omega arith));
+        h = leb-true _ _ (h 5 (omega arith));
+        g = leb-true _ _ (h 6 (omega arith));
+        etg = leb-true _ _ (h 7 (omega arith));
+        lag = leb-true _ _ (h 8 (omega arith));
+        nb = leb-true _ _ (h 9 (omega arith));
+        p = leb-true _ _ (h 10 (omega arith));
       }
 
   unbroken-if : AllHold → Unbroken old new
   unfolding conditions
   unbroken-if h =
       record {
+        kit = must-true _ _ (h 0 (omega arith));
         constants = constants-nothing (old .timing) (new .timing) (constants-hold h);
         streams = λ k l.
             in-row old (at new k) (rowOf old (at new k .label))
-            (every-each _ _ (h 9 (omega arith)) k l)
-            (every-each _ _ (h 10 (omega arith)) k l)
             (every-each _ _ (h 11 (omega arith)) k l)
             (every-each _ _ (h 12 (omega arith)) k l)
-            (every-each _ _ (h 13 (omega arith)) k l);
-        order = λ k l. must-true _ _ (every-each _ _ (h 14 (omega arith)) k l);
-        gaps = λ k l. must-true _ _ (every-each _ _ (h 15 (omega arith)) k l);
+            (every-each _ _ (h 13 (omega arith)) k l)
+            (every-each _ _ (h 14 (omega arith)) k l)
+            (every-each _ _ (h 15 (omega arith)) k l);
+        order = λ k l. must-true _ _ (every-each _ _ (h 16 (omega arith)) k l);
+        gaps = λ k l. must-true _ _ (every-each _ _ (h 17 (omega arith)) k l);
       }
 
   -- and back
@@ -95,7 +98,8 @@ module _ (old new : Plan) where
   if-unbroken u =
       let n = no-greater (old .timing) (new .timing) (u .constants) in
       each-true
-      (le-leb _ _ (n .f)
+      (must-nothing _ _ (u .kit)
+      and le-leb _ _ (n .f)
       and le-leb _ _ (n .e)
       and le-leb _ _ (n .tfcs)
       and le-leb _ _ (n .swx)
@@ -104,6 +108,7 @@ module _ (old new : Plan) where
       and le-leb _ _ (n .etg)
       and le-leb _ _ (n .lag)
       and le-leb _ _ (n .nb)
+      and le-leb _ _ (n .p)
       and every-all _ _ (λ k l. it-stands old (at new k) (rowOf old (at new k .label)) (u .streams k l))
       and each-holds u (λ a b. leb (a .period) (b .period)) (λ a b e. le-leb _ _ (e .period))
       and each-holds u (λ a b. leb (b .jitter) (a .jitter)) (λ a b e. le-leb _ _ (e .jitter))

@@ -1,7 +1,7 @@
--- None of the 16 conditions of the lighter plan is idle: a table with two plans for each, `old` and `new`, that break this condition alone,
+-- None of the 18 conditions of the lighter plan is idle: a table with two plans for each, `old` and `new`, that break this condition alone,
 -- and a stream loses its promise. Proved in proofs/Needed.antt. That the conditions are the rule is proved in proofs/Rule.antt.
 use mathlib.Core.Path.{_≡_}
-use mathlib.Core.Bool.{Bool, true, false, not}
+use mathlib.Core.Bool.{Bool, true, false, not, Bool·beq}
 use mathlib.Core.Logic.{_↔_}
 use mathlib.Core.List.{List, [], _∷_}
 use Prim.Native.Nat.{ℕ, _<_}
@@ -15,8 +15,8 @@ use Rattle.plan.specs.declared.Stream.{Stream}
 use Rattle.plan.specs.Plan.{Plan, at}
 use Rattle.promise.specs.Lighter.{Namesakes, Lighter, NotRefused, Kept}
 use Rattle.compare.specs.declared.Change.the-variants.{Nothing}
-use Rattle.compare.specs.Changes.{rowOf, overtakes, atMost, changes}
-use Rattle.figures.specs.Plans.{constants, stream, plan, base}
+use Rattle.compare.specs.Changes.{hasMaster, rowOf, overtakes, atMost, changes}
+use Rattle.figures.specs.Plans.{timed, constants, pulsing, stream, plan, base}
 
 -- ---- the conditions
 
@@ -36,8 +36,10 @@ holds t old s Found·Nothing = true
 
 unfoldable pub conditions : Plan → Plan → List Bool
 conditions old new =
-    -- 0 to 8: no constant is greater
-    leb (new .timing .f) (old .timing .f)
+    -- 0: both have a master node, or neither has
+    Bool·beq (hasMaster (old .timing)) (hasMaster (new .timing))
+    -- 1 to 10: no constant is greater
+    ∷ leb (new .timing .f) (old .timing .f)
     ∷ leb (new .timing .e) (old .timing .e)
     ∷ leb (new .timing .tfcs) (old .timing .tfcs)
     ∷ leb (new .timing .swx) (old .timing .swx)
@@ -46,22 +48,23 @@ conditions old new =
     ∷ leb (new .timing .etg) (old .timing .etg)
     ∷ leb (new .timing .lag) (old .timing .lag)
     ∷ leb (new .timing .nb) (old .timing .nb)
-    -- 9: each label stands in the first plan
+    ∷ leb (new .timing .p) (old .timing .p)
+    -- 11: each label stands in the first plan
     ∷ eachBeside stands old new
-    -- 10 to 13, where it does: the period is no shorter, jitter and payload no longer, the deadline no shorter
+    -- 12 to 15, where it does: the period is no shorter, jitter and payload no longer, the deadline no shorter
     ∷ eachBeside (holds (λ a b. leb (a .period) (b .period)) old) old new
     ∷ eachBeside (holds (λ a b. leb (b .jitter) (a .jitter)) old) old new
     ∷ eachBeside (holds (λ a b. leb (b .payload) (a .payload)) old) old new
     ∷ eachBeside (holds (λ a b. leb (a .deadline) (b .deadline)) old) old new
-    -- 14: no row overtakes another
+    -- 16: no row overtakes another
     ∷ every (length (new .streams)) (λ k. not (some (overtakes old new k) (length (new .streams))))
-    -- 15: each noise source has its own partner
+    -- 17: each noise source has its own partner
     ∷ every (length (new .gaps)) (λ k. leb (atMost (getD (new .gaps) k 0) (new .gaps)) (atMost (getD (new .gaps) k 0) (old .gaps)))
     ∷ []
 
 -- how many there are
 abbrev pub howMany : ℕ
-howMany = 16
+howMany = 18
 
 -- ---- the pairs
 
@@ -77,6 +80,10 @@ old becomes new = record { old = old; new = new }
 abbrev oneUnder : Timing → Plan
 oneUnder t = plan t (stream 10 1 1 100 0 5 23 ∷ []) []
 
+-- the same for slots, where its C'' is 16: its deadline is 31
+abbrev inSlots : Timing → Plan
+inSlots t = plan t (stream 10 1 1 1000 0 5 31 ∷ []) []
+
 -- two streams under the base constants, 10.1 with T, J and D as given: with T 100 and J 0 the bound of 10.1 is 14 + 23 = 37, and that of
 -- 10.10 is 23 + 23 = 46, its deadline
 abbrev two : ℕ → ℕ → ℕ → Plan
@@ -85,8 +92,11 @@ two t j d = plan base (stream 10 1 1 t j 5 d ∷ stream 10 10 2 100 0 5 46 ∷ [
 -- pair i breaks condition i alone
 abbrev pub allPairs : List Pair
 allPairs =
+    -- the master node goes, with F at 100: in slots of 16 ticks the bound of 10.1 is B + C'' = 15 + 16 = 31, its deadline, and without them
+    -- it is V + C' = 104 + 15 = 119
+    (inSlots (timed 16 100 1 1 2 1 1 2 1 4) becomes inSlots (timed 0 100 1 1 2 1 1 2 1 4))
     -- F grows from 4 to 5: V grows from 8 to 9, and the bound of 10.1 from 23 to 24, past its deadline of 23
-    (oneUnder base becomes oneUnder (constants 5 1 1 2 1 1 2 1 4))
+    ∷ (oneUnder base becomes oneUnder (constants 5 1 1 2 1 1 2 1 4))
     -- E grows from 1 to 2: the same
     ∷ (oneUnder base becomes oneUnder (constants 4 2 1 2 1 1 2 1 4))
     -- TFCS grows from 1 to 3, past SWX, which is 2: the same
@@ -103,6 +113,8 @@ allPairs =
     ∷ (oneUnder base becomes oneUnder (constants 4 1 1 2 1 1 2 2 4))
     -- NB grows from 4 to 5: U grows from 10 to 12, and the bound of 10.1 from 23 to 25
     ∷ (oneUnder base becomes oneUnder (constants 4 1 1 2 1 1 2 1 5))
+    -- P grows from 16 to 17: B grows from 15 to 16, and the bound of 10.1 from 31 to 32, past its deadline of 31
+    ∷ (inSlots (pulsing 16) becomes inSlots (pulsing 17))
     -- the label 10.10 is new, and more urgent: the bound of 10.1 grows from 23 to 46, past its deadline of 23
     ∷ (plan base (stream 10 1 2 100 0 5 23 ∷ []) [] becomes plan base (stream 10 10 1 100 0 5 60 ∷ stream 10 1 2 100 0 5 23 ∷ []) [])
     -- T of 10.1 falls from 100 to 30: 10.10 waits for two of its messages, and the bound of 10.10 grows from 46 to 69, past its deadline
@@ -124,7 +136,7 @@ pair i = getD allPairs i (oneUnder base becomes oneUnder base)
 
 -- ---- the claims
 
--- the 16 conditions are the rule: all hold exactly if the test of two plans finds no change
+-- the 18 conditions are the rule: all hold exactly if the test of two plans finds no change
 abbrev pub AllHoldExactly : Type 0
 AllHoldExactly = (old new : Plan) → ((j : ℕ) → j < howMany → getD (conditions old new) j false ≡ true) ↔ (changes old new ≡ Nothing)
 

@@ -9,13 +9,14 @@ use Rattle.names.specs.declared.Refusal.{Refusal}
 use Rattle.judge.specs.declared.Checked.{Checked, the-variants.Fine, the-variants.Refused}
 use Rattle.judge.specs.Table.{Line, judge, unless}
 use Rattle.plan.specs.declared.Stream.{Stream}
-use Rattle.carried.specs.Carried.{timingIn}
+use Rattle.carried.specs.Carried.{timingIn, planIn, editionOf}
 use Rattle.compare.specs.declared.Reason.{Reason}
-use Rattle.compare.specs.declared.Reason.the-variants.{GreaterConstant, NewLabel, ShorterPeriod, LongerJitter}
+use Rattle.compare.specs.declared.Reason.the-variants.{MasterNode, GreaterConstant, NewLabel, ShorterPeriod, LongerJitter}
 use Rattle.compare.specs.declared.Reason.the-variants.{LongerPayload, ShorterDeadline, LessUrgent, MoreNoise}
 use Rattle.compare.specs.declared.Compared.{Compared}
 use Rattle.compare.specs.declared.Compared.the-variants.{FirstRefused, SecondRefused, Lighter, RunAgain}
 use Rattle.file.specs.declared.Written.{Written, the-variants.Bytes, the-variants.Refused as Written·Refused}
+use Rattle.file.specs.File.{writeWith}
 use Rattle.answers.specs.Answers.{answerOf}
 use Rattle.tournament_state.specs.declared.Phase.{Phase, the-variants.AtBit, the-variants.Finished, the-variants.NoWinner}
 use Rattle.tournament_state.specs.Refusals.{stateLines}
@@ -51,7 +52,11 @@ abbrev pub parting : Parting → Said
 parting (At k) = done k
 parting (Parting·Refused r) = refused r
 
--- the answer words of lent streams, with the timing that the first nine words are and these noise gaps
+-- the file of a plan's lent values, in the edition that their P asks for, and what the lent bytes end with
+abbrev pub writeFrom : ℕ → ℕ → List ℕ → List ℕ → Written × List ℕ
+writeFrom n m values out = let p = planIn n m values in writeWith (editionOf p) n m p out
+
+-- the answer words of lent streams, with the timing that the first ten words are and these noise gaps
 abbrev pub screenOf : List Stream → List ℕ → List ℕ → List ℕ → Checked × List ℕ
 screenOf xs ws gaps out = answerOf (sheetFor xs (timingIn ws) gaps) out
 
@@ -59,12 +64,13 @@ screenOf xs ws gaps out = answerOf (sheetFor xs (timingIn ws) gaps) out
 abbrev pub Screened : List Stream → List ℕ → List ℕ → List ℕ → Said → List ℕ → Type 0
 Screened xs ws gaps out said left = let o = screenOf xs ws gaps out in (said ≡ checked (o .0)) × (left ≡ o .1)
 
--- run again: the conditions of the lighter plan, numbered from 1 in the order in which they are looked at, each with what breaks it, the
--- constant from 0 in file order, the label, or the gap
+-- run again: the conditions of the lighter plan, each with its number and with what breaks it, the constant from 0 in file order, the
+-- label, or the gap. 1 to 8 are numbered in the order in which they are looked at; 9, which came later, is looked at before them
 abbrev pub broken : ℕ → ℕ → Weighed
 broken condition value = record { answer = 3; number = condition; value = value }
 
 abbrev pub again : Reason → Weighed
+again MasterNode = broken 9 0
 again (GreaterConstant k) = broken 1 k
 again (NewLabel l) = broken 2 (l .0)
 again (ShorterPeriod l) = broken 3 (l .0)

@@ -7,12 +7,12 @@ ghost use mathlib.Core.Path.{_≡_};
 ghost use Rattle.answer_files.specs.AnswerFiles.{answerFileOf};
 ghost use Rattle.compare_files.specs.Files.{comparedFiles};
 ghost use Rattle.tournament.specs.Answers.{partingOf};
-ghost use Rattle.file.specs.File.{writeWith};
 ghost use Rattle.rewriter.specs.Rewriter.{rewriteOf};
-ghost use Rattle.carried.specs.Carried.{planIn};
 ghost use Rattle.outside.specs.Outside as number;
 ghost use Rattle.outside.specs.Outside.{Screened};
 use answer_files::answer_file;
+use carried::TIMING;
+use carried::edition_for;
 use carried::timing_from;
 use carried::words_from;
 use compare::Compared;
@@ -108,20 +108,22 @@ pub extern "C" fn livnakesh_rewrite(file: &[u8], out: &mut [u8]) -> Said
     }
 }
 
-// The file of n streams and m noise gaps whose values are lent as plain words, written into lent bytes.
+// The file of n streams and m noise gaps whose values are lent as plain words, ten of the timing first, written into lent bytes. P, the
+// tenth, decides the edition.
 #[no_mangle]
 pub extern "C" fn livnakesh_write(n: usize, m: usize, values: &[u32], out: &mut [u8]) -> Said
-    ensures { λ s. ⌜ s ≡ number.written (writeWith n m (planIn n m (now (values .entry))) (now (out .entry)) .0) ⌝ }
-    ensures { λ _. ⌜ now (out .exit) ≡ writeWith n m (planIn n m (now (values .entry))) (now (out .entry)) .1 ⌝ }
+    ensures { λ s. ⌜ s ≡ number.written (number.writeFrom n m (now (values .entry)) (now (out .entry)) .0) ⌝ }
+    ensures { λ _. ⌜ now (out .exit) ≡ number.writeFrom n m (now (values .entry)) (now (out .entry)) .1 ⌝ }
 {
     let placed = words_from(values);
-    match write_words(&placed, n, m, out) {
+    let edition = edition_for(placed[TIMING - 1]);
+    match write_words(edition, &placed, n, m, out) {
         Written::Bytes(bytes) => done(bytes as u64),
         Written::Refused(r) => refused(r),
     }
 }
 
-// The answer words of lent streams, each of them its six words in file order, under a timing of nine words and these noise gaps.
+// The answer words of lent streams, each of them its six words in file order, under a timing of ten words and these noise gaps.
 #[no_mangle]
 pub extern "C" fn livnakesh_screen(
     streams: &[Stream],
@@ -165,6 +167,7 @@ fn again(reason: Reason) -> Weighed
     ensures { λ s. ⌜ s ≡ number.again reason ⌝ }
 {
     match reason {
+        Reason::MasterNode => broken(9, 0),
         Reason::GreaterConstant(k) => broken(1, k as u64),
         Reason::NewLabel(l) => by_label(2, l),
         Reason::ShorterPeriod(l) => by_label(3, l),

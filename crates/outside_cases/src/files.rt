@@ -2,6 +2,7 @@
 use crate::writing::one_file;
 use crate::writing::p1_file;
 use crate::writing::p2_file;
+use crate::writing::slots_file;
 use carried::CARRIED;
 use carried::CONTENTS;
 use carried::WORD;
@@ -97,6 +98,18 @@ fn lighter(old: &[u8], new: &[u8]) {
     print(b"\n");
 }
 
+// P1 in slots with another byte, beside P1 in slots: the second's answers, and whether it is lighter.
+fn in_slots(at: usize, byte: u8) {
+    print(b"slots with");
+    number(at as u64);
+    number(byte as u64);
+    let old = slots_file(156, 0);
+    let new = slots_file(at, byte);
+    lighter(&old, &new);
+    let mut enough = [7; 6];
+    answers(&new, &mut enough);
+}
+
 fn compared() {
     let p1 = p1_file(152, 0, 152, 0);
     let p2 = p2_file();
@@ -104,6 +117,11 @@ fn compared() {
     lighter(&p1, &p2);
     print(b"P2, P1");
     lighter(&p2, &p1);
+    let slots = slots_file(156, 0);
+    print(b"P1, slots");
+    lighter(&p1, &slots);
+    print(b"slots, P1");
+    lighter(&slots, &p1);
     let p11 = p1_file(96, 0, 152, 0);
     print(b"P11, P8");
     let p8 = p1_file(108, 1, 152, 0);
@@ -128,4 +146,10 @@ pub(crate) fn cases() {
     changed(104, 1, 152, 0);
     changed(148, 0, 149, 0);
     compared();
+    in_slots(80, 18);
+    in_slots(80, 17);
+    in_slots(80, 31);
+    in_slots(80, 0);
+    in_slots(100, 0);
+    in_slots(0, 3);
 }

@@ -5,8 +5,8 @@ use shown::answer;
 use shown::bytes;
 use shown::number;
 
-// The words of P2, which are those of P1 and a gap, with another word in one place.
-fn values(at: usize, word: u32) -> [u32; 28] {
+// The words of P2, which are those of P1 and a gap, with another word in one place. Word 9 is P, and 0 here.
+fn values(at: usize, word: u32) -> [u32; 29] {
     let mut words = [
         4,
         1,
@@ -17,6 +17,7 @@ fn values(at: usize, word: u32) -> [u32; 28] {
         2,
         1,
         4,
+        0,
         655361,
         1,
         100,
@@ -37,7 +38,7 @@ fn values(at: usize, word: u32) -> [u32; 28] {
         200,
         1000,
     ];
-    if at < 28 {
+    if at < 29 {
         words[at] = word;
     }
     words
@@ -60,30 +61,41 @@ fn write(n: usize, m: usize, at: usize, word: u32, lent: &mut [u8]) {
 // P1 and P2 whole, with less than their bytes, and in no byte; the first stream of P1 alone.
 fn room() {
     let mut long = [7; 160];
-    write(3, 1, 28, 0, &mut long);
+    write(3, 1, 29, 0, &mut long);
     let mut enough = [7; 152];
-    write(3, 0, 28, 0, &mut enough);
+    write(3, 0, 29, 0, &mut enough);
     let mut short = [7; 151];
-    write(3, 0, 28, 0, &mut short);
+    write(3, 0, 29, 0, &mut short);
     let mut one = [7; 104];
-    write(1, 0, 28, 0, &mut one);
+    write(1, 0, 29, 0, &mut one);
 }
 
 // Wrong counts, a payload and a period of 0, one priority and one label twice: a buffer that is too small comes last.
 fn wrong() {
     let mut few = [7; 10];
-    write(0, 0, 28, 0, &mut few);
-    write(65, 0, 28, 0, &mut few);
-    write(3, 9, 28, 0, &mut few);
-    write(3, 1, 13, 0, &mut few);
-    write(3, 1, 11, 0, &mut few);
-    write(3, 1, 16, 1, &mut few);
-    write(3, 1, 15, 655361, &mut few);
+    write(0, 0, 29, 0, &mut few);
+    write(65, 0, 29, 0, &mut few);
+    write(3, 9, 29, 0, &mut few);
+    write(3, 1, 14, 0, &mut few);
+    write(3, 1, 12, 0, &mut few);
+    write(3, 1, 17, 1, &mut few);
+    write(3, 1, 16, 655361, &mut few);
+}
+
+// P1 in slots of 30 ticks, whole and with a byte too few; slots that are too short for 10.10, and a P past its limit.
+fn slots() {
+    let mut enough = [7; 156];
+    write(3, 0, 9, 30, &mut enough);
+    let mut short = [7; 155];
+    write(3, 0, 9, 30, &mut short);
+    write(3, 0, 9, 18, &mut short);
+    write(3, 0, 9, 17, &mut short);
+    write(3, 0, 9, 5000001, &mut short);
 }
 
 // A gap that is not lent is 0.
 fn not_lent() {
-    let words = [4, 1, 1, 2, 1, 1, 2, 1, 4, 655361, 1, 100, 0, 5, 60];
+    let words = [4, 1, 1, 2, 1, 1, 2, 1, 4, 0, 655361, 1, 100, 0, 5, 60];
     let mut few = [7; 10];
     let said = livnakesh_write(1, 1, &words, &mut few);
     print(b"write 1 1 without the gap");
@@ -93,7 +105,7 @@ fn not_lent() {
 
 pub(crate) fn p2_file() -> [u8; 156] {
     let mut file = [7; 156];
-    let words = values(28, 0);
+    let words = values(29, 0);
     livnakesh_write(3, 1, &words, &mut file);
     file
 }
@@ -101,7 +113,7 @@ pub(crate) fn p2_file() -> [u8; 156] {
 // The file of P1 with other bytes in two places; a place past its end changes nothing.
 pub(crate) fn p1_file(at: usize, byte: u8, also: usize, other: u8) -> [u8; 152] {
     let mut file = [7; 152];
-    let words = values(28, 0);
+    let words = values(29, 0);
     livnakesh_write(3, 0, &words, &mut file);
     if at < 152 {
         file[at] = byte;
@@ -115,13 +127,25 @@ pub(crate) fn p1_file(at: usize, byte: u8, also: usize, other: u8) -> [u8; 152] 
 // The file of one stream: P3 has a period of 23, and P4 one of 22.
 pub(crate) fn one_file(period: u32) -> [u8; 104] {
     let mut file = [7; 104];
-    let words = [4, 1, 1, 2, 1, 1, 2, 1, 4, 655361, 1, period, 0, 5, 1000];
+    let words = [4, 1, 1, 2, 1, 1, 2, 1, 4, 0, 655361, 1, period, 0, 5, 1000];
     livnakesh_write(1, 0, &words, &mut file);
+    file
+}
+
+// The file of P1 in slots of 30 ticks with another byte in one place.
+pub(crate) fn slots_file(at: usize, byte: u8) -> [u8; 156] {
+    let mut file = [7; 156];
+    let words = values(9, 30);
+    livnakesh_write(3, 0, &words, &mut file);
+    if at < 156 {
+        file[at] = byte;
+    }
     file
 }
 
 pub(crate) fn cases() {
     room();
     wrong();
+    slots();
     not_lent();
 }

@@ -1,4 +1,4 @@
--- The rules over the terms of a stream are document 01's rules of its plan: the terms of hp(i) are its streams' own C'', T and J, one by one. Assumes nothing.
+-- The rules over the terms of a stream are document 01's rules of its plan: the terms of hp(i) are its streams' own airtime, T and J, one by one. Assumes nothing.
 use mathlib.Core.Path.{_≡_, refl, sym, ap, _∙_}
 use mathlib.Core.Bool.{Bool, true, false, cond}
 use mathlib.Core.List.{List, [], _∷_, map}
@@ -15,9 +15,10 @@ use Rattle.bound.specs.declared.Verdict.the-variants.{Met, Missed, None}
 use Rattle.bound.specs.Bound.{E, demand, sideL, sideW, busy, w, bound, answerFor, answer, verdictNumber}
 use Rattle.bound.proofs.Sides.{busy-is-least, none-exactly}
 use Rattle.bound.proofs.Instances.{w-exists}
+use Rattle.plan.specs.declared.Timing.{Timing}
 use Rattle.plan.specs.declared.Stream.{Stream}
 use Rattle.plan.specs.Plan.{Plan, blank, StreamWithin}
-use Rattle.plan.specs.Rules.{«V», C″, hp, B, share, terms, rowAnswer}
+use Rattle.plan.specs.Rules.{airtime, late, hp, B, share, terms, rowAnswer, FitsSlot}
 use Rattle.plan.specs.Claims.{noiseCost, rightL, rightW, RightSides, RowNoneExactly, BusyPeriod, HasW, RowWExists}
 use Rattle.plan.proofs.Rules.{terms-sound}
 
@@ -27,20 +28,22 @@ sum-map f g [] = refl
 sum-map f g (x ∷ xs) = ap (_+_ (f (g x))) (sum-map f g xs)
 
 -- what hp(i) asks for
-asked : (p : Plan) (js : List Stream) (t : ℕ) → demand (map (share p) js) t ≡ sumOf (λ j. ceil (t + j .jitter) (j .period) * C″ p j) js
+asked : (c : Timing) (js : List Stream) (t : ℕ) → demand (map (share c) js) t ≡ sumOf (λ j. ceil (t + j .jitter) (j .period) * airtime c j) js
 unfolding demand
-asked p js t = sum-map (λ j. ceil (t + j .J) (j .T) * j .C″) (share p) js
+asked c js t = sum-map (λ j. ceil (t + j .J) (j .T) * j .C″) (share c) js
 
 -- V, J and 1 in document 01's order
-in-order : (p : Plan) (js : List Stream) (w v : ℕ) → sumOf (λ j. ceil (w + v + 1 + j .jitter) (j .period) * C″ p j) js ≡ sumOf (λ j. ceil (w + v + j .jitter + 1) (j .period) * C″ p j) js
-in-order p js w v =
-    sum-same (λ j. let e : w + v + 1 + j .jitter ≡ w + v + j .jitter + 1 = omega arith in ap (λ t. ceil t (j .period) * C″ p j) e) js
+in-order : (c : Timing) (js : List Stream) (w v : ℕ) → sumOf (λ j. ceil (w + v + 1 + j .jitter) (j .period) * airtime c j) js ≡ sumOf (λ j. ceil (w + v + j .jitter + 1) (j .period) * airtime c j) js
+in-order c js w v =
+    sum-same (λ j. let e : w + v + 1 + j .jitter ≡ w + v + j .jitter + 1 = omega arith in ap (λ t. ceil t (j .period) * airtime c j) e) js
 
 pub right-sides : RightSides
 unfolding sideL sideW terms E
 right-sides p i = (
-  λ L. ap (λ z. B p i + z + noiseCost p i L) (asked p (i ∷ hp p i) L),
-  λ q w. ap (λ z. B p i + q * C″ p i + z + noiseCost p i (w + C″ p i)) (asked p (hp p i) (w + «V» (p .timing) + 1) ∙ in-order p (hp p i) w («V» (p .timing))),
+  λ L. ap (λ z. B p i + z + noiseCost p i L) (asked (p .timing) (i ∷ hp p i) L),
+  λ q w.
+      ap (λ z. B p i + q * airtime (p .timing) i + z + noiseCost p i (w + airtime (p .timing) i))
+      (asked (p .timing) (hp p i) (w + late (p .timing) + 1) ∙ in-order (p .timing) (hp p i) w (late (p .timing))),
 )
 
 least-same : (f g : ℕ → ℕ) (s x : ℕ) → ((y : ℕ) → f y ≡ g y) → Least f s x → Least g s x
@@ -70,11 +73,11 @@ row-none-exactly p i =
     let same = right-sides p i .0 in
     (λ e L a b f. to (none p i .0 e) L a b (same L ∙ f), λ h. none p i .1 (from (λ L a b f. h L a b (sym (same L) ∙ f))))
 
-pub has-w : (p : Plan) (i : Stream) → StreamWithin (p .timing .nb) i → HasW p i
+pub has-w : (p : Plan) (i : Stream) → StreamWithin (p .timing .nb) i → FitsSlot (p .timing) i → HasW p i
 unfolding terms
-has-w p i s L q b h =
-    let (e, m) = w-exists (terms p i) (terms-sound p i s) L q (busy-of p i L b) h in
+has-w p i s fits L q b h =
+    let (e, m) = w-exists (terms p i) (terms-sound p i s fits) L q (busy-of p i L b) h in
     (least-same (sideW (terms p i) q) (rightW p i q) 0 (w (terms p i) q) (right-sides p i .1 q) e, m)
 
 pub row-w-exists : RowWExists
-row-w-exists p a k h = has-w p (getD (p .streams) k blank) (a .stream k h)
+row-w-exists p a k h fits = has-w p (getD (p .streams) k blank) (a .stream k h) fits

@@ -2,7 +2,7 @@
 use mathlib.Core.List.{List}
 use Prim.Native.Nat.{ℕ, _^_, _≤_, _<_}
 use lib.ListN.{length, take, getD}
-use Rattle.names.specs.Limits.{streams, sources, constant, payload, bits, ticks}
+use Rattle.names.specs.Limits.{streams, sources, constant, payload, bits, slot, ticks}
 use Rattle.plan.specs.declared.Timing.{Timing}
 use Rattle.plan.specs.declared.Stream.{Stream}
 use Rattle.plan.specs.declared.Sheet.{Sheet}
@@ -32,7 +32,7 @@ blank =
 abbrev pub at : Plan → ℕ → Stream
 at p k = getD (p .streams) k blank
 
--- F to LAG are 0 to 65,535, NB is 1 to 32
+-- F to LAG are 0 to 65,535, NB is 1 to 32, and P is 0 for no master node, else 1 to 5,000,000
 pub record TimingWithin (t : Timing) : Type 0 where
   pub f : t .f ≤ constant
   pub e : t .e ≤ constant
@@ -44,6 +44,7 @@ pub record TimingWithin (t : Timing) : Type 0 where
   pub lag : t .lag ≤ constant
   pub some-bit : 1 ≤ t .nb
   pub nb : t .nb ≤ bits
+  pub p : t .p ≤ slot
 
 -- the priority is 0 to 2^NB - 1, T and D are 1 to 4,294,967,295, J is 0 to that, C is 1 to 65,535; every word is a label
 pub record StreamWithin (nb : ℕ) (s : Stream) : Type 0 where

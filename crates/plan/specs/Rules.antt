@@ -1,8 +1,9 @@
--- Document 01, "The rules of the bound", from V to B, and the terms that the rest of the rules takes of a plan p for its stream i.
--- The rules from E on are in the crate bound, specs/Bound.antt.
+-- Document 01, "The rules of the bound", from V to B, with what a master node changes (document 02, request 01), and the terms that the
+-- rest of the rules takes of a plan p for its stream i. The rules from E on are in the crate bound, specs/Bound.antt.
+use mathlib.Core.Bool.{Bool, cond, _&&_}
 use mathlib.Core.List.{List, _∷_, map}
-use Prim.Native.Nat.{ℕ, _+_, _-_, _*_, max}
-use lib.Dec.{ltb}
+use Prim.Native.Nat.{ℕ, _+_, _-_, _*_, max, _≤_}
+use lib.Dec.{leb, ltb, eqb}
 use Rattle.laws.specs.Lists.{largestOf, those}
 use Rattle.bound.specs.Terms.{Share, Terms}
 use Rattle.bound.specs.Bound.{answer}
@@ -10,6 +11,10 @@ use Rattle.bound.specs.declared.Answer.{Answer}
 use Rattle.plan.specs.declared.Timing.{Timing}
 use Rattle.plan.specs.declared.Stream.{Stream}
 use Rattle.plan.specs.Plan.{Plan}
+
+-- the first where a kit has no master node (P = 0), the second where it has one and each message takes a slot of P ticks
+unfoldable pub selfOrSlotted : ℕ → ℕ → ℕ → ℕ
+selfOrSlotted P self slotted = cond (eqb P 0) self slotted
 
 -- V = F + E + max(TFCS, SWX) + H
 abbrev pub «V» : Timing → ℕ
@@ -20,12 +25,23 @@ abbrev pub U : Timing → ℕ
 U t = t .g + (t .h + t .g) * (t .nb - 1) + t .etg + t .lag
 
 -- C' = C + U
-abbrev pub C′ : Plan → Stream → ℕ
-C′ p j = j .payload + U (p .timing)
+abbrev pub C′ : Timing → Stream → ℕ
+C′ t j = j .payload + U t
 
--- C'' = V + C'
-abbrev pub C″ : Plan → Stream → ℕ
-C″ p j = «V» (p .timing) + C′ p j
+-- C'' = V + C', and in a slot C' + H
+abbrev pub lead : Timing → ℕ
+lead t = selfOrSlotted (t .p) («V» t) (t .h)
+
+abbrev pub C″ : Timing → Stream → ℕ
+C″ t j = lead t + C′ t j
+
+-- what a message of j takes of the channel, wherever L and w count one: C'', and in slots P
+abbrev pub airtime : Timing → Stream → ℕ
+airtime t j = selfOrSlotted (t .p) (C″ t j) (t .p)
+
+-- how long after a cycle's start a release still joins it: V, and in slots 0
+abbrev pub late : Timing → ℕ
+late t = selfOrSlotted (t .p) («V» t) 0
 
 -- hp(i) are the streams more urgent than i: a smaller priority number is the more urgent one
 abbrev pub hp : Plan → Stream → List Stream
@@ -35,29 +51,29 @@ hp p i = those (λ j. ltb (j .priority .0) (i .priority .0)) (p .streams)
 abbrev pub lp : Plan → Stream → List Stream
 lp p i = those (λ j. ltb (i .priority .0) (j .priority .0)) (p .streams)
 
--- B of i is the largest C' - 1 over lp(i), or 0 if there are none
+-- B of i is the largest C' - 1 over lp(i), or 0 if there are none; and in slots P - 1, whoever is less urgent
 unfoldable pub B : Plan → Stream → ℕ
-B p i = largestOf (λ j. C′ p j - 1) (lp p i)
+B p i = selfOrSlotted (p .timing .p) (largestOf (λ j. C′ (p .timing) j - 1) (lp p i)) (p .timing .p - 1)
 
--- the largest C'' among i and hp(i), what one hit costs in E
+-- what one hit costs in E: the largest C'' among i and hp(i), and in slots P
 unfoldable pub hit : Plan → Stream → ℕ
-hit p i = largestOf (C″ p) (i ∷ hp p i)
+hit p i = selfOrSlotted (p .timing .p) (largestOf (C″ (p .timing)) (i ∷ hp p i)) (p .timing .p)
 
--- C'', T and J of a stream
-abbrev pub share : Plan → Stream → Share
-share p j = record { C″ = C″ p j; T = j .period; J = j .jitter }
+-- what a stream takes of the channel, its T and its J
+abbrev pub share : Timing → Stream → Share
+share t j = record { C″ = airtime t j; T = j .period; J = j .jitter }
 
--- the terms of i: B, i, hp(i), the gaps, the cost of a hit, V, and C'' of i at the end
+-- the terms of i: B, i, hp(i), the gaps, the cost of a hit, V or 0, and C'' of i at the end, in slots too
 unfoldable pub terms : Plan → Stream → Terms
 terms p i =
     record {
       B = B p i;
-      own = share p i;
-      urgent = map (share p) (hp p i);
+      own = share (p .timing) i;
+      urgent = map (share (p .timing)) (hp p i);
       gaps = p .gaps;
       hit = hit p i;
-      late = «V» (p .timing);
-      last = C″ p i;
+      late = late (p .timing);
+      last = C″ (p .timing) i;
     }
 
 -- the answer of the stream i of a plan, and of all its streams in file order
@@ -66,3 +82,11 @@ rowAnswer p i = answer (terms p i) (i .deadline)
 
 abbrev pub answers : Plan → List Answer
 answers p = map (rowAnswer p) (p .streams)
+
+-- in slots C'' is at most P, or the stream is refused: this is the test, ..
+abbrev pub exceedsSlot : Timing → Stream → Bool
+exceedsSlot t j = leb 1 (t .p) && ltb (t .p) (C″ t j)
+
+-- .. and this is what a stream that is not refused has
+abbrev pub FitsSlot : Timing → Stream → Type 0
+FitsSlot t j = 1 ≤ t .p → C″ t j ≤ t .p

@@ -7,7 +7,7 @@ use names::Priority;
 use names::SOURCES;
 use names::STREAMS;
 
-// The nine timing words, in the file's order and under document 01's letters.
+// The ten timing words, in the file's order and under the documents' letters. P is how often a master node pulses, 0 where there is none.
 pub struct Timing {
     pub f: u32,
     pub e: u32,
@@ -18,6 +18,7 @@ pub struct Timing {
     pub etg: u32,
     pub lag: u32,
     pub nb: u32,
+    pub p: u32,
 }
 
 // A stream's six words, in the file's order: label, priority, T, J, C, D. In C's layout, since other languages lend lists of it.

@@ -32,6 +32,7 @@ no-greater-than-itself t =
       etg = le-refl _;
       lag = le-refl _;
       nb = le-refl _;
+      p = le-refl _;
     }
 
 eased-as-itself : (s : Stream) → Eased s s
@@ -40,6 +41,7 @@ eased-as-itself s = record { period = le-refl _; deadline = le-refl _; jitter = 
 pub fewer-lighter : (old new : Plan) → Fewer old new → Lighter old new
 fewer-lighter old new f =
     record {
+      kit = (λ e. ap (λ t. t .p) (f .timing) ∙ e, λ e. sym (ap (λ t. t .p) (f .timing)) ∙ e);
       timing = rw (f .timing) (no-greater-than-itself (old .timing));
       row = f .row;
       stands = λ k h. record { among = f .among k h; label = ap (λ s. s .label .0) (f .same k h); eased = rw (f .same k h) (eased-as-itself (at old (f .row k h))) };
@@ -121,6 +123,7 @@ right-without p a q =
       label = λ k h. rw (f .same k h) (a .label (f .row k h) (f .among k h));
       priorities = numbers-without p q (λ s. s .priority .0) (a .priorities);
       labels = numbers-without p q (λ s. s .label .0) (a .labels);
+      slots = λ k h. rw (f .same k h) (a .slots (f .row k h) (f .among k h));
     }
   where
     fewer : length (q .before ++ q .behind) < length (p .streams)

@@ -2,7 +2,8 @@
 use mathlib.Core.Path.{_≡_, refl, sym, ap, _∙_}
 use mathlib.Core.Bool.{Bool, true, false, cond}
 use Prim.Native.Nat.{ℕ, _+_, _-_, _≤_, _<_}
-use native.Mathlib.Nat.{le-trans, mul-le-mul}
+use native.Mathlib.Nat.{le-refl, le-trans, mul-le-mul, lt-of-not-le}
+use native.Mathlib.Decide.{decLe}
 use native.Mathlib.Omega.{arith}
 use borrow.Author.Tests.{ltb-true, lt-ltb, leb-true, le-leb}
 use lib.Dec.{leb}
@@ -17,8 +18,8 @@ use Rattle.plan.specs.declared.Timing.{Timing}
 use Rattle.plan.specs.declared.Stream.{Stream}
 use Rattle.plan.specs.Plan.{Plan, blank, at}
 use Rattle.plan.specs.Rules as rule
-use Rattle.plan.proofs.Rules.{terms-sound}
-use Rattle.promise.specs.Lighter.{NoGreater, Eased, Lighter, NotRefused, LighterKeeps}
+use Rattle.plan.proofs.Rules.{self, slotted, terms-sound}
+use Rattle.promise.specs.Lighter.{SameKit, NoGreater, Eased, Lighter, NotRefused, LighterKeeps}
 use Rattle.promise.proofs.Partners.{Split, Apart, all-index, split-index, those-split, all-those, apart-those, apart-index, by-name, map-partners, largest-partners, partners-have}
 
 -- ---- the constants
@@ -28,6 +29,20 @@ V-le old new n = omega (arith, n .f, n .e, n .tfcs, n .swx, n .h)
 U-le : (old new : Timing) → NoGreater old new → rule.U new ≤ rule.U old
 U-le old new n =
     omega (arith, n .g, n .etg, n .lag, mul-le-mul {n₁ = new .h + new .g} {m₁ = new .nb - 1} {n₂ = old .h + old .g} {m₂ = old .nb - 1} (omega (arith, n .h, n .g)) (omega (arith, n .nb)))
+
+-- what is no greater without a master node, nor with one, is no greater
+either-le : (old new : Timing) → SameKit old new → {x y a b : ℕ} → a ≤ x → b ≤ y → rule.selfOrSlotted (new .p) a b ≤ rule.selfOrSlotted (old .p) x y
+either-le old new kit {x} {y} {a} {b} h g =
+    elim (decLe 1 (old .p)) [
+      | yes some ↦
+          elim (decLe 1 (new .p)) [
+            | yes too ↦ omega (arith, slotted (old .p) x y some, slotted (new .p) a b too, g)
+            | no none ↦ absurd (omega (arith, some, kit .1 (omega (arith, lt-of-not-le none))))
+          ]
+      | no none ↦
+          let e : old .p ≡ 0 = omega (arith, lt-of-not-le none) in
+          omega (arith, self (old .p) x y e, self (new .p) a b (kit .0 e), h)
+    ]
 
 -- "met" says that there is a bound, and that it is at most D
 met-says : (p : Plan) (s : Stream) → rule.rowAnswer p s .verdict ≡ Met → (L : ℕ) × (busy (rule.terms p s) ≡ At L) × (bound (rule.terms p s) L ≤ s .deadline)
@@ -58,17 +73,27 @@ pub record Partner (new old : Stream) : Type 0 where
   pub eased : Eased old new
   pub some : 1 ≤ old .period
 
-module _ (old new : Plan) (n : NoGreater (old .timing) (new .timing)) where
+module _ (old new : Timing) (kit : SameKit old new) (n : NoGreater old new) where
+  late-le : rule.late new ≤ rule.late old
+  late-le = either-le old new kit (V-le old new n) (le-refl 0)
+
   C′-le : (x y : Stream) → Partner x y → rule.C′ new x ≤ rule.C′ old y
-  C′-le x y p = omega (arith, p .eased .payload, U-le (old .timing) (new .timing) n)
+  C′-le x y p = omega (arith, p .eased .payload, U-le old new n)
 
   C″-le : (x y : Stream) → Partner x y → rule.C″ new x ≤ rule.C″ old y
-  C″-le x y p = omega (arith, C′-le x y p, V-le (old .timing) (new .timing) n)
+  C″-le x y p = omega (arith, C′-le x y p, either-le old new kit (V-le old new n) (n .h))
 
   share-le : (x y : Stream) → Partner x y → NoHeavier (rule.share new x) (rule.share old y)
-  share-le x y p = record { some = p .some; cost = C″-le x y p; period = p .eased .period; jitter = p .eased .jitter }
+  share-le x y p =
+      record { some = p .some; cost = either-le old new kit (C″-le x y p) (n .p); period = p .eased .period; jitter = p .eased .jitter }
 
 module _ (old new : Plan) (a : NotRefused old) (b : NotRefused new) (l : Lighter old new) where
+  abbrev was : Timing
+  was = old .timing
+
+  abbrev is : Timing
+  is = new .timing
+
   -- each stream of the second plan has a partner under its label
   partner : (k : ℕ) (h : k < length (new .streams)) → Partner (at new k) (at old (l .row k h))
   partner k h = let s = l .stands k h in record { eased = s .eased; some = a .within .stream (l .row k h) (s .among) .some-period }
@@ -104,11 +129,15 @@ module _ (old new : Plan) (a : NotRefused old) (b : NotRefused new) (l : Lighter
 
     blocking-le : rule.B new i ≤ rule.B old j
     unfolding rule.B
-    blocking-le = largest-partners _ _ (λ x y p. omega (arith, C′-le old new (l .timing) x y p)) (rule.lp new i) (rule.lp old j) less
+    blocking-le =
+        either-le was is (l .kit) (largest-partners _ _ (λ x y p. omega (arith, C′-le was is (l .kit) (l .timing) x y p)) (rule.lp new i) (rule.lp old j) less)
+        (omega (arith, l .timing .p))
 
     hit-le : rule.hit new i ≤ rule.hit old j
     unfolding rule.hit largestOf
-    hit-le = omega (arith, C″-le old new (l .timing) i j (partner k h), largest-partners _ _ (C″-le old new (l .timing)) (rule.hp new i) (rule.hp old j) urgent)
+    hit-le =
+        let each = C″-le was is (l .kit) (l .timing) in
+        either-le was is (l .kit) (omega (arith, each i j (partner k h), largest-partners _ _ each (rule.hp new i) (rule.hp old j) urgent)) (l .timing .p)
 
     gaps-le : Partnered NoShorter (new .gaps) (old .gaps)
     gaps-le =
@@ -120,17 +149,19 @@ module _ (old new : Plan) (a : NotRefused old) (b : NotRefused new) (l : Lighter
     covers =
         record {
           blocking = blocking-le;
-          own = share-le old new (l .timing) i j (partner k h);
-          urgent = map-partners Partner NoHeavier (rule.share new) (rule.share old) (share-le old new (l .timing)) (rule.hp new i) (rule.hp old j) urgent;
+          own = share-le was is (l .kit) (l .timing) i j (partner k h);
+          urgent = map-partners Partner NoHeavier (rule.share is) (rule.share was) (share-le was is (l .kit) (l .timing)) (rule.hp new i) (rule.hp old j) urgent;
           gaps = gaps-le;
           hit = hit-le;
-          late = V-le (old .timing) (new .timing) (l .timing);
-          last = C″-le old new (l .timing) i j (partner k h);
+          late = late-le was is (l .kit) (l .timing);
+          last = C″-le was is (l .kit) (l .timing) i j (partner k h);
         }
 
     kept-bound : (L : ℕ) → busy (rule.terms old j) ≡ At L → (K : ℕ) × (busy (rule.terms new i) ≡ At K) × (bound (rule.terms new i) K ≤ bound (rule.terms old j) L)
     kept-bound L e =
-        let (K, f, g, d) = covered-keeps (rule.terms old j) (rule.terms new i) (terms-sound old j (a .within .stream (l .row k h) (l .stands k h .among))) (terms-sound new i (b .within .stream k h)) covers L e in
+        let among = l .stands k h .among in
+        let sound = terms-sound old j (a .within .stream (l .row k h) among) (a .slots (l .row k h) among) in
+        let (K, f, g, d) = covered-keeps (rule.terms old j) (rule.terms new i) sound (terms-sound new i (b .within .stream k h) (b .slots k h)) covers L e in
         (K, f, d)
 
     kept-met : rule.rowAnswer old j .verdict ≡ Met → rule.rowAnswer new i .verdict ≡ Met

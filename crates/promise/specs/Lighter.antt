@@ -2,6 +2,7 @@
 -- proofs/Fewer.antt.
 use mathlib.Core.Path.{_≡_}
 use mathlib.Core.List.{List, _∷_, _++_}
+use mathlib.Core.Logic.{_↔_}
 use Prim.Native.Nat.{ℕ, _≤_, _<_}
 use lib.ListN.{length}
 use Rattle.laws.specs.declared.Found.the-variants.{At}
@@ -18,7 +19,11 @@ use Rattle.checks.specs.Checks.{Right}
 abbrev pub Namesakes : Stream → Stream → Type 0
 Namesakes a b = a .label .0 ≡ b .label .0
 
--- no timing constant, nor the number of priority bits, is greater
+-- both plans have a master node, or neither has: they are of one edition
+abbrev pub SameKit : Timing → Timing → Type 0
+SameKit old new = (old .p ≡ 0) ↔ (new .p ≡ 0)
+
+-- no timing constant, nor the number of priority bits, nor P, is greater
 pub record NoGreater (old new : Timing) : Type 0 where
   pub f : new .f ≤ old .f
   pub e : new .e ≤ old .e
@@ -29,6 +34,7 @@ pub record NoGreater (old new : Timing) : Type 0 where
   pub etg : new .etg ≤ old .etg
   pub lag : new .lag ≤ old .lag
   pub nb : new .nb ≤ old .nb
+  pub p : new .p ≤ old .p
 
 -- period and deadline are no shorter, jitter and payload no longer
 pub record Eased (old new : Stream) : Type 0 where
@@ -44,6 +50,7 @@ pub record Stands (old new : Plan) (k r : ℕ) : Type 0 where
   pub eased : Eased (at old r) (at new k)
 
 pub record Lighter (old new : Plan) : Type 0 where
+  pub kit : SameKit (old .timing) (new .timing)
   pub timing : NoGreater (old .timing) (new .timing)
   -- each stream of the second stands in the first under its label
   pub row : (k : ℕ) → k < length (new .streams) → ℕ

@@ -10,7 +10,7 @@ use writer::write_words;
 ghost use mathlib.Core.Path.{_≡_};
 ghost use Rattle.rewriter.specs.Rewriter.{rewriteOf};
 
-// The plan in a file, written into lent bytes. The words of the file are written as they stand, so no sheet is made of them.
+// The plan in a file, written into lent bytes. The words of the file are written as they stand, in its edition, so that no sheet is made.
 pub fn rewrite(file: &[u8], out: &mut [u8]) -> Written
     ensures { λ r. ⌜ r ≡ rewriteOf (now (file .entry)) (now (out .entry)) .0 ⌝ }
     ensures { λ _. ⌜ now (out .exit) ≡ rewriteOf (now (file .entry)) (now (out .entry)) .1 ⌝ }
@@ -18,6 +18,6 @@ pub fn rewrite(file: &[u8], out: &mut [u8]) -> Written
     let mut words = [0; CARRIED];
     match carry(file, &mut words) {
         Counts::Refused(r) => Written::Refused(r),
-        Counts::Of(n, m) => write_words(&words, n, m, out),
+        Counts::Of(edition, n, m) => write_words(edition, &words, n, m, out),
     }
 }

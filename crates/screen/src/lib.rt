@@ -93,7 +93,7 @@ fn answered(lot: Taken, timing: Timing, gaps: &[u32], out: &mut [u64]) -> Checke
     answer_values(sheet, out)
 }
 
-// The answers of the lent streams under this timing and these noise gaps, or the first refusal of 2, 3, 4, 5, 6 that applies.
+// The answers of the lent streams under this timing and these noise gaps, or the first refusal of 2, 3, 4, 5, 10, 6 that applies.
 pub fn screen(streams: &[Stream], timing: Timing, gaps: &[u32], out: &mut [u64]) -> Checked
     ensures { λ r. ⌜ Screens (now (streams .entry)) timing (now (gaps .entry)) (now (out .entry)) r (now (out .exit)) ⌝ }
 {

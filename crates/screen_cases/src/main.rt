@@ -65,15 +65,24 @@ fn answered() {
     screen(p1, &timing, &gaps, &mut enough);
 }
 
-// A timing without its last word, which is then 0, and one with a word more; nine gaps.
+// A timing without NB, which is then 0, one with P, and one with a word more; nine gaps.
 fn lengths() {
     let p1 = streams(5, 655370, 2);
-    let timing = [4, 1, 1, 2, 1, 1, 2, 1, 4, 9];
+    let timing = [4, 1, 1, 2, 1, 1, 2, 1, 4, 30, 9];
     let gaps = [1000; 9];
     let mut out = [7; 6];
     screen(p1, &timing[..8], &gaps[..0], &mut out);
     screen(p1, &timing, &gaps, &mut out);
-    screen(p1, &timing, &gaps[..0], &mut out);
+    screen(p1, &timing[..10], &gaps[..0], &mut out);
+    screen(p1, &timing, &gaps[..1], &mut out);
+}
+
+// P1 in slots of so many ticks, in too few words.
+fn slots(slot: u32, payload: u32) {
+    let timing = [4, 1, 1, 2, 1, 1, 2, 1, 4, slot];
+    let gaps = [1000];
+    let mut out = [7; 2];
+    screen(streams(payload, 655370, 2), &timing, &gaps, &mut out);
 }
 
 // One stream that is wrong, in too few words, since 6 comes last.
@@ -91,4 +100,8 @@ fn main() {
     wrong(5, 655370, 1);
     wrong(5, 655361, 1);
     wrong(5, 655361, 2);
+    slots(18, 5);
+    slots(17, 5);
+    slots(17, 0);
+    slots(5000001, 5);
 }

@@ -86,6 +86,16 @@ drop-words (suc k) (a ∷ b ∷ []) = rw (four-more k) refl
 drop-words (suc k) (a ∷ []) = rw (four-more k) refl
 drop-words (suc k) [] = rw (four-more k) refl
 
+-- the first k words
+pub take-words : (k : ℕ) (bytes : List ℕ) → wordsOf (take (4 * k) bytes) ≡ take k (wordsOf bytes)
+unfolding wordsOf
+take-words zero bytes = refl
+take-words (suc k) (a ∷ b ∷ c ∷ d ∷ bytes) = rw (four-more k) (ap (λ ws. joinedOf a b c d ∷ ws) (take-words k bytes))
+take-words (suc k) (a ∷ b ∷ c ∷ []) = rw (four-more k) refl
+take-words (suc k) (a ∷ b ∷ []) = rw (four-more k) refl
+take-words (suc k) (a ∷ []) = rw (four-more k) refl
+take-words (suc k) [] = rw (four-more k) refl
+
 -- ---- a word to four bytes and back
 -- three carries: each quotient is what the next digit leaves
 carried : (w r₀ q₁ r₁ q₂ r₂ q₃ : ℕ) → q₁ * 256 + r₀ ≡ w → q₂ * 256 + r₁ ≡ q₁ → q₃ * 256 + r₂ ≡ q₂ → joinedOf r₀ r₁ r₂ q₃ ≡ w

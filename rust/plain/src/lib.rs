@@ -4,10 +4,11 @@
 
 use livnakesh::{Compared, Label, Phase, Priority, Reason, Refused, Row, Stream};
 
-/// F, E, TFCS, SWX, H, G, ETG, LAG and then NB, as in the file.
-pub type Timing = [u32; 9];
+/// F, E, TFCS, SWX, H, G, ETG, LAG, NB and then P, as in the file. P is 0 in a plan without a master node.
+pub type Timing = [u32; 10];
 
 pub const NB: usize = 8;
+pub const P: usize = 9;
 
 #[derive(Clone, Debug, PartialEq, Eq)]
 pub struct Plan {
@@ -17,26 +18,70 @@ pub struct Plan {
 }
 
 const CONTENTS: usize = 44;
-const TIMING: usize = 36;
 const STREAM: usize = 24;
 const GAP: usize = 4;
-const BODIES: usize = CONTENTS + TIMING;
 const MOST_STREAMS: usize = 64;
 const MOST_GAPS: usize = 8;
-const LARGEST: usize = size(MOST_STREAMS, MOST_GAPS);
+const LARGEST: usize = Edition::Two.size(MOST_STREAMS, MOST_GAPS);
+const LONGEST_SLOT: u32 = 5_000_000;
 
 /// The longest busy period that counts.
 const HORIZON: u64 = u32::MAX as u64;
-
-pub const fn size(streams: usize, gaps: usize) -> usize {
-    BODIES + STREAM * streams + GAP * gaps
-}
 
 fn refused<T>(number: u64, place: usize) -> Result<T, Refused> {
     Err(Refused { number, place: place as u64 })
 }
 
 // ---- the plan file ----
+
+/// What a plan's file says first: without a master node or with one, whose P the timing then ends with.
+#[derive(Clone, Copy, Debug, PartialEq, Eq)]
+pub enum Edition {
+    One = 1,
+    Two = 2,
+}
+
+impl Edition {
+    /// Of the file that a plan's values would have.
+    pub fn of(timing: &Timing) -> Edition {
+        match timing[P] {
+            0 => Edition::One,
+            _ => Edition::Two,
+        }
+    }
+
+    fn of_file(file: &[u8]) -> Option<Edition> {
+        match word(file) {
+            1 => Some(Edition::One),
+            2 => Some(Edition::Two),
+            _ => None,
+        }
+    }
+
+    const fn timing_words(self) -> usize {
+        match self {
+            Edition::One => P,
+            Edition::Two => P + 1,
+        }
+    }
+
+    /// Where the streams start.
+    const fn streams(self) -> usize {
+        CONTENTS + 4 * self.timing_words()
+    }
+
+    /// The bytes of a file of so many streams and gaps.
+    pub const fn size(self, streams: usize, gaps: usize) -> usize {
+        self.streams() + STREAM * streams + GAP * gaps
+    }
+
+    fn contents(self, streams: usize, gaps: usize) -> [u32; 11] {
+        let start = self.streams() as u32;
+        let stream_bytes = (STREAM * streams) as u32;
+        let gap_bytes = (GAP * gaps) as u32;
+        [self as u32, 3, 1, 44, start - 44, 2, start, stream_bytes, 3, start + stream_bytes, gap_bytes]
+    }
+}
 
 fn word(bytes: &[u8]) -> u32 {
     u32::from_le_bytes([bytes[0], bytes[1], bytes[2], bytes[3]])
@@ -46,27 +91,32 @@ fn counts_fit(streams: usize, gaps: usize) -> bool {
     (1..=MOST_STREAMS).contains(&streams) && gaps <= MOST_GAPS
 }
 
-fn contents(streams: usize, gaps: usize) -> [u32; 11] {
-    let stream_bytes = (STREAM * streams) as u32;
-    let gap_bytes = (GAP * gaps) as u32;
-    [1, 3, 1, 44, 36, 2, 80, stream_bytes, 3, 80 + stream_bytes, gap_bytes]
-}
-
-/// How many streams and gaps a file has, if its length and contents are right.
-fn counts(file: &[u8]) -> Result<(usize, usize), Refused> {
+/// A file's edition and how many streams it has, if its length and contents are right.
+fn contents(file: &[u8]) -> Result<(Edition, usize), Refused> {
     if file.len() < CONTENTS || file.len() > LARGEST {
         return refused(1, 0);
     }
+    let Some(edition) = Edition::of_file(file) else {
+        return refused(2, 0);
+    };
     let streams = word(&file[28..]) as usize / STREAM;
     let gaps = word(&file[40..]) as usize / GAP;
-    if !counts_fit(streams, gaps) || file.len() != size(streams, gaps) {
+    if !counts_fit(streams, gaps) || file.len() != edition.size(streams, gaps) {
         return refused(2, 0);
     }
-    let wanted = contents(streams, gaps);
+    let wanted = edition.contents(streams, gaps);
     match file.chunks_exact(4).zip(wanted).all(|(bytes, wanted)| word(bytes) == wanted) {
-        true => Ok((streams, gaps)),
+        true => Ok((edition, streams)),
         false => refused(2, 0),
     }
+}
+
+fn timing(words: &[u8]) -> Timing {
+    let mut timing = [0; P + 1];
+    for (value, bytes) in timing.iter_mut().zip(words.chunks_exact(4)) {
+        *value = word(bytes);
+    }
+    timing
 }
 
 /// Of a known length, so that the words need no checks of their own.
@@ -91,15 +141,15 @@ fn streams(mut records: &[u8], count: usize) -> Vec<Stream> {
 }
 
 pub fn read(file: &[u8]) -> Result<Plan, Refused> {
-    let (count, _) = counts(file)?;
-    let (timing, bodies) = file[CONTENTS..].split_at(TIMING);
+    let (edition, count) = contents(file)?;
+    let (head, bodies) = file.split_at(edition.streams());
     let (records, gaps) = bodies.split_at(STREAM * count);
     let plan = Plan {
-        timing: std::array::from_fn(|k| word(&timing[4 * k..])),
+        timing: timing(&head[CONTENTS..]),
         streams: streams(records, count),
         gaps: gaps.chunks_exact(GAP).map(word).collect(),
     };
-    check(&plan)?;
+    check_as(edition, &plan)?;
     Ok(plan)
 }
 
@@ -118,8 +168,8 @@ fn bad_field(stream: &Stream, most_priority: u32) -> Option<usize> {
     }
 }
 
-/// The byte offset of the first field that is outside its limits.
-fn bad_byte(plan: &Plan) -> Option<usize> {
+/// The byte offset of the first field that is outside its limits, in a file of this edition.
+fn bad_byte(edition: Edition, plan: &Plan) -> Option<usize> {
     let constants = &plan.timing[..NB];
     if let Some(k) = constants.iter().position(|&c| c > 65_535) {
         return Some(CONTENTS + 4 * k);
@@ -128,14 +178,17 @@ fn bad_byte(plan: &Plan) -> Option<usize> {
     if !fits(bits, 1, 32) {
         return Some(CONTENTS + 4 * NB);
     }
+    if edition == Edition::Two && !fits(plan.timing[P], 1, LONGEST_SLOT) {
+        return Some(CONTENTS + 4 * P);
+    }
     let most_priority = u32::MAX >> (32 - bits);
     for (row, stream) in plan.streams.iter().enumerate() {
         if let Some(field) = bad_field(stream, most_priority) {
-            return Some(BODIES + STREAM * row + 4 * field);
+            return Some(edition.size(row, 0) + 4 * field);
         }
     }
     let gap = plan.gaps.iter().position(|&gap| gap == 0)?;
-    Some(size(plan.streams.len(), gap))
+    Some(edition.size(plan.streams.len(), gap))
 }
 
 /// The lowest row that repeats an earlier row. Rows are few, so looking back beats sorting.
@@ -150,19 +203,34 @@ fn repeat(values: impl Iterator<Item = u32>) -> Option<usize> {
     None
 }
 
-/// Refusals 2 to 5, for values from wherever they come.
+/// The lowest row whose message does not fit in a slot.
+fn too_long(plan: &Plan) -> Option<usize> {
+    let slot = slot(&plan.timing)?;
+    let setup = setup(&plan.timing);
+    plan.streams.iter().position(|s| setup + u64::from(s.payload) > slot)
+}
+
+/// Refusals 2 to 5 and then 10, for lent values.
 pub fn check(plan: &Plan) -> Result<(), Refused> {
+    check_as(Edition::of(&plan.timing), plan)
+}
+
+/// By the edition of a file, since its P may be 0 where that is wrong.
+fn check_as(edition: Edition, plan: &Plan) -> Result<(), Refused> {
     if !counts_fit(plan.streams.len(), plan.gaps.len()) {
         return refused(2, 0);
     }
-    if let Some(byte) = bad_byte(plan) {
+    if let Some(byte) = bad_byte(edition, plan) {
         return refused(3, byte);
     }
     if let Some(row) = repeat(plan.streams.iter().map(|s| s.priority.0)) {
         return refused(4, row);
     }
-    match repeat(plan.streams.iter().map(|s| s.label.0)) {
-        Some(row) => refused(5, row),
+    if let Some(row) = repeat(plan.streams.iter().map(|s| s.label.0)) {
+        return refused(5, row);
+    }
+    match too_long(plan) {
+        Some(row) => refused(10, row),
         None => Ok(()),
     }
 }
@@ -174,9 +242,11 @@ fn put(buffer: &mut [u8], words: &[u32]) {
 }
 
 fn put_plan(plan: &Plan, file: &mut [u8]) {
-    put(file, &contents(plan.streams.len(), plan.gaps.len()));
-    put(&mut file[CONTENTS..], &plan.timing);
-    let (records, gaps) = file[BODIES..].split_at_mut(STREAM * plan.streams.len());
+    let edition = Edition::of(&plan.timing);
+    let (head, bodies) = file.split_at_mut(edition.streams());
+    put(head, &edition.contents(plan.streams.len(), plan.gaps.len()));
+    put(&mut head[CONTENTS..], &plan.timing);
+    let (records, gaps) = bodies.split_at_mut(STREAM * plan.streams.len());
     for (record, s) in records.chunks_exact_mut(STREAM).zip(&plan.streams) {
         put(record, &[s.label.0, s.priority.0, s.period, s.jitter, s.payload, s.deadline]);
     }
@@ -185,7 +255,7 @@ fn put_plan(plan: &Plan, file: &mut [u8]) {
 
 /// Writes a plan whose values are known to be right.
 fn write_checked(plan: &Plan, buffer: &mut [u8]) -> Result<usize, Refused> {
-    let length = size(plan.streams.len(), plan.gaps.len());
+    let length = Edition::of(&plan.timing).size(plan.streams.len(), plan.gaps.len());
     match buffer.get_mut(..length) {
         Some(file) => {
             put_plan(plan, file);
@@ -214,8 +284,20 @@ pub fn before(timing: &Timing) -> u64 {
 
 /// U, the time that a tournament's bits take.
 pub fn overhead(timing: &Timing) -> u64 {
-    let [_, _, _, _, h, g, etg, lag, bits] = timing.map(u64::from);
+    let [_, _, _, _, h, g, etg, lag, bits, _] = timing.map(u64::from);
     g + (h + g) * (bits - 1) + etg + lag
+}
+
+/// P, from one pulse of the master node to the next.
+pub fn slot(timing: &Timing) -> Option<u64> {
+    (timing[P] > 0).then_some(u64::from(timing[P]))
+}
+
+/// What C'' has beside the payload. A pulse stands for all of V but H.
+pub fn setup(timing: &Timing) -> u64 {
+    let [_, _, _, _, h, ..] = timing.map(u64::from);
+    let start = if slot(timing).is_some() { h } else { before(timing) };
+    start + overhead(timing)
 }
 
 /// A stream as its level sees it.
@@ -223,17 +305,20 @@ pub fn overhead(timing: &Timing) -> u64 {
 pub struct Load {
     pub period: u64,
     pub jitter: u64,
-    /// C'', the whole time on the channel.
+    /// How long a message keeps the others waiting: C'', or the whole of its slot.
     pub cost: u64,
+    /// C'', the last term of the bound.
+    pub last: u64,
     /// Jitter and period less 1: a floor over the window and this is the ceiling over the window and jitter.
     slack: u64,
 }
 
 impl Load {
-    fn new(stream: &Stream, setup: u64) -> Load {
+    fn new(stream: &Stream, setup: u64, slot: Option<u64>) -> Load {
         let period = u64::from(stream.period);
         let jitter = u64::from(stream.jitter);
-        Load { period, jitter, cost: setup + u64::from(stream.payload), slack: jitter + period - 1 }
+        let last = setup + u64::from(stream.payload);
+        Load { period, jitter, cost: slot.unwrap_or(last), last, slack: jitter + period - 1 }
     }
 
     /// At most 2^33 instances of less than 2^23 ticks, so that 64 of them stay below 2^62.
@@ -249,8 +334,9 @@ pub struct Level<'a> {
     urgent: &'a [Load],
     gaps: &'a [u64],
     blocking: u64,
-    /// The largest C'' among the stream and the more urgent ones, which a hit may cost.
+    /// The largest cost among the stream and the more urgent ones, which a hit may cost.
     dearest: u64,
+    /// How long after a start a release still joins: V, or 0 after a pulse.
     before: u64,
 }
 
@@ -308,7 +394,7 @@ impl Level<'_> {
     }
 
     fn term(&self, q: u64, wait: u64) -> i64 {
-        (self.own.jitter + wait + self.own.cost) as i64 - (q * self.own.period) as i64
+        (self.own.jitter + wait + self.own.last) as i64 - (q * self.own.period) as i64
     }
 
     pub fn bound(&self) -> Option<u64> {
@@ -329,20 +415,27 @@ pub struct Analysis {
     rows: Vec<usize>,
     loads: Vec<Load>,
     gaps: Vec<u64>,
-    /// For each stream, B and the dearest C''.
+    /// For each stream, B and the dearest cost.
     extremes: Vec<(u64, u64)>,
     before: u64,
 }
 
 impl Analysis {
     pub fn new(plan: &Plan) -> Analysis {
-        let before = before(&plan.timing);
-        let setup = before + overhead(&plan.timing);
+        let (setup, slot) = (setup(&plan.timing), slot(&plan.timing));
         let mut rows: Vec<usize> = (0..plan.streams.len()).collect();
         rows.sort_unstable_by_key(|&row| plan.streams[row].priority);
-        let loads: Vec<Load> = rows.iter().map(|&row| Load::new(&plan.streams[row], setup)).collect();
+        let loads: Vec<Load> = rows.iter().map(|&row| Load::new(&plan.streams[row], setup, slot)).collect();
         let gaps = plan.gaps.iter().map(|&gap| u64::from(gap)).collect();
-        Analysis { extremes: extremes(&loads, before), rows, loads, gaps, before }
+        let (before, extremes) = match slot {
+            // Released just after a pulse, a message waits for the next one, the least urgent too.
+            Some(slot) => (0, vec![(slot - 1, slot); loads.len()]),
+            None => {
+                let before = before(&plan.timing);
+                (before, extremes(&loads, before))
+            }
+        };
+        Analysis { extremes, rows, loads, gaps, before }
     }
 
     pub fn levels(&self) -> impl Iterator<Item = Level<'_>> {
@@ -455,7 +548,10 @@ fn overtaken(places: &[(Priority, Priority)]) -> Option<usize> {
 }
 
 fn why_not_lighter(old: &Plan, new: &Plan) -> Option<Reason> {
-    if let Some(k) = (0..=NB).find(|&k| new.timing[k] > old.timing[k]) {
+    if Edition::of(&old.timing) != Edition::of(&new.timing) {
+        return Some(Reason::MasterNode);
+    }
+    if let Some(k) = (0..=P).find(|&k| new.timing[k] > old.timing[k]) {
         return Some(Reason::GreaterConstant(k));
     }
     let mut places = Vec::with_capacity(new.streams.len());

@@ -4,24 +4,22 @@
 mod common;
 
 use common::{
-    bytes, drawn, edge_plan, file_of, hex, lent, need_all, plan, plan_of, repeat, stream, tally_refusal, tally_rows, words, work,
-    Rng, Tally, BASE, MOST_WORK,
+    bytes, drawn, edge_plan, edition_2_of, file_of, hex, in_slots, lent, need_all, other_slot, plan, plan_in, plan_of, repeat,
+    shortest_slot, stream, tally_refusal, tally_rows, tally_slot, words, work, ByEdition, Counts, Rng, Tally, BASE, H, LARGEST,
+    LONGEST_SLOT, MOST_WORK,
 };
 use livnakesh::{Compared, Label, Priority, Reason, Refused, Stream};
-use plain::{self, Analysis, Level, Plan};
+use plain::{self, Analysis, Edition, Level, Plan, P};
 
 // ---- both on one file ----
 
-/// Streams and gaps of a file, or any counts if it is refused.
-fn counts(rng: &mut Rng, file: &[u8]) -> (usize, usize) {
-    match plain::read(file) {
-        Ok(plan) => (plan.streams.len(), plan.gaps.len()),
-        Err(_) => (rng.within(1, 64) as usize, rng.within(0, 8) as usize),
-    }
+/// The streams of a file, or any number if it is refused.
+fn streams(rng: &mut Rng, file: &[u8]) -> usize {
+    plain::read(file).map_or_else(|_| rng.within(1, 64) as usize, |plan| plan.streams.len())
 }
 
 fn answers_alike(rng: &mut Rng, file: &[u8], tally: &mut Tally) -> Option<Vec<u64>> {
-    let (n, _) = counts(rng, file);
+    let n = streams(rng, file);
     let found = words(rng.next(), lent(rng, 2 * n, tally));
     let (mut proved, mut ours) = (found.clone(), found.clone());
     let said = livnakesh::answer_words(file, &mut proved);
@@ -35,8 +33,9 @@ fn answers_alike(rng: &mut Rng, file: &[u8], tally: &mut Tally) -> Option<Vec<u6
 }
 
 fn rewrite_alike(rng: &mut Rng, file: &[u8], tally: &mut Tally) {
-    let (n, m) = counts(rng, file);
-    let found = bytes(rng.next(), lent(rng, plain::size(n, m), tally));
+    // A plan has one file; a refused file needs no bytes, whatever is lent.
+    let needed = plain::read(file).map_or_else(|_| rng.within(104, LARGEST as u64) as usize, |_| file.len());
+    let found = bytes(rng.next(), lent(rng, needed, tally));
     let (mut proved, mut ours) = (found.clone(), found.clone());
     // At an odd address, since lent bytes need not be aligned.
     let odd = [&[0], file].concat();
@@ -65,8 +64,8 @@ fn file_alike(rng: &mut Rng, file: &[u8], tally: &mut Tally) {
 // ---- answers ----
 
 fn load_in_percent(plan: &Plan) -> u64 {
-    let setup = plain::before(&plan.timing) + plain::overhead(&plan.timing);
-    let share = |s: &Stream| 1_000_000 * (setup + u64::from(s.payload)) / u64::from(s.period);
+    let (setup, slot) = (plain::setup(&plan.timing), plain::slot(&plan.timing));
+    let share = |s: &Stream| 1_000_000 * slot.unwrap_or(setup + u64::from(s.payload)) / u64::from(s.period);
     plan.streams.iter().map(share).sum::<u64>() / 10_000
 }
 
@@ -89,36 +88,84 @@ fn tally_plan(tally: &mut Tally, plan: &Plan) {
         5..=31 => "NB: 5 to 31",
         _ => "NB: 32",
     });
+    tally_slot(tally, plan);
 }
 
 #[test]
 fn drawn_plans() {
-    let (mut rng, mut tally) = (Rng(0x1A7E), Tally::default());
-    for _ in 0..150_000 {
-        let plan = drawn(&mut rng, plan, &mut tally);
-        tally_plan(&mut tally, &plan);
+    let (mut rng, mut tallies) = (Rng(0x1A7E), ByEdition::default());
+    for _ in 0..250_000 {
+        let plan = drawn(&mut rng, plan, &mut tallies);
+        let tally = tallies.of(&plan);
+        tally_plan(tally, &plan);
         let file = file_of(&plan);
-        rewrite_alike(&mut rng, &file, &mut tally);
-        answers_alike(&mut rng, &file, &mut tally);
+        rewrite_alike(&mut rng, &file, tally);
+        answers_alike(&mut rng, &file, tally);
     }
-    tally.print("drawn plans");
-    need_all(&tally, &["row: met", "row: missed", "row: none", "refusal 6"], 10_000);
-    need_all(&tally, &["lent: too short", "lent: exact", "lent: longer", "streams: 1", "streams: 64"], 5_000);
-    need_all(&tally, &["load: below 50 %", "load: 50 to 89 %", "load: 90 to 99 %", "load: 100 % and above"], 5_000);
-    need_all(&tally, &["gaps: 0", "gaps: 8", "NB: 1 to 4", "NB: 5 to 31", "NB: 32"], 1_000);
+    tallies.print("drawn plans");
+    tallies.need_all(&["row: met", "row: missed", "row: none", "refusal 6"], 10_000);
+    tallies.need_all(&["lent: too short", "lent: exact", "lent: longer", "streams: 1", "streams: 64"], 5_000);
+    tallies.need_all(&["load: below 50 %", "load: 50 to 89 %", "load: 90 to 99 %", "load: 100 % and above"], 5_000);
+    tallies.need_all(&["gaps: 0", "gaps: 8", "NB: 1 to 4", "NB: 5 to 31", "NB: 32"], 1_000);
+    need_all(&tallies.slots, &["slot: just long enough", "slot: longer"], 10_000);
 }
 
 #[test]
 fn plans_at_the_limits() {
-    let (mut rng, mut tally) = (Rng(0xED6E), Tally::default());
-    for _ in 0..50_000 {
-        let plan = drawn(&mut rng, edge_plan, &mut tally);
+    let (mut rng, mut tallies) = (Rng(0xED6E), ByEdition::default());
+    for _ in 0..80_000 {
+        let plan = drawn(&mut rng, edge_plan, &mut tallies);
+        let tally = tallies.of(&plan);
+        tally_slot(tally, &plan);
         let file = file_of(&plan);
-        rewrite_alike(&mut rng, &file, &mut tally);
-        answers_alike(&mut rng, &file, &mut tally);
+        rewrite_alike(&mut rng, &file, tally);
+        answers_alike(&mut rng, &file, tally);
     }
-    tally.print("plans with every field at or next to a limit");
-    need_all(&tally, &["row: met", "row: missed", "row: none"], 1_000);
+    tallies.print("plans with every field at or next to a limit");
+    tallies.need_all(&["row: met", "row: missed", "row: none"], 1_000);
+    need_all(&tallies.slots, &["slot: just long enough", "slot: longer"], 1_000);
+}
+
+/// P next to C'' of every row: the lowest row that does not fit is told, also where too little memory is lent, and one that fits
+/// just so is not.
+#[test]
+fn slots_next_to_every_message() {
+    let (mut rng, mut tally) = (Rng(0x510757), Tally::default());
+    for _ in 0..3_000 {
+        let (n, m) = (rng.pick(&[1, 2, 3, 5, 8, 64]), rng.below(9) as usize);
+        let mut plan = plan_in(&mut rng, Edition::Two, n, m);
+        let messages = in_slots(&plan);
+        for slot in messages.iter().flat_map(|&message| [message - 1, message, message + 1]).filter(|&slot| slot > 0) {
+            plan.timing[P] = slot;
+            tally_slot(&mut tally, &plan);
+            let file = file_of(&plan);
+            let too_long =
+                messages.iter().position(|&message| message > slot).map(|row| Refused { number: 10, place: row as u64 });
+            tally.count(match too_long {
+                None => "all fit",
+                Some(Refused { place: 0, .. }) => "the first row does not fit",
+                Some(_) => "a later row does not fit",
+            });
+            for lent in [0, file.len() - 1, file.len()] {
+                let small = (lent < file.len()).then_some(Refused { number: 6, place: 0 });
+                let wanted = too_long.or(small).map_or(Ok(file.len()), Err);
+                let found = bytes(rng.next(), lent);
+                let (mut proved, mut ours) = (found.clone(), found.clone());
+                assert_eq!(livnakesh::rewrite(&file, &mut proved), wanted, "{lent} bytes lent: {}", hex(&file));
+                assert_eq!(plain::rewrite(&file, &mut ours), wanted, "{lent} bytes lent: {}", hex(&file));
+                let written = if wanted.is_ok() { &file } else { &found };
+                assert_eq!((&proved, &ours), (written, written), "{lent} bytes lent: {}", hex(&file));
+            }
+            let wanted = Err(too_long.unwrap_or(Refused { number: 6, place: 0 }));
+            let mut few = words(rng.next(), 2 * n - 1);
+            let found = few.clone();
+            assert_eq!(livnakesh::answer_words(&file, &mut few), wanted, "{}", hex(&file));
+            assert_eq!(few, found, "{}", hex(&file));
+        }
+    }
+    tally.print("slots next to C'' of every row");
+    need_all(&tally, &["all fit", "the first row does not fit", "a later row does not fit"], 5_000);
+    need_all(&tally, &["slot: too short", "slot: just long enough", "slot: longer"], 1_000);
 }
 
 /// Periods next to C'' and long jitters: hundreds of thousands of steps or instances each.
@@ -143,13 +190,35 @@ fn long_chains() {
     need_all(&tally, &["row: met", "row: missed", "row: none"], 3);
 }
 
+/// Periods next to P and long jitters, as long as those above. At full load B alone keeps a chain going for ever.
+#[test]
+fn long_chains_in_slots() {
+    let (mut rng, mut tally) = (Rng(0x10E65), Tally::default());
+    for (slot, more, jitter) in
+        [(16, 1, 0), (16, 1, 100_000), (18, 3, 1_000_000), (500, 0, 500), (5_000, 0, 0), (40, 2, 700_000), (LONGEST_SLOT, 1, 9)]
+    {
+        let timing = [4, 1, 1, 2, 1, 1, 2, 1, 4, slot];
+        for gaps in [vec![], vec![u32::MAX]] {
+            let mut streams = vec![stream(7, 3, slot + more, jitter, 5, 1_000)];
+            for others in 0..2 {
+                let file = file_of(&Plan { timing, streams: streams.clone(), gaps: gaps.clone() });
+                tally.count("plans");
+                while answers_alike(&mut rng, &file, &mut tally).is_none() {}
+                streams.push(stream(8 + others, others, 40_000_000, 9, 5, 5_000_000));
+            }
+        }
+    }
+    tally.print("long chains in slots");
+    need_all(&tally, &["row: met", "row: missed", "row: none"], 3);
+}
+
 /// A busy period of exactly 4,294,967,295 counts, and one of a tick more does not.
 #[test]
 fn busy_periods_at_the_horizon() {
     let (mut rng, mut tally) = (Rng(0x4022), Tally::default());
     // With T one more than C'', L is J times C''. F makes C'' of the payload.
     for (f, jitter, wanted) in [(0, 65_537, true), (0, 65_538, false), (1, 65_535, true), (1, 65_536, false)] {
-        let timing = [f, 0, 0, 0, 0, 0, 0, 0, 1];
+        let timing = [f, 0, 0, 0, 0, 0, 0, 0, 1, 0];
         let plan = Plan { timing, streams: vec![stream(1, 0, 65_536 + f, jitter, 65_535, 1)], gaps: vec![] };
         let length = u64::from(jitter) * u64::from(65_535 + f);
         let busy_period = Analysis::new(&plan).levels().find_map(|level| level.busy_period());
@@ -160,20 +229,40 @@ fn busy_periods_at_the_horizon() {
     need_all(&tally, &["row: missed", "row: none"], 2);
 }
 
+#[test]
+fn busy_periods_at_the_horizon_in_slots() {
+    let (mut rng, mut tally) = (Rng(0x40225), Tally::default());
+    // With T one more than P, L is P + J slots less a tick: 2^32 - 1 and 2^32 are among these.
+    for (slot, jitter, wanted) in [(65_536, 0, true), (65_536, 1, false), (641, 6_699_775, true), (641, 6_699_776, false)] {
+        let timing = [0, 0, 0, 0, 0, 0, 0, 0, 1, slot];
+        let plan = Plan { timing, streams: vec![stream(1, 0, slot + 1, jitter, 641, 1)], gaps: vec![] };
+        let length = u64::from(slot + jitter) * u64::from(slot) - 1;
+        let busy_period = Analysis::new(&plan).levels().find_map(|level| level.busy_period());
+        assert_eq!(busy_period, wanted.then_some(length));
+        while answers_alike(&mut rng, &file_of(&plan), &mut tally).is_none() {}
+    }
+    tally.print("busy periods at the horizon in slots");
+    need_all(&tally, &["row: missed", "row: none"], 2);
+}
+
 // ---- the plain planner against the rule's own words ----
 
 fn ceil(ticks: u64, by: u32) -> u64 {
     ticks.div_ceil(u64::from(by))
 }
 
-/// The bound as document 01 says it: each least number is looked for by counting up. Nothing if L is more than `most`.
+/// The bound as documents 01 and 02 say it: each least number is looked for by counting up. Nothing if L is more than `most`.
 fn bound_by_counting(plan: &Plan, row: usize, most: u64) -> Option<u64> {
-    let v = plain::before(&plan.timing);
+    let slots = plan.timing[P] > 0;
+    let [p, h] = [P, H].map(|k| u64::from(plan.timing[k]));
+    let v = if slots { 0 } else { plain::before(&plan.timing) };
     let sent = |s: &Stream| u64::from(s.payload) + plain::overhead(&plan.timing);
-    let cost = |s: &Stream| v + sent(s);
+    let cost = |s: &Stream| if slots { p } else { v + sent(s) };
     let own = &plan.streams[row];
+    let last = if slots { sent(own) + h } else { v + sent(own) };
     let urgent: Vec<&Stream> = plan.streams.iter().filter(|s| s.priority < own.priority).collect();
-    let blocking = plan.streams.iter().filter(|s| s.priority > own.priority).map(|s| sent(s) - 1).max().unwrap_or(0);
+    let less_urgent = plan.streams.iter().filter(|s| s.priority > own.priority);
+    let blocking = if slots { p - 1 } else { less_urgent.map(|s| sent(s) - 1).max().unwrap_or(0) };
     let dearest = urgent.iter().map(|s| cost(s)).chain([cost(own)]).max().unwrap_or(0);
     let noise = |t: u64| plan.gaps.iter().map(|&gap| ceil(t, gap)).sum::<u64>() * dearest;
     let sum = |t: u64| urgent.iter().map(|s| ceil(t + u64::from(s.jitter), s.period) * cost(s)).sum::<u64>();
@@ -182,7 +271,7 @@ fn bound_by_counting(plan: &Plan, row: usize, most: u64) -> Option<u64> {
     let terms = (0..instances(busy)).map(|q| {
         let right = |w: u64| blocking + q * cost(own) + sum(w + v + 1) + noise(w + cost(own));
         let wait = (0..=busy - cost(own)).find(|&w| w == right(w)).expect("w(q) is never more than L - C''");
-        i128::from(own.jitter) + i128::from(wait + cost(own)) - i128::from(q) * i128::from(own.period)
+        i128::from(own.jitter) + i128::from(wait + last) - i128::from(q) * i128::from(own.period)
     });
     terms.max().map(|largest| u64::try_from(largest).expect("the term for q = 0 is not below zero"))
 }
@@ -191,13 +280,15 @@ fn small_plan(rng: &mut Rng) -> Plan {
     let n = rng.within(1, 4) as usize;
     let m = rng.below(3) as usize;
     let mut plan = plan_of(rng, n, m);
+    let slots = plan.timing[P] > 0;
     plan.timing = std::array::from_fn(|_| rng.below(4) as u32);
     plan.timing[plain::NB] = rng.within(2, 5) as u32;
-    let setup = (plain::before(&plan.timing) + plain::overhead(&plan.timing)) as u32;
+    plan.streams.iter_mut().for_each(|s| s.payload = rng.within(1, 9) as u32);
+    plan.timing[P] = if slots { shortest_slot(&plan) + rng.below(4) as u32 } else { 0 };
+    let (setup, slot) = (plain::setup(&plan.timing), plain::slot(&plan.timing));
     for (k, s) in plan.streams.iter_mut().enumerate() {
         s.priority = Priority(k as u32);
-        s.payload = rng.within(1, 9) as u32;
-        let even = u64::from(setup + s.payload) * n as u64;
+        let even = slot.unwrap_or(setup + u64::from(s.payload)) * n as u64;
         s.period = if rng.one_in(3) { rng.within(1, 2 * even) } else { rng.within(even, even + even / 4) } as u32;
         s.jitter = rng.below(3 * u64::from(s.period)) as u32 * rng.below(2) as u32;
     }
@@ -208,9 +299,10 @@ fn small_plan(rng: &mut Rng) -> Plan {
 
 #[test]
 fn plain_planner_by_counting() {
-    let (mut rng, mut tally) = (Rng(0xC0DE), Tally::default());
-    for _ in 0..20_000 {
-        let plan = drawn(&mut rng, small_plan, &mut tally);
+    let (mut rng, mut tallies) = (Rng(0xC0DE), ByEdition::default());
+    for _ in 0..40_000 {
+        let plan = drawn(&mut rng, small_plan, &mut tallies);
+        let tally = tallies.of(&plan);
         for level in Analysis::new(&plan).levels() {
             let counted = bound_by_counting(&plan, level.row, 4_000);
             let busy_period = level.busy_period();
@@ -223,12 +315,13 @@ fn plain_planner_by_counting() {
             tally.count(if later_is_worst(&level) { "worst: a later instance" } else { "worst: the first instance" });
         }
     }
-    tally.print("plain planner against the rule by counting up");
-    need_all(&tally, &["bound", "none", "worst: a later instance", "worst: the first instance"], 1_000);
+    tallies.print("plain planner against the rule by counting up");
+    tallies.need_all(&["bound", "none", "worst: the first instance"], 1_000);
+    tallies.need_all(&["worst: a later instance"], 400);
 }
 
 fn later_is_worst(level: &Level) -> bool {
-    level.bound().is_some_and(|bound| bound > level.own.jitter + level.wait(0, 0) + level.own.cost)
+    level.bound().is_some_and(|bound| bound > level.own.jitter + level.wait(0, 0) + level.own.last)
 }
 
 // ---- files that are not right ----
@@ -237,7 +330,7 @@ fn later_is_worst(level: &Level) -> bool {
 fn bad_word(rng: &mut Rng, file: &[u8], old: u32) -> u32 {
     let place = 4 * rng.below(file.len() as u64 / 4) as usize;
     let copy = u32::from_le_bytes([file[place], file[place + 1], file[place + 2], file[place + 3]]);
-    let limits = [0, 1, 32, 33, 65_535, 65_536, u32::MAX];
+    let limits = [0, 1, 2, 32, 33, 65_535, 65_536, LONGEST_SLOT, LONGEST_SLOT + 1, u32::MAX];
     match rng.below(4) {
         0 => rng.pick(&limits),
         1 => rng.pick(&[old.wrapping_add(1), old.wrapping_sub(1), old.wrapping_add(24), old.wrapping_sub(4)]),
@@ -248,7 +341,7 @@ fn bad_word(rng: &mut Rng, file: &[u8], old: u32) -> u32 {
 
 /// One byte, one bit or one word; one in three among the contents and timing.
 fn damage(rng: &mut Rng, file: &mut [u8], tally: &mut Tally) {
-    let end = if rng.one_in(3) { 80 } else { file.len() };
+    let end = if rng.one_in(3) { 84 } else { file.len() };
     let place = rng.below(end as u64) as usize;
     match rng.below(3) {
         0 => {
@@ -282,17 +375,30 @@ fn resize(rng: &mut Rng, file: &mut Vec<u8>, tally: &mut Tally) {
 
 fn damaged(rng: &mut Rng, plan: &Plan, tally: &mut Tally) -> Vec<u8> {
     let mut plan = plan.clone();
-    let kind = rng.below(10);
-    if kind < 2 {
+    let kind = rng.below(14);
+    if kind < 3 {
+        tally.count("damage: P");
+        plan.timing[P] = other_slot(rng, &plan);
+    }
+    if (2..5).contains(&kind) {
         repeat(rng, &mut plan, tally);
     }
     let mut file = file_of(&plan);
     match kind {
-        0..=1 => {}
-        2..=3 => resize(rng, &mut file, tally),
+        0..=4 => {}
+        5 => {
+            tally.count("damage: P of 0 in edition 2");
+            plan.timing[P] = 0;
+            file = edition_2_of(&plan);
+        }
+        6 => {
+            tally.count("damage: the other edition's word");
+            file[0] ^= 3;
+        }
+        7..=8 => resize(rng, &mut file, tally),
         _ => damage(rng, &mut file, tally),
     }
-    if rng.one_in(6) && file.len() >= 80 {
+    if rng.one_in(6) && file.len() >= 84 {
         damage(rng, &mut file, tally);
     }
     file
@@ -300,59 +406,72 @@ fn damaged(rng: &mut Rng, plan: &Plan, tally: &mut Tally) -> Vec<u8> {
 
 #[test]
 fn damaged_files() {
-    let (mut rng, mut tally) = (Rng(0xDA3A6E), Tally::default());
-    for _ in 0..20_000 {
-        let plan = drawn(&mut rng, plan, &mut tally);
+    let (mut rng, mut tallies) = (Rng(0xDA3A6E), ByEdition::default());
+    for _ in 0..25_000 {
+        let plan = drawn(&mut rng, plan, &mut tallies);
+        let tally = tallies.of(&plan);
         for _ in 0..15 {
-            let file = damaged(&mut rng, &plan, &mut tally);
-            file_alike(&mut rng, &file, &mut tally);
+            let file = damaged(&mut rng, &plan, tally);
+            file_alike(&mut rng, &file, tally);
         }
     }
-    tally.print("damaged files");
-    need_all(&tally, &["refusal 1", "refusal 2", "refusal 3", "refusal 4", "refusal 5", "refusal 6", "answered"], 1_000);
+    tallies.print("damaged files");
+    tallies.need_all(
+        &["refusal 1", "refusal 2", "refusal 3", "refusal 4", "refusal 5", "refusal 10", "refusal 6", "answered"],
+        1_000,
+    );
+    tallies.need_all(&["damage: P", "damage: P of 0 in edition 2", "damage: the other edition's word"], 1_000);
 }
 
 /// Files of 1 to 64 streams with more or fewer in the contents, and counts that are out of range.
 #[test]
 fn contents_of_all_sizes() {
-    let (mut rng, mut tally) = (Rng(0x512E5), Tally::default());
-    for n in 0..=67_usize {
-        for m in 0..=10_usize {
-            let mut plan = plan_of(&mut rng, n.clamp(1, 64), m);
-            let last = plan.streams[0];
-            plan.streams.truncate(n);
-            plan.streams.resize(n, last);
-            let file = file_of(&plan);
-            file_alike(&mut rng, &file, &mut tally);
-            for place in 0..11 {
-                for change in [1, 4, 24, u32::MAX, 0x8000_0000] {
-                    let mut file = file.clone();
-                    let word =
-                        u32::from_le_bytes([file[4 * place], file[4 * place + 1], file[4 * place + 2], file[4 * place + 3]]);
-                    file[4 * place..4 * place + 4].copy_from_slice(&word.wrapping_add(change).to_le_bytes());
-                    file_alike(&mut rng, &file, &mut tally);
+    let (mut rng, mut tallies) = (Rng(0x512E5), ByEdition::default());
+    for edition in [Edition::One, Edition::Two] {
+        for n in 0..=67_usize {
+            for m in 0..=10_usize {
+                let mut plan = plan_in(&mut rng, edition, n.clamp(1, 64), m);
+                let last = plan.streams[0];
+                plan.streams.truncate(n);
+                plan.streams.resize(n, last);
+                let tally = tallies.of(&plan);
+                let file = file_of(&plan);
+                file_alike(&mut rng, &file, tally);
+                for place in 0..11 {
+                    for change in [1, 4, 24, u32::MAX, 0x8000_0000] {
+                        file_alike(&mut rng, &with_more(&file, place, change), tally);
+                    }
                 }
             }
         }
     }
-    tally.print("contents of all sizes");
-    need_all(&tally, &["refusal 1", "refusal 2", "answered"], 100);
+    tallies.print("contents of all sizes");
+    tallies.need_all(&["refusal 1", "refusal 2", "answered"], 100);
+}
+
+/// The file with so much more in one of its words.
+fn with_more(file: &[u8], place: usize, more: u32) -> Vec<u8> {
+    let mut file = file.to_vec();
+    let word = file[4 * place..].first_chunk_mut().expect("a word of the file");
+    *word = u32::from_le_bytes(*word).wrapping_add(more).to_le_bytes();
+    file
 }
 
 #[test]
 fn random_bytes() {
     let (mut rng, mut tally) = (Rng(0xB17E5), Tally::default());
-    let start = file_of(&plan_of(&mut rng, 5, 2));
+    let starts = [Edition::One, Edition::Two].map(|edition| file_of(&plan_in(&mut rng, edition, 5, 2)));
     for _ in 0..100_000 {
         let length = rng.within(0, 2_000) as usize;
         let mut file = bytes(rng.next(), length);
         if rng.one_in(2) {
-            let right = length.min(rng.within(0, 80) as usize);
+            let start = &starts[rng.below(2) as usize];
+            let right = length.min(rng.within(0, 84) as usize);
             file[..right].copy_from_slice(&start[..right]);
         }
         file_alike(&mut rng, &file, &mut tally);
     }
-    for length in [0, 1, 43, 44, 45, 79, 80, 1_647, 1_648, 1_649] {
+    for length in [0, 1, 43, 44, 45, 79, 80, 83, 84, 85, 1_647, 1_648, 1_649, 1_651, 1_652, 1_653] {
         file_alike(&mut rng, &vec![0; length], &mut tally);
     }
     tally.print("random bytes, 0 to 2,000 of them");
@@ -365,9 +484,10 @@ fn plain_writer_and_reader_agree() {
     let (mut rng, mut tally) = (Rng(0x3217E), Tally::default());
     for _ in 0..50_000 {
         let mut plan = plan(&mut rng);
-        match rng.below(6) {
+        match rng.below(7) {
             0 => plan.timing[rng.below(9) as usize] = rng.wide(),
             1 => repeat(&mut rng, &mut plan, &mut tally),
+            4 => plan.timing[P] = other_slot(&mut rng, &plan),
             2 => plan.streams[0].payload = rng.wide(),
             3 => plan.gaps.extend([rng.wide(); 3]),
             _ => {}
@@ -378,13 +498,13 @@ fn plain_writer_and_reader_agree() {
         let mut again = vec![9; file.len()];
         let proved = livnakesh::rewrite(&file, &mut again);
         // Values have no length of their own, so counts that make a file too long are refused as counts.
-        let wanted = if file.len() > 1_648 { Err(Refused { number: 2, place: 0 }) } else { proved };
+        let wanted = if file.len() > LARGEST { Err(Refused { number: 2, place: 0 }) } else { proved };
         assert_eq!(wrote, wanted, "{}", hex(&file));
         assert_eq!(buffer, again, "{}", hex(&file));
         tally_refusal(&mut tally, wrote);
     }
     tally.print("plain writer on values against the library's reader on their file");
-    need_all(&tally, &["refusal 2", "refusal 3", "refusal 4", "refusal 5", "answered"], 100);
+    need_all(&tally, &["refusal 2", "refusal 3", "refusal 4", "refusal 5", "refusal 10", "answered"], 100);
 }
 
 // ---- the lighter plan ----
@@ -448,6 +568,9 @@ fn ease_timing(rng: &mut Rng, plan: &mut Plan) {
     }
     let least = (plan.streams.len() as u64).next_power_of_two().trailing_zeros().max(1);
     plan.timing[plain::NB] = less(rng, plan.timing[plain::NB], least);
+    if plan.timing[P] > 0 {
+        plan.timing[P] = less(rng, plan.timing[P], shortest_slot(plan));
+    }
     renumber(rng, plan);
 }
 
@@ -498,8 +621,13 @@ fn hurt(rng: &mut Rng, old: &Plan, new: &mut Plan, condition: u64) {
     let stream = &mut new.streams[row];
     match condition {
         1 => {
-            let k = rng.below(9) as usize;
-            new.timing[k] = more(rng, old.timing[k], if k == plain::NB { 32 } else { 65_535 });
+            let k = rng.below(if old.timing[P] > 0 { 10 } else { 9 }) as usize;
+            let most = match k {
+                plain::NB => 32,
+                P => LONGEST_SLOT,
+                _ => 65_535,
+            };
+            new.timing[k] = more(rng, old.timing[k], most);
         }
         2 => stream.label = Label(rng.next() as u32),
         3 => stream.period = less(rng, before.period, 1),
@@ -511,7 +639,8 @@ fn hurt(rng: &mut Rng, old: &Plan, new: &mut Plan, condition: u64) {
             new.streams[row].priority = new.streams[other].priority;
             new.streams[other].priority = kept;
         }
-        _ => hurt_noise(rng, new),
+        8 => hurt_noise(rng, new),
+        _ => new.timing[P] = if old.timing[P] > 0 { 0 } else { shortest_slot(new) },
     }
 }
 
@@ -526,7 +655,8 @@ fn demand_3(old: &Plan, new: &Plan) -> bool {
         (Some(old_a), Some(old_b)) => (a.priority < b.priority) == (old_a.priority < old_b.priority),
         _ => false,
     };
-    new.streams.iter().all(no_harder)
+    (new.timing[P] > 0) == (old.timing[P] > 0)
+        && new.streams.iter().all(no_harder)
         && new.streams.iter().all(|a| new.streams.iter().all(|b| in_order(a, b)))
         && new.timing.iter().zip(old.timing).all(|(&new, old)| new <= old)
         && plain::partnered(&old.gaps, &new.gaps)
@@ -552,6 +682,7 @@ fn promise_kept(old: &Plan, new: &Plan, tally: &mut Tally) {
 
 fn condition(reason: Reason) -> String {
     match reason {
+        Reason::MasterNode => "condition 9, master node".into(),
         Reason::GreaterConstant(k) => format!("condition 1, constant {k}"),
         Reason::NewLabel(_) => "condition 2, new label".into(),
         Reason::ShorterPeriod(_) => "condition 3, shorter period".into(),
@@ -597,44 +728,43 @@ fn repeat_gaps(rng: &mut Rng, plan: &mut Plan) {
 
 #[test]
 fn pairs_of_plans() {
-    let (mut rng, mut tally) = (Rng(0x116473), Tally::default());
-    for _ in 0..25_000 {
+    let (mut rng, mut tallies) = (Rng(0x116473), ByEdition::default());
+    for _ in 0..30_000 {
         let mut old = plan(&mut rng);
         if rng.one_in(3) {
             repeat_gaps(&mut rng, &mut old);
         }
-        pair_alike(&old, &old, &mut tally);
+        let tally = tallies.of(&old);
+        pair_alike(&old, &old, tally);
         let easy = eased(&mut rng, &old);
-        pair_alike(&old, &easy, &mut tally);
-        pair_alike(&easy, &old, &mut tally);
+        pair_alike(&old, &easy, tally);
+        pair_alike(&easy, &old, tally);
         for mut new in [old.clone(), easy.clone(), easy] {
-            let condition = rng.within(1, 8);
+            let condition = rng.within(1, 9);
             hurt(&mut rng, &old, &mut new, condition);
-            pair_alike(&old, &new, &mut tally);
-            let condition = rng.within(1, 8);
+            pair_alike(&old, &new, tally);
+            let condition = rng.within(1, 9);
             hurt(&mut rng, &old, &mut new, condition);
-            pair_alike(&old, &new, &mut tally);
+            pair_alike(&old, &new, tally);
         }
         let (mut first, mut second) = (damaged(&mut rng, &old, &mut Tally::default()), file_of(&old));
-        lighter_alike(&first, &second, &mut tally);
+        lighter_alike(&first, &second, tally);
         std::mem::swap(&mut first, &mut second);
-        lighter_alike(&first, &second, &mut tally);
-        lighter_alike(&damaged(&mut rng, &old, &mut Tally::default()), &second, &mut tally);
+        lighter_alike(&first, &second, tally);
+        lighter_alike(&damaged(&mut rng, &old, &mut Tally::default()), &second, tally);
     }
-    tally.print("pairs of plans");
-    tally.need("lighter", 10_000);
+    tallies.print("pairs of plans");
+    tallies.need_all(&["lighter"], 10_000);
     for k in 0..9 {
-        tally.need(&format!("condition 1, constant {k}"), 100);
+        tallies.need_all(&[&format!("condition 1, constant {k}")], 100);
     }
-    need_all(&tally, &["condition 2, new label", "condition 3, shorter period", "condition 4, longer jitter"], 500);
-    need_all(&tally, &["condition 5, longer payload", "condition 6, shorter deadline", "condition 7, less urgent"], 500);
-    need_all(
-        &tally,
-        &["condition 8, more noise", "promise: row was met", "promise: row was missed", "promise: row had none"],
-        500,
-    );
-    for number in 1..=5 {
-        need_all(&tally, &[&format!("first refused {number}"), &format!("second refused {number}")], 100);
+    tallies.slots.need(&format!("condition 1, constant {P}"), 500);
+    tallies.need_all(&["condition 2, new label", "condition 3, shorter period", "condition 4, longer jitter"], 500);
+    tallies.need_all(&["condition 5, longer payload", "condition 6, shorter deadline", "condition 7, less urgent"], 500);
+    tallies.need_all(&["condition 8, more noise", "condition 9, master node"], 500);
+    tallies.need_all(&["promise: row was met", "promise: row was missed", "promise: row had none"], 500);
+    for number in [1, 2, 3, 4, 5, 10] {
+        tallies.need_all(&[&format!("first refused {number}"), &format!("second refused {number}")], 100);
     }
 }
 

@@ -1,10 +1,11 @@
-//! Document 01's plans to run, with its figures, through the proved library and the plain planner.
+//! Document 01's plans to run, with its figures, and plans in slots by document 02, worked out by hand: through the proved library and
+//! the plain planner.
 
 mod common;
 
-use common::{file_of, stream, values_of, BASE};
-use livnakesh::{Answer, Outcome, Phase, Priority, Refused, Row};
-use plain::{self, Analysis, Level, Plan, Tournament};
+use common::{edition_2_of, file_of, stream, values_of, BASE, LONGEST_SLOT};
+use livnakesh::{Answer, Compared, Outcome, Phase, Priority, Reason, Refused, Row};
+use plain::{self, Analysis, Level, Plan, Tournament, NB, P};
 
 /// 10.1, 10.10 and 11.2.
 const LABELS: [u32; 3] = [0xa_0001, 0xa_000a, 0xb_0002];
@@ -24,6 +25,21 @@ const P1: [u8; 152] = [
     2, 0, 11, 0,   3, 0, 0, 0,  144, 1, 0, 0,  0, 0, 0, 0,   2, 0, 0, 0,  200, 0, 0, 0,
 ];
 
+/// P1 with a pulse every 30 ticks.
+#[rustfmt::skip]
+const SLOTS: [u8; 156] = [
+    2, 0, 0, 0,  3, 0, 0, 0,
+    1, 0, 0, 0,  44, 0, 0, 0,  40, 0, 0, 0,
+    2, 0, 0, 0,  84, 0, 0, 0,  72, 0, 0, 0,
+    3, 0, 0, 0,  156, 0, 0, 0,  0, 0, 0, 0,
+    // as above, and P 30
+    4, 0, 0, 0,  1, 0, 0, 0,  1, 0, 0, 0,  2, 0, 0, 0,  1, 0, 0, 0,  1, 0, 0, 0,  2, 0, 0, 0,  1, 0, 0, 0,  4, 0, 0, 0,
+    30, 0, 0, 0,
+    1, 0, 10, 0,   1, 0, 0, 0,  100, 0, 0, 0,  0, 0, 0, 0,   5, 0, 0, 0,  60, 0, 0, 0,
+    10, 0, 10, 0,  2, 0, 0, 0,  150, 0, 0, 0,  10, 0, 0, 0,  7, 0, 0, 0,  120, 0, 0, 0,
+    2, 0, 11, 0,   3, 0, 0, 0,  144, 1, 0, 0,  0, 0, 0, 0,   2, 0, 0, 0,  200, 0, 0, 0,
+];
+
 fn p1() -> Plan {
     let streams =
         vec![stream(LABELS[0], 1, 100, 0, 5, 60), stream(LABELS[1], 2, 150, 10, 7, 120), stream(LABELS[2], 3, 400, 0, 2, 200)];
@@ -34,9 +50,16 @@ fn single(period: u32, jitter: u32) -> Plan {
     Plan { timing: BASE, streams: vec![stream(LABELS[0], 1, period, jitter, 5, 60)], gaps: vec![] }
 }
 
+/// With a pulse every so many ticks.
+fn in_slots(plan: Plan, slot: u32) -> Plan {
+    let mut timing = plan.timing;
+    timing[P] = slot;
+    Plan { timing, ..plan }
+}
+
 fn p7() -> Plan {
     let streams = vec![stream(1, 1, 25, 0, 10, 25), stream(2, 2, 35, 0, 10, 35), stream(3, 3, 35, 0, 10, 35)];
-    Plan { timing: [0, 0, 0, 0, 0, 0, 0, 0, 4], streams, gaps: vec![] }
+    Plan { timing: [0, 0, 0, 0, 0, 0, 0, 0, 4, 0], streams, gaps: vec![] }
 }
 
 /// A row's two words.
@@ -108,8 +131,12 @@ fn is_refused(file: &[u8], number: u64, place: u64) {
     let wanted = Refused { number, place };
     assert_eq!(answers(file), Err(wanted));
     assert_eq!(rewritten(file), Err(wanted));
-    assert_eq!(livnakesh::lighter(file, &P1), livnakesh::Compared::FirstRefused(wanted));
-    assert_eq!(livnakesh::lighter(&P1, file), livnakesh::Compared::SecondRefused(wanted));
+    for other in [&P1[..], &SLOTS[..]] {
+        for lighter in [livnakesh::lighter, plain::lighter] {
+            assert_eq!(lighter(file, other), Compared::FirstRefused(wanted));
+            assert_eq!(lighter(other, file), Compared::SecondRefused(wanted));
+        }
+    }
 }
 
 fn at_level<T>(plan: &Plan, row: usize, say: impl Fn(&Level) -> T) -> T {
@@ -189,6 +216,177 @@ fn p11_has_a_payload_of_0() {
     plan.streams[0].payload = 0;
     values_are_refused(&plan, 3, 96);
 }
+
+// ---- slots ----
+
+/// C'' is 16, 18 and 13, and P - 1 = 29 ticks are waited for the pulse by all, the least urgent too: 29 + 16, 10 + 29 + 30 + 18,
+/// 29 + 60 + 13.
+#[test]
+fn p1_in_slots() {
+    let plan = in_slots(p1(), 30);
+    assert_eq!(file_of(&plan), SLOTS);
+    assert_eq!(include_bytes!("../../../examples/slots.plan"), &SLOTS);
+    assert_eq!(written(&plan), Ok(SLOTS.to_vec()));
+    gives(&plan, &[Answer::Met(45), Answer::Met(87), Answer::Met(102)]);
+    let level = |row: usize| at_level(&plan, row, |level| (level.own.last, level.own.cost, level.wait(0, 0)));
+    assert_eq!([0, 1, 2].map(level), [(16, 30, 29), (18, 30, 59), (13, 30, 89)]);
+}
+
+#[test]
+fn p2_in_slots() {
+    let plan = Plan { gaps: vec![1_000], ..in_slots(p1(), 40) };
+    gives(&plan, &[Answer::Missed(95), Answer::Missed(187), Answer::Missed(292)]);
+}
+
+/// The urgent stream's second message is released a tick after the pulse at 59, and then at that pulse. By V both would join.
+#[test]
+fn a_release_after_the_pulse_is_too_late() {
+    let pair = |period: u32| {
+        let streams = vec![stream(1, 1, period, 0, 5, 1_000), stream(2, 2, 1_000, 0, 5, 1_000)];
+        in_slots(Plan { timing: BASE, streams, gaps: vec![] }, 30)
+    };
+    gives(&pair(60), &[Answer::Met(45), Answer::Met(75)]);
+    gives(&pair(59), &[Answer::Met(45), Answer::Met(105)]);
+}
+
+/// A hit anywhere in the own slot costs a slot: w = 59, and the slot ends at 89.
+#[test]
+fn a_hit_may_come_until_the_slot_ends() {
+    let hit = |gap: u32| in_slots(Plan { gaps: vec![gap], ..single(1_000, 0) }, 30);
+    gives(&hit(89), &[Answer::Missed(75)]);
+    gives(&hit(88), &[Answer::Missed(105)]);
+}
+
+/// The second instance waits for the first's slot and two more urgent ones: 39 + 8 - 18 = 29, where the first has 19 + 8.
+#[test]
+fn a_later_instance_in_slots() {
+    let streams = vec![stream(1, 1, 25, 0, 8, 25), stream(2, 2, 18, 0, 8, 28)];
+    let plan = in_slots(Plan { streams, ..p7() }, 10);
+    gives(&plan, &[Answer::Met(17), Answer::Missed(29)]);
+    assert_eq!(at_level(&plan, 1, |level| level.busy_period()), Some(249));
+    assert_eq!(at_level(&plan, 1, |level| (level.wait(0, 0), level.wait(1, 0))), (19, 39));
+}
+
+/// With a slot of one tick nothing is waited for at all, and one stream may fill the channel.
+#[test]
+fn the_shortest_slot() {
+    let timing = [0, 0, 0, 0, 0, 0, 0, 0, 1, 1];
+    gives(&Plan { timing, streams: vec![stream(1, 0, 1, 0, 1, 1)], gaps: vec![] }, &[Answer::Met(1)]);
+}
+
+#[test]
+fn a_slot_as_long_as_the_longest_message() {
+    gives(&in_slots(p1(), 18), &[Answer::Met(33), Answer::Met(63), Answer::Met(66)]);
+    values_are_refused(&in_slots(p1(), 17), 10, 1);
+    values_are_refused(&in_slots(p1(), 16), 10, 1);
+    values_are_refused(&in_slots(p1(), 15), 10, 0);
+    values_are_refused(&in_slots(p1(), 1), 10, 0);
+}
+
+#[test]
+fn p_is_1_to_5_000_000() {
+    gives(&in_slots(p1(), LONGEST_SLOT), &[Answer::None; 3]);
+    values_are_refused(&in_slots(p1(), LONGEST_SLOT + 1), 3, 80);
+    values_are_refused(&in_slots(p1(), u32::MAX), 3, 80);
+    is_refused(&edition_2_of(&p1()), 3, 80);
+}
+
+/// A place is that of the file that the values would have, and with a master node the streams start 4 bytes later.
+#[test]
+fn the_lowest_wrong_field_in_slots() {
+    let mut plan = p1();
+    plan.streams[0].payload = 0;
+    values_are_refused(&plan, 3, 96);
+    values_are_refused(&in_slots(plan.clone(), 30), 3, 100);
+    values_are_refused(&in_slots(plan.clone(), LONGEST_SLOT + 1), 3, 80);
+    is_refused(&edition_2_of(&plan), 3, 80);
+    plan.timing[NB] = 33;
+    values_are_refused(&in_slots(plan.clone(), LONGEST_SLOT + 1), 3, 76);
+    is_refused(&edition_2_of(&plan), 3, 76);
+}
+
+/// 3, 4, 5, 10 and then 6, though 10 is the greatest number.
+#[test]
+fn the_stated_order_decides() {
+    let mut plan = in_slots(p1(), 15);
+    let (mut bytes, mut words) = ([77; 155], [77; 5]);
+    for refused in [
+        livnakesh::write(3, 0, &values_of(&plan), &mut bytes).map(|_| ()),
+        livnakesh::rewrite(&file_of(&plan), &mut bytes).map(|_| ()),
+        livnakesh::answer_words(&file_of(&plan), &mut words),
+        livnakesh::screen_words(&plan.streams, &plan.timing, &plan.gaps, &mut words),
+    ] {
+        assert_eq!(refused, Err(Refused { number: 10, place: 0 }));
+    }
+    assert_eq!((bytes, words), ([77; 155], [77; 5]));
+    plan.streams[2].label = plan.streams[0].label;
+    values_are_refused(&plan, 5, 2);
+    plan.streams[1].priority = plan.streams[0].priority;
+    values_are_refused(&plan, 4, 1);
+    plan.streams[2].deadline = 0;
+    values_are_refused(&plan, 3, 152);
+}
+
+/// Without a master node C'' may be as great as it will.
+#[test]
+fn no_slot_is_too_short_without_a_master_node() {
+    let streams = vec![stream(1, 1, 1_000_000, 0, 65_535, 1_000_000)];
+    gives(&Plan { streams, ..p1() }, &[Answer::Met(65_553)]);
+}
+
+#[test]
+fn nine_timing_words_are_no_master_node() {
+    let plan = in_slots(p1(), 30);
+    let (mut nine, mut none) = ([77; 6], [77; 6]);
+    assert_eq!(livnakesh::screen_words(&plan.streams, &plan.timing[..P], &[], &mut nine), Ok(()));
+    assert_eq!(livnakesh::screen_words(&plan.streams, &p1().timing, &[], &mut none), Ok(()));
+    assert_eq!((nine, none), ([0, 39, 0, 69, 0, 68], [0, 39, 0, 69, 0, 68]));
+}
+
+/// The largest of either edition, and a few bytes more or less.
+#[test]
+fn the_largest_files() {
+    let streams = (0..64).map(|row| stream(row, row, 4_000_000, 0, 5, 4_000_000)).collect();
+    let mut timing = BASE;
+    timing[NB] = 6;
+    let plan = Plan { timing, streams, gaps: vec![4_000_000; 8] };
+    for (plan, length) in [(plan.clone(), 1_648), (in_slots(plan, 30), 1_652)] {
+        let file = file_of(&plan);
+        assert_eq!(file.len(), length);
+        assert_eq!(rewritten(&file), Ok(file.clone()));
+        assert!(answers(&file).is_ok_and(|rows| rows.len() == 64));
+        is_refused(&file[..length - 1], 2, 0);
+        for more in [1, 4, 5] {
+            let longer = [&file[..], &[0; 5][..more]].concat();
+            is_refused(&longer, if longer.len() > 1_652 { 1 } else { 2 }, 0);
+        }
+    }
+}
+
+#[test]
+fn lighter_in_slots() {
+    let faster = in_slots(p1(), 29);
+    let mut slower = in_slots(p1(), 31);
+    let again = |reason| Compared::RunAgain(reason);
+    let alike = |old: &[u8], new: &[u8], wanted| {
+        assert_eq!(livnakesh::lighter(old, new), wanted);
+        assert_eq!(plain::lighter(old, new), wanted);
+    };
+    alike(&SLOTS, &SLOTS, Compared::Lighter);
+    alike(&SLOTS, &file_of(&faster), Compared::Lighter);
+    alike(&file_of(&faster), &SLOTS, again(Reason::GreaterConstant(P)));
+    alike(&SLOTS, &P1, again(Reason::MasterNode));
+    alike(&P1, &SLOTS, again(Reason::MasterNode));
+    // The master node comes before the constants, and P after NB.
+    slower.timing[NB] = 5;
+    alike(&P1, &file_of(&slower), again(Reason::MasterNode));
+    alike(&SLOTS, &file_of(&slower), again(Reason::GreaterConstant(NB)));
+    slower.timing[NB] = 4;
+    slower.streams[0].jitter = 1;
+    alike(&SLOTS, &file_of(&slower), again(Reason::GreaterConstant(P)));
+}
+
+// ---- the tournament ----
 
 /// By the library, whose parting bit also says where each loser goes silent, and by the plain tournament.
 #[test]

@@ -112,10 +112,11 @@ fn status(file: &[u8]) -> i32 {
     plain::read(file).map_or(REFUSED, |_| ANSWERED)
 }
 
-const CONSTANTS: [&str; 9] = ["F", "E", "TFCS", "SWX", "H", "G", "ETG", "LAG", "NB"];
+const CONSTANTS: [&str; 10] = ["F", "E", "TFCS", "SWX", "H", "G", "ETG", "LAG", "NB", "P"];
 
 fn reason(reason: Reason) -> String {
     match reason {
+        Reason::MasterNode => "one plan has a master node and the other has none".into(),
         Reason::GreaterConstant(k) => format!("{} is greater", CONSTANTS[k]),
         Reason::NewLabel(l) => format!("{} is not in the first plan", label(l)),
         Reason::ShorterPeriod(l) => format!("{} has a shorter period", label(l)),
@@ -185,7 +186,7 @@ fn cases() -> Vec<Case> {
         std::fs::read_dir(folder).expect("the cases").map(|entry| entry.expect("a case").path()).collect();
     plans.retain(|path| path.extension().is_some_and(|kind| kind == "plan"));
     plans.sort();
-    assert!(plans.len() >= 361, "only {} cases", plans.len());
+    assert!(plans.len() >= 397, "only {} cases", plans.len());
     let case = |path: PathBuf| Case {
         name: path.file_stem().expect("a name").to_string_lossy().into_owned(),
         plan: std::fs::read(&path).expect("a plan file"),
@@ -255,7 +256,7 @@ fn drawn_and_damaged_plans() {
 #[test]
 fn random_bytes_and_files_of_any_length() {
     let mut rng = Rng(0xb17e5);
-    for length in [0, 1, 43, 44, 79, 80, 103, 104, 1_647, 1_648, 1_649, 1_652, 4_095, 4_096, 4_097, 70_000] {
+    for length in [0, 1, 43, 44, 79, 80, 103, 104, 107, 108, 1_647, 1_648, 1_649, 1_652, 1_653, 4_095, 4_096, 4_097, 70_000] {
         let bytes: Vec<u8> = (0..length).map(|_| rng.next() as u8).collect();
         on_file(&bytes, usize::MAX);
     }
@@ -265,9 +266,11 @@ fn random_bytes_and_files_of_any_length() {
 fn input_that_comes_byte_by_byte() {
     let cases = cases();
     let largest = cases.iter().filter(|case| status(&case.plan) == ANSWERED).max_by_key(|case| case.plan.len()).expect("a plan");
-    assert_eq!(largest.plan.len(), 1_648);
+    assert_eq!(largest.plan.len(), 1_652);
     on_file(&largest.plan, 1);
-    on_file(&largest.plan[..1_647], 1);
+    on_file(&largest.plan[..1_651], 1);
+    let one_more = [&largest.plan[..], &[0]].concat();
+    on_file(&one_more, 1);
 }
 
 #[test]
@@ -313,6 +316,21 @@ fn lighter_on_the_pairs_of_the_gate() {
     assert_eq!(run_in(&folder, "lighter", &[], list.as_bytes(), 7), (wanted.clone().into_bytes(), worst));
     // The last line's newline may be missing, and the answer is there all the same.
     assert_eq!(run_in(&folder, "lighter", &[], list.trim_end().as_bytes(), usize::MAX), (wanted.into_bytes(), worst));
+}
+
+#[test]
+fn lighter_with_a_master_node() {
+    let folder = top().join("examples/lighter");
+    let other = "run again: one plan has a master node and the other has none\n";
+    for (old, new, line, ended) in [
+        ("slots-desk.plan", "slots-desk.plan", "lighter\n", ANSWERED),
+        ("slots-desk.plan", "slots-faster.plan", "lighter\n", ANSWERED),
+        ("slots-desk.plan", "slots-slower.plan", "run again: P is greater\n", RUN_AGAIN),
+        ("desk.plan", "slots-desk.plan", other, RUN_AGAIN),
+        ("slots-desk.plan", "desk.plan", other, RUN_AGAIN),
+    ] {
+        assert_eq!(run_in(&folder, "lighter", &[old, new], b"", 1), (line.as_bytes().to_vec(), ended), "{old} {new}");
+    }
 }
 
 /// A name is never cut: a file under the first bytes of another's name is not taken for it.

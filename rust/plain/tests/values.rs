@@ -4,11 +4,11 @@
 mod common;
 
 use common::{
-    bytes, drawn, edge_plan, file_of, lent, need_all, plan, plan_of, repeat, stream, tally_refusal, tally_rows, values_of, words,
-    work, Rng, Tally, MOST_WORK,
+    bytes, drawn, edge_plan, file_of, lent, need_all, other_slot, plan, plan_in, plan_of, repeat, stream, tally_refusal,
+    tally_rows, values_of, words, work, ByEdition, Counts, Rng, Tally, LARGEST, MOST_WORK,
 };
 use livnakesh::Refused;
-use plain::{self, Plan};
+use plain::{self, Edition, Plan, P};
 
 /// Counts that no plan has, among them some that a cut to fewer bits or a product that wraps would take for a plan's.
 const WRONG_COUNTS: [usize; 10] =
@@ -28,14 +28,21 @@ fn tally_counts(tally: &mut Tally, n: usize, m: usize) {
     });
 }
 
+fn size(plan: &Plan) -> usize {
+    Edition::of(&plan.timing).size(plan.streams.len(), plan.gaps.len())
+}
+
 /// What was said, and for 3 the kind of field.
-fn tally_said<T>(tally: &mut Tally, n: usize, said: Result<T, Refused>) {
+fn tally_said<T>(tally: &mut Tally, plan: &Plan, said: Result<T, Refused>) {
     if let Err(Refused { number: 3, place }) = said {
+        let slots = plan.timing[P] > 0;
+        let streams = if slots { 84 } else { 80 };
         let kind = match place as usize {
             44..=75 => "constant",
             76 => "NB",
-            byte if byte >= plain::size(n, 0) => "gap",
-            byte => ["label", "priority", "period", "jitter", "payload", "deadline"][(byte - 80) / 4 % 6],
+            80 if slots => "P",
+            byte if byte >= streams + 24 * plan.streams.len() => "gap",
+            byte => ["label", "priority", "period", "jitter", "payload", "deadline"][(byte - streams) / 4 % 6],
         };
         tally.count(format!("refusal 3: {kind}"));
     }
@@ -53,7 +60,7 @@ const ALL_OF_3: [&str; 7] = [
 ];
 
 /// A field that is likely to be wrong; any label and jitter is right, but for a repeated label.
-fn hurt(rng: &mut Rng, plan: &mut Plan, tally: &mut Tally) {
+fn hurt(rng: &mut Rng, plan: &mut Plan, tallies: &mut ByEdition) {
     let word = rng.pick(&[0, 0, 1, 33, 65_535, 65_536, u32::MAX, 0x8000_0000]);
     let word = if rng.one_in(3) { rng.wide() } else { word };
     let row = rng.below(plan.streams.len() as u64) as usize;
@@ -67,14 +74,21 @@ fn hurt(rng: &mut Rng, plan: &mut Plan, tally: &mut Tally) {
         4 => stream.payload = word,
         5 => stream.deadline = word,
         6 if !plan.gaps.is_empty() => plan.gaps[gap] = word,
-        _ => repeat(rng, plan, tally),
+        _ => repeat(rng, plan, tallies),
     }
 }
 
-fn hurt_plan(rng: &mut Rng, tally: &mut Tally) -> Plan {
+fn hurt_plan(rng: &mut Rng, tallies: &mut ByEdition) -> Plan {
     let mut plan = plan(rng);
-    for _ in 0..rng.pick(&[1, 1, 1, 2, 3]) {
-        hurt(rng, &mut plan, tally);
+    // P first, while the constants are right, and often P alone.
+    let least = if rng.one_in(4) {
+        plan.timing[P] = other_slot(rng, &plan);
+        0
+    } else {
+        1
+    };
+    for _ in 0..least + rng.pick(&[0, 0, 0, 1, 2]) {
+        hurt(rng, &mut plan, tallies);
     }
     plan
 }
@@ -86,10 +100,10 @@ fn plan_from(n: usize, m: usize, values: &[u32]) -> Plan {
     let (n, m) = (n.min(65), m.min(9));
     let word = |k: usize| values.get(k).copied().unwrap_or(0);
     let streams = (0..n).map(|row| {
-        let [label, priority, period, jitter, payload, deadline] = std::array::from_fn(|k| word(9 + 6 * row + k));
+        let [label, priority, period, jitter, payload, deadline] = std::array::from_fn(|k| word(10 + 6 * row + k));
         stream(label, priority, period, jitter, payload, deadline)
     });
-    Plan { timing: std::array::from_fn(word), streams: streams.collect(), gaps: (0..m).map(|k| word(9 + 6 * n + k)).collect() }
+    Plan { timing: std::array::from_fn(word), streams: streams.collect(), gaps: (0..m).map(|k| word(10 + 6 * n + k)).collect() }
 }
 
 fn reads_back(plan: &Plan, file: &[u8]) {
@@ -100,8 +114,9 @@ fn reads_back(plan: &Plan, file: &[u8]) {
     assert_eq!(again, file, "{plan:?}");
 }
 
-fn write_into(found: &[u8], n: usize, m: usize, values: &[u32], tally: &mut Tally) -> Result<usize, Refused> {
+fn write_into(found: &[u8], n: usize, m: usize, values: &[u32], tallies: &mut ByEdition) -> Result<usize, Refused> {
     let plan = plan_from(n, m, values);
+    let tally = tallies.of(&plan);
     let mut ours = found.to_vec();
     // At an odd address, since lent bytes need not be aligned.
     let mut odd = [&[0], found].concat();
@@ -115,52 +130,54 @@ fn write_into(found: &[u8], n: usize, m: usize, values: &[u32], tally: &mut Tall
         reads_back(&plan, &odd[1..=written]);
         tally.count("read back");
     }
-    tally_said(tally, plan.streams.len(), said);
+    tally_said(tally, &plan, said);
     tally_counts(tally, n, m);
     said
 }
 
-fn write_alike(rng: &mut Rng, n: usize, m: usize, values: &[u32], tally: &mut Tally) -> Result<usize, Refused> {
-    let needed = plain::size(n.min(65), m.min(9));
-    let found = bytes(rng.next(), lent(rng, needed, tally));
-    write_into(&found, n, m, values, tally)
+fn write_alike(rng: &mut Rng, n: usize, m: usize, values: &[u32], tallies: &mut ByEdition) -> Result<usize, Refused> {
+    let plan = plan_from(n, m, values);
+    let found = bytes(rng.next(), lent(rng, size(&plan), tallies.of(&plan)));
+    write_into(&found, n, m, values, tallies)
 }
 
 #[test]
 fn values_of_drawn_plans() {
-    let (mut rng, mut tally) = (Rng(0x7A1E5), Tally::default());
-    for _ in 0..40_000 {
+    let (mut rng, mut tallies) = (Rng(0x7A1E5), ByEdition::default());
+    for _ in 0..80_000 {
         let plan = if rng.one_in(4) { edge_plan(&mut rng) } else { plan(&mut rng) };
         let (n, m) = (plan.streams.len(), plan.gaps.len());
         let mut values = values_of(&plan);
         let more = rng.pick(&[0, 0, 1, 6, 500]);
-        tally.count(if more == 0 { "words: as many as needed" } else { "words: more" });
+        tallies.of(&plan).count(if more == 0 { "words: as many as needed" } else { "words: more" });
         values.extend((0..more).map(|_| rng.wide()));
-        let said = write_alike(&mut rng, n, m, &values, &mut tally);
+        let said = write_alike(&mut rng, n, m, &values, &mut tallies);
         assert!(matches!(said, Ok(_) | Err(Refused { number: 6, place: 0 })), "{said:?} for {values:?}");
     }
-    tally.print("values of drawn plans to the writer");
-    need_all(&tally, &["answered", "read back", "words: as many as needed", "words: more"], 10_000);
-    need_all(&tally, &["refusal 6", "lent: too short", "lent: exact", "lent: longer"], 5_000);
+    tallies.print("values of drawn plans to the writer");
+    tallies.need_all(&["answered", "read back", "words: as many as needed", "words: more"], 10_000);
+    tallies.need_all(&["refusal 6", "lent: too short", "lent: exact", "lent: longer"], 5_000);
 }
 
 /// All numbers of streams and gaps, each into a byte too few, as many as needed, and a byte more.
 #[test]
 fn buffers_a_byte_short() {
-    let (mut rng, mut tally) = (Rng(0xB17E), Tally::default());
-    for n in 1..=64 {
-        for m in 0..=8 {
-            let values = values_of(&plan_of(&mut rng, n, m));
-            let needed = plain::size(n, m);
-            for length in [0, needed - 1, needed, needed + 1] {
-                let said = write_into(&bytes(rng.next(), length), n, m, &values, &mut tally);
-                let wanted = if length < needed { Err(Refused { number: 6, place: 0 }) } else { Ok(needed) };
-                assert_eq!(said, wanted, "{n} streams, {m} gaps, {length} bytes");
+    let (mut rng, mut tallies) = (Rng(0xB17E), ByEdition::default());
+    for (edition, least) in [(Edition::One, 80), (Edition::Two, 84)] {
+        for n in 1..=64 {
+            for m in 0..=8 {
+                let values = values_of(&plan_in(&mut rng, edition, n, m));
+                let needed = least + 24 * n + 4 * m;
+                for length in [0, needed - 1, needed, needed + 1] {
+                    let said = write_into(&bytes(rng.next(), length), n, m, &values, &mut tallies);
+                    let wanted = if length < needed { Err(Refused { number: 6, place: 0 }) } else { Ok(needed) };
+                    assert_eq!(said, wanted, "{edition:?}, {n} streams, {m} gaps, {length} bytes");
+                }
             }
         }
     }
-    tally.print("buffers a byte short, exact and a byte long");
-    need_all(&tally, &["answered", "refusal 6"], 1_152);
+    tallies.print("buffers a byte short, exact and a byte long");
+    tallies.need_all(&["answered", "refusal 6"], 1_152);
 }
 
 fn other_count(rng: &mut Rng, count: usize, most: usize) -> usize {
@@ -177,8 +194,8 @@ fn other_count(rng: &mut Rng, count: usize, most: usize) -> usize {
 /// The words stay, so that a stream's become gaps, gaps become a stream, and words are missing or left over.
 #[test]
 fn values_with_other_counts() {
-    let (mut rng, mut tally) = (Rng(0xC0047), Tally::default());
-    for _ in 0..40_000 {
+    let (mut rng, mut tallies) = (Rng(0xC0047), ByEdition::default());
+    for _ in 0..80_000 {
         let plan = plan(&mut rng);
         let (mut n, mut m) = (plan.streams.len(), plan.gaps.len());
         match rng.below(4) {
@@ -186,58 +203,62 @@ fn values_with_other_counts() {
             1 => (n, m) = (other_count(&mut rng, n, 64), other_count(&mut rng, m, 8)),
             _ => n = other_count(&mut rng, n, 64),
         }
-        _ = write_alike(&mut rng, n, m, &values_of(&plan), &mut tally);
+        _ = write_alike(&mut rng, n, m, &values_of(&plan), &mut tallies);
     }
-    tally.print("values with other counts to the writer");
-    need_all(&tally, &["counts: no streams", "counts: 65 to 1,000 streams", "counts: more streams"], 1_000);
-    need_all(&tally, &["counts: 9 to 1,000 gaps", "counts: more gaps", "refusal 2", "refusal 3", "read back"], 1_000);
+    tallies.print("values with other counts to the writer");
+    tallies.need_all(&["counts: no streams", "counts: 65 to 1,000 streams", "counts: more streams"], 1_000);
+    tallies.need_all(&["counts: 9 to 1,000 gaps", "counts: more gaps", "refusal 2", "refusal 3", "read back"], 1_000);
 }
 
 /// Every number of words up to all of a plan's. What follows them in memory are the missing ones, so that reading on would show.
 #[test]
 fn too_few_words() {
-    let (mut rng, mut tally) = (Rng(0xFE3), Tally::default());
-    for _ in 0..300 {
+    let (mut rng, mut tallies) = (Rng(0xFE3), ByEdition::default());
+    for _ in 0..600 {
         let plan = plan(&mut rng);
         let (n, m) = (plan.streams.len(), plan.gaps.len());
         let values = values_of(&plan);
-        let found = bytes(rng.next(), plain::size(n, m));
+        let found = bytes(rng.next(), size(&plan));
         for count in 0..values.len() {
-            let said = write_into(&found, n, m, &values[..count], &mut tally);
+            let said = write_into(&found, n, m, &values[..count], &mut tallies);
             // Not every word may be 0, but at least a deadline and a gap may not, and one of them is last.
             assert!(matches!(said, Err(Refused { number: 3, .. })), "{said:?} for {count} words of {values:?}");
         }
-        assert_eq!(write_into(&found, n, m, &values, &mut tally), Ok(found.len()));
+        assert_eq!(write_into(&found, n, m, &values, &mut tallies), Ok(found.len()));
     }
-    tally.print("too few words to the writer");
-    need_all(&tally, &["refusal 3", "refusal 3: period", "refusal 3: payload", "refusal 3: deadline"], 1_000);
-    need_all(&tally, &["refusal 3: NB", "refusal 3: gap", "answered"], 300);
+    tallies.print("too few words to the writer");
+    tallies.need_all(&["refusal 3", "refusal 3: period", "refusal 3: payload", "refusal 3: deadline"], 1_000);
+    tallies.need_all(&["refusal 3: gap", "answered"], 200);
+    // P is lent after NB, so that without an NB there is no P either.
+    tallies.without.need("refusal 3: NB", 600);
 }
 
 #[test]
 fn wrong_values_to_the_writer() {
-    let (mut rng, mut tally) = (Rng(0x3F0), Tally::default());
-    for _ in 0..60_000 {
-        let plan = hurt_plan(&mut rng, &mut tally);
-        _ = write_alike(&mut rng, plan.streams.len(), plan.gaps.len(), &values_of(&plan), &mut tally);
+    let (mut rng, mut tallies) = (Rng(0x3F0), ByEdition::default());
+    for _ in 0..150_000 {
+        let plan = hurt_plan(&mut rng, &mut tallies);
+        _ = write_alike(&mut rng, plan.streams.len(), plan.gaps.len(), &values_of(&plan), &mut tallies);
     }
-    tally.print("wrong values to the writer");
-    need_all(&tally, &["refusal 3", "refusal 4", "refusal 5", "refusal 6", "answered"], 1_000);
-    need_all(&tally, &ALL_OF_3, 500);
+    tallies.print("wrong values to the writer");
+    tallies.need_all(&["refusal 3", "refusal 4", "refusal 5", "refusal 6", "answered"], 1_000);
+    tallies.need_all(&ALL_OF_3, 500);
+    need_all(&tallies.slots, &["refusal 3: P", "refusal 10"], 1_000);
 }
 
 // ---- the screen ----
 
 /// Values have no length of their own, so counts that make a file too long are refused as counts.
 fn as_values<T>(file: &[u8], said: Result<T, Refused>) -> Result<T, Refused> {
-    if file.len() > 1_648 {
+    if file.len() > LARGEST {
         return Err(Refused { number: 2, place: 0 });
     }
     said
 }
 
 /// Of a plan with this timing, lent as these words.
-fn screen_into(found: &[u64], plan: &Plan, timing: &[u32], tally: &mut Tally) -> Result<(), Refused> {
+fn screen_into(found: &[u64], plan: &Plan, timing: &[u32], tallies: &mut ByEdition) -> Result<(), Refused> {
+    let tally = tallies.of(plan);
     let n = plan.streams.len();
     let file = file_of(plan);
     let (mut proved, mut ours, mut by_file) = (found.to_vec(), found.to_vec(), found.to_vec());
@@ -250,73 +271,74 @@ fn screen_into(found: &[u64], plan: &Plan, timing: &[u32], tally: &mut Tally) ->
     let kept = if said.is_ok() { 2 * n } else { 0 };
     assert_eq!(proved[kept..], found[kept..], "words after the answers: {}", case());
     tally_rows(tally, &proved[..kept]);
-    tally_said(tally, n, said);
+    tally_said(tally, plan, said);
     tally_counts(tally, n, plan.gaps.len());
     said
 }
 
-fn screen_alike(rng: &mut Rng, plan: &Plan, timing: &[u32], tally: &mut Tally) -> Result<(), Refused> {
+fn screen_alike(rng: &mut Rng, plan: &Plan, timing: &[u32], tallies: &mut ByEdition) -> Result<(), Refused> {
     let needed = (2 * plan.streams.len()).max(1);
-    let found = words(rng.next(), lent(rng, needed, tally));
-    screen_into(&found, plan, timing, tally)
+    let found = words(rng.next(), lent(rng, needed, tallies.of(plan)));
+    screen_into(&found, plan, timing, tallies)
 }
 
 #[test]
 fn screens_of_drawn_plans() {
-    let (mut rng, mut tally) = (Rng(0x5C4EE), Tally::default());
-    for _ in 0..30_000 {
+    let (mut rng, mut tallies) = (Rng(0x5C4EE), ByEdition::default());
+    for _ in 0..60_000 {
         let draw = if rng.one_in(4) { edge_plan } else { plan };
-        let plan = drawn(&mut rng, draw, &mut tally);
-        let said = screen_alike(&mut rng, &plan, &plan.timing, &mut tally);
+        let plan = drawn(&mut rng, draw, &mut tallies);
+        let said = screen_alike(&mut rng, &plan, &plan.timing, &mut tallies);
         assert!(matches!(said, Ok(()) | Err(Refused { number: 6, place: 0 })), "{said:?} for {plan:?}");
     }
-    tally.print("screens of drawn plans");
-    need_all(&tally, &["answered", "row: met", "row: missed", "row: none"], 10_000);
-    need_all(&tally, &["refusal 6", "lent: too short", "lent: exact", "lent: longer"], 5_000);
+    tallies.print("screens of drawn plans");
+    tallies.need_all(&["answered", "row: met", "row: missed", "row: none"], 10_000);
+    tallies.need_all(&["refusal 6", "lent: too short", "lent: exact", "lent: longer"], 5_000);
 }
 
 #[test]
 fn words_one_short() {
-    let (mut rng, mut tally) = (Rng(0x3085), Tally::default());
-    for n in 1..=64 {
+    let (mut rng, mut tallies) = (Rng(0x3085), ByEdition::default());
+    for (edition, n) in [Edition::One, Edition::Two].into_iter().flat_map(|edition| (1..=64).map(move |n| (edition, n))) {
         let plan = loop {
-            let plan = plan_of(&mut rng, n, n % 9);
+            let plan = plan_in(&mut rng, edition, n, n % 9);
             if work(&plan, MOST_WORK).is_some() {
                 break plan;
             }
         };
         for length in [0, 2 * n - 1, 2 * n, 2 * n + 1] {
-            let said = screen_into(&words(rng.next(), length), &plan, &plan.timing, &mut tally);
+            let said = screen_into(&words(rng.next(), length), &plan, &plan.timing, &mut tallies);
             let wanted = if length < 2 * n { Err(Refused { number: 6, place: 0 }) } else { Ok(()) };
-            assert_eq!(said, wanted, "{n} streams, {length} words");
+            assert_eq!(said, wanted, "{edition:?}, {n} streams, {length} words");
         }
     }
-    tally.print("answer words one short, exact and one more");
-    need_all(&tally, &["answered", "refusal 6"], 128);
+    tallies.print("answer words one short, exact and one more");
+    tallies.need_all(&["answered", "refusal 6"], 128);
 }
 
 #[test]
 fn screens_of_wrong_values() {
-    let (mut rng, mut tally) = (Rng(0x5C4E3), Tally::default());
-    for _ in 0..60_000 {
-        let plan = hurt_plan(&mut rng, &mut tally);
+    let (mut rng, mut tallies) = (Rng(0x5C4E3), ByEdition::default());
+    for _ in 0..150_000 {
+        let plan = hurt_plan(&mut rng, &mut tallies);
         if plain::check(&plan).is_ok() && work(&plan, MOST_WORK).is_none() {
-            tally.count("(chains too long, not run)");
+            tallies.of(&plan).count("(chains too long, not run)");
             continue;
         }
-        _ = screen_alike(&mut rng, &plan, &plan.timing, &mut tally);
+        _ = screen_alike(&mut rng, &plan, &plan.timing, &mut tallies);
     }
-    tally.print("screens of wrong values");
-    need_all(&tally, &["refusal 3", "refusal 4", "refusal 5", "refusal 6", "answered"], 1_000);
-    need_all(&tally, &ALL_OF_3, 500);
+    tallies.print("screens of wrong values");
+    tallies.need_all(&["refusal 3", "refusal 4", "refusal 5", "refusal 6", "answered"], 1_000);
+    tallies.need_all(&ALL_OF_3, 500);
+    need_all(&tallies.slots, &["refusal 3: P", "refusal 10"], 1_000);
 }
 
 /// Lists that are empty or too long, whatever else is wrong with them.
 #[test]
 fn screens_of_other_lengths() {
-    let (mut rng, mut tally) = (Rng(0x1E46), Tally::default());
-    for _ in 0..20_000 {
-        let mut plan = drawn(&mut rng, plan, &mut tally);
+    let (mut rng, mut tallies) = (Rng(0x1E46), ByEdition::default());
+    for _ in 0..40_000 {
+        let mut plan = drawn(&mut rng, plan, &mut tallies);
         let (n, last) = (plan.streams.len(), plan.streams[0]);
         match rng.below(4) {
             0 => plan.streams.clear(),
@@ -330,33 +352,46 @@ fn screens_of_other_lengths() {
             }
         }
         if plain::check(&plan).is_ok() && work(&plan, MOST_WORK).is_none() {
-            tally.count("(chains too long, not run)");
+            tallies.of(&plan).count("(chains too long, not run)");
             continue;
         }
-        _ = screen_alike(&mut rng, &plan, &plan.timing, &mut tally);
+        _ = screen_alike(&mut rng, &plan, &plan.timing, &mut tallies);
     }
-    tally.print("screens with other numbers of streams and gaps");
-    need_all(&tally, &["counts: no streams", "counts: 65 to 1,000 streams", "counts: more streams"], 500);
-    need_all(&tally, &["counts: 9 to 1,000 gaps", "counts: more gaps", "refusal 2"], 500);
-    tally.need("answered", 200);
+    tallies.print("screens with other numbers of streams and gaps");
+    tallies.need_all(&["counts: no streams", "counts: 65 to 1,000 streams", "counts: more streams"], 500);
+    tallies.need_all(&["counts: 9 to 1,000 gaps", "counts: more gaps", "refusal 2"], 500);
+    tallies.need_all(&["answered"], 200);
 }
 
-/// The missing words follow those that are lent, so that reading on would show.
+/// A plan whose chains are short with its master node and without it.
+fn short_either_way(rng: &mut Rng) -> Plan {
+    loop {
+        let plan = plan(rng);
+        let mut without = plan.clone();
+        without.timing[P] = 0;
+        if work(&without, MOST_WORK).is_some() {
+            return plan;
+        }
+    }
+}
+
+/// The missing words follow those that are lent, so that reading on would show. Nine words are a plan without a master node.
 #[test]
 fn timings_of_other_lengths() {
-    let (mut rng, mut tally) = (Rng(0x717), Tally::default());
-    for _ in 0..1_000 {
-        let plan = drawn(&mut rng, plan, &mut tally);
+    let (mut rng, mut tallies) = (Rng(0x717), ByEdition::default());
+    for _ in 0..2_000 {
+        let plan = drawn(&mut rng, short_either_way, &mut tallies);
         let more = [rng.wide(), rng.wide(), rng.wide()];
         let timing = [&plan.timing[..], &more].concat();
         for count in 0..=timing.len() {
             let lent = &timing[..count];
             let plan = Plan { timing: std::array::from_fn(|k| lent.get(k).copied().unwrap_or(0)), ..plan.clone() };
-            let said = screen_into(&words(rng.next(), 128), &plan, lent, &mut tally);
+            let said = screen_into(&words(rng.next(), 128), &plan, lent, &mut tallies);
             let wanted = if count < 9 { Err(Refused { number: 3, place: 76 }) } else { Ok(()) };
             assert_eq!(said, wanted, "{count} timing words: {plan:?}");
         }
     }
-    tally.print("timings of other lengths");
-    need_all(&tally, &["refusal 3: NB", "answered", "row: met"], 3_000);
+    tallies.print("timings of other lengths");
+    need_all(&tallies.without, &["refusal 3: NB", "answered", "row: met"], 3_000);
+    need_all(&tallies.slots, &["answered", "row: met"], 3_000);
 }

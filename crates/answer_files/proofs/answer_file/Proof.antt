@@ -19,7 +19,7 @@ returns-2 c =
     let n = w .before .before .before .before in
     let k = n .before .before in
     let a = k .before .before .before .before .args in
-    let e = file-is (now (a .bytes)) (now (a .out)) _ _ (sym (k .carry .ensures .0) ∙ n .n .given .1) (k .carry .ensures .1) in
+    let e = file-is (now (a .bytes)) (now (a .out)) _ _ _ (sym (k .carry .ensures .0) ∙ n .edition .given .1) (k .carry .ensures .1) in
     (w .answer-words .ensures .0 ∙ sym (ap (λ o. o .0) e), w .answer-words .ensures .1 ∙ sym (ap (λ o. o .1) e))
 
 pub answer-file-spec : {M : Type 1} → statement M

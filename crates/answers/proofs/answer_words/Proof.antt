@@ -17,20 +17,17 @@ use Rattle.answers.proofs.answer_words.Tie as tie
 abbrev entry : tie.After-enum-told → tie.Start
 entry c = c .before .before .before .before
 
-fine : (c : tie.After-enum-told) → let a = entry c .args in judge (lines (a .n) (a .m) (planIn (a .n) (a .m) (now (a .words)))) ≡ Fine
+fine : (c : tie.After-enum-told) → let a = entry c .args in judge (lines (a .edition) (a .n) (a .m) (planIn (a .n) (a .m) (now (a .words)))) ≡ Fine
 fine c = sym (c .before .before .check-words .ensures) ∙ c .enum-told .given .1
 
 places : (c : tie.After-enum-told) → let a = entry c .args in PlacesWithin (now (a .words)) (a .n) (a .m)
-places c = fine-places _ _ _ (fine c)
+places c = fine-places _ _ _ _ (fine c)
 
 returns : tie.Need-returns
 returns c =
     let k = c .before .before .before in
-    let e = refused-is _ _ _ (now (k .before .before .args .out)) _ (sym (k .check-words .ensures) ∙ c .before .r .given .1) in
+    let e = refused-is _ _ _ _ (now (k .before .before .args .out)) _ (sym (k .check-words .ensures) ∙ c .before .r .given .1) in
     (sym (ap (λ o. o .0) e), sym (ap (λ o. o .1) e))
-
-enum-told : tie.Need-enum-told
-enum-told c = search needs
 
 mul-if1 : tie.Need-mul-if1
 mul-if1 c = omega (arith, places c .rows .few)
@@ -39,7 +36,7 @@ returns-2 : tie.Need-returns-2
 returns-2 c =
     let d = c .before in
     let a = entry d .args in
-    let e = too-few-is (a .n) (a .m) _ (now (a .out)) (fine d) (c .if1 .taken) in
+    let e = too-few-is (a .edition) (a .n) (a .m) _ (now (a .out)) (fine d) (c .if1 .taken) in
     (sym (ap (λ o. o .0) e), sym (ap (λ o. o .1) e))
 
 put-rows-requires : tie.Need-put-rows-requires
@@ -50,11 +47,11 @@ returns-3 c =
     let w = c .before .before in
     let d = w .before .before in
     let a = entry (d .before) .args in
-    let e = words-are (a .n) (a .m) _ (now (a .out)) (fine (d .before)) (omega (arith, d .if1 .left)) in
+    let e = words-are (a .edition) (a .n) (a .m) _ (now (a .out)) (fine (d .before)) (omega (arith, d .if1 .left)) in
     (sym (ap (λ o. o .0) e), w .put-rows .ensures ∙ sym (ap (λ o. o .1) e))
 
 pub answer-words-spec : {M : Type 1} → statement M
 answer-words-spec =
     tie.close
-    (tie.spec (λ c κs. search needs) (λ c. search needs) returns enum-told mul-if1 returns-2 put-rows-requires (λ c. search needs)
+    (tie.spec (λ c κs. search needs) (λ c. search needs) returns (λ c. search needs) mul-if1 returns-2 put-rows-requires (λ c. search needs)
     returns-3)

@@ -1,36 +1,52 @@
 -- Each part was gathered for the rules' term of the same place.
 use borrow.Author.Needs.{needs}
-use mathlib.Core.Path.{ap}
+use mathlib.Core.Path.{ap, _∙_}
 use Prim.Native.Nat.{_+_}
 use native.Mathlib.Omega.{arith}
 use Rattle.answers.proofs.Terms.{gathered-is}
-use borrow.Author.Needs.{needs}
 use Rattle.answers.proofs.gathered.Statement.{statement}
 use Rattle.answers.proofs.gathered.Tie as tie
 
+abbrev start : tie.After-others-of-arg3 → tie.Start
+start c = c .before .before .before .before .before .before .before .before .before .before .before .before .before
+
 others-of-requires : tie.Need-others-of-requires
 others-of-requires c κs =
-    let s = c .before .before .before .before .before .before .before .before in
+    let s = start c in
     let v = s .pre .1 .0 in
-    let w = s .pre .0 .rows .stream (s .args .row .0) (s .pre .1 .1 .0) in
-    (s .pre .0 .rows, (omega arith, (omega (arith, v .little, v .small), (w .payload, s .pre .1 .1 .1))))
+    let w = s .pre .0 .rows .stream (s .args .row .0) (s .pre .1 .1 .1 .0) in
+    (s .pre .0 .rows, (omega arith, (omega (arith, v .little, v .small), (w .payload, s .pre .1 .1 .1 .1))))
+
+noise-after-requires : tie.Need-noise-after-requires
+noise-after-requires c κs =
+    let i = c .before .before .in-slots .ensures in
+    let o = c .before .before .before .before in
+    let g = o .others-of .ensures .0 in
+    let f = start (o .before) .pre .0 in (
+      omega (arith, f .rows .few, f .quiet),
+      (f .quiet, (omega (arith, i .urgent, g .few, f .rows .few), (i .long ∙ g .long .of-costs, g .long .of-periods))),
+    )
 
 returns : tie.Need-returns
 returns c =
-    let w2 = c .before .before in
-    let na = w2 .before .before in
-    let b = na .before .before .before in
-    let w = b .before .before .before .before in
-    let s = w .before .before .before .before .before in
-    let o = b .others-of .ensures .1 in
-    gathered-is (s .args .words .now) (s .args .n) (s .args .m) (s .args .row .0) (s .args .c) (s .pre .0) (s .pre .1 .0) (s .pre .1 .1 .0) _ _ _ _ _ _ _ _ _ _ _
-    (o .blocking, o .little) (ap (λ z. s .args .c .v + s .args .c .u + z) (w .wide .ensures .0)) (b .others-of .ensures .0) (o .hit, o .small)
-    (na .noise-after .ensures .0) (na .noise-after .ensures .1) (w2 .wide2 .ensures) (c .wide3 .ensures)
+    let i = c .before .before .before in
+    let o = i .before .before in
+    let air = o .before .before .before .before in
+    let w3 = air .before in
+    let w2 = w3 .before .before in
+    let w = w2 .before .before in
+    let s = start (o .before) in
+    let each = ap (λ z. s .args .c .lead + s .args .c .u + z) (w3 .wide3 .ensures .0) in
+    gathered-is (s .args .words .now) (s .args .n) (s .args .m) (s .args .row .0) (s .args .c) (s .args .slot)
+    (s .pre .0) (s .pre .1 .0) (s .pre .1 .1 .0) (s .pre .1 .1 .1 .0) _ _ _ _ _ _ _ _ _ _ _ _
+    each (air .airtime .ensures) (o .others-of .ensures .0) (o .others-of .ensures .1) (i .in-slots .ensures)
+    (c .noise-after .ensures .0) (c .noise-after .ensures .1) (w .wide .ensures) (w2 .wide2 .ensures)
 
 pub gathered-spec : {M : Type 1} → statement M
 gathered-spec =
     tie.close
     (tie.spec (λ c. search needs) (λ c. search needs) (λ c. search needs) (λ c. search needs) (λ c. search needs) (λ c. search needs)
-    (λ c. search needs) (λ c. search needs) (λ c. search needs) (λ c κs. search needs) (λ c. search needs) others-of-requires
-    (λ c. search needs) (λ c. search needs) (λ c κs. search needs) (λ c. search needs) (λ c. search needs) (λ c. search needs)
-    (λ c κs. search needs) (λ c. search needs) (λ c. search needs) (λ c. search needs) (λ c κs. search needs) returns)
+    (λ c. search needs) (λ c. search needs) (λ c. search needs) (λ c. search needs) (λ c. search needs) (λ c. search needs)
+    (λ c. search needs) (λ c κs. search needs) (λ c. search needs) (λ c. search needs) (λ c. search needs) (λ c κs. search needs)
+    (λ c. search needs) (λ c κs. search needs) (λ c. search needs) (λ c κs. search needs) others-of-requires (λ c κs. search needs)
+    noise-after-requires returns)

@@ -10,21 +10,22 @@ use Rattle.names.specs.Limits.{streams}
 use Rattle.laws.specs.Lists.{rows}
 use Rattle.laws.proofs.Lists.{rows-map}
 use Rattle.bound.specs.Bound.{answer}
+use Rattle.plan.specs.declared.Timing.{Timing}
 use Rattle.plan.specs.Rules.{rowAnswer}
 use Rattle.carried.specs.Carried.{planIn}
 use Rattle.answers.specs.private.Gather.{rowStream, Long}
 use Rattle.row_words.specs.RowWords.{rowWords, wordsPerRow, withAnswer}
 use Rattle.row_words.proofs.RowWords.{put-next}
-use Rattle.costs.proofs.Costs.{v-and-u-within}
+use Rattle.costs.proofs.Costs.{overhead-within}
 use Rattle.answers.proofs.put_rows.Statement.{statement}
 use Rattle.answers.proofs.put_rows.Tie as tie
 
 abbrev Inv-loop : tie.InvT-loop
-Inv-loop ws n m out₀ c costs₀ periods₀ jitters₀ k₀ out costs periods jitters k =
+Inv-loop ws n m out₀ c slot costs₀ periods₀ jitters₀ k₀ out costs periods jitters k =
     (k ≤ n) × (out ≡ flatMap rowWords (rows k (λ j. rowAnswer (planIn n m ws) (rowStream ws j))) ++ drop (wordsPerRow * k) out₀) × (length out ≡ length out₀) × Long costs periods jitters
 
 abbrev μ-loop : tie.MeasureT-loop
-μ-loop ws n m out₀ c costs₀ periods₀ jitters₀ k₀ out costs periods jitters k = n - k
+μ-loop ws n m out₀ c slot costs₀ periods₀ jitters₀ k₀ out costs periods jitters k = n - k
 
 loop-holds : tie.Need-loop-holds Inv-loop μ-loop
 unfolding rows flatMap
@@ -33,9 +34,16 @@ loop-holds c = (omega arith, refl, refl, record { of-costs = refl; of-periods = 
 gathered-requires : tie.Need-gathered-requires Inv-loop μ-loop
 gathered-requires c κs =
     let d = c .before .before .before in
-    let f = d .before .before in
-    let s = f .before .before .before in
-    (s .pre .0, (rw (f .overheads-of .ensures, f .before .timing-in .ensures) (v-and-u-within _ (s .pre .0 .timing)), (d .loop-test .taken, d .before .loop .inv .3)))
+    let w = d .before .before in
+    let f = w .before in
+    let g = f .before in
+    let s = g .before .before in (
+      s .pre .0,
+      (
+        rw (f .overheads-of .ensures, g .timing-in .ensures) (overhead-within _ (s .pre .0 .timing)),
+        (w .wide .ensures .0 ∙ ap (λ (t : Timing). t .p) (g .timing-in .ensures), (d .loop-test .taken, d .before .loop .inv .3)),
+      ),
+    )
 
 row-answer-requires : tie.Need-row-answer-requires Inv-loop μ-loop
 row-answer-requires c κs = c .before .before .before .before .before .gathered .ensures .fits
@@ -45,7 +53,7 @@ abbrev in-turn : tie.After-gathered Inv-loop μ-loop → tie.In-loop Inv-loop μ
 in-turn c = c .before .before .before .before
 
 abbrev entry : tie.After-gathered Inv-loop μ-loop → tie.Start Inv-loop μ-loop
-entry c = in-turn c .before .before .before .before .before
+entry c = in-turn c .before .before .before .before .before .before
 
 -- there is room for the words of this row
 few : (c : tie.After-gathered Inv-loop μ-loop) → in-turn c .before .loop .k < streams
@@ -59,7 +67,7 @@ row-is : (c : tie.After-row-answer Inv-loop μ-loop)
 row-is c =
     let w = c .before .before .before .before in
     let g = w .before .before in
-    c .row-answer .ensures ∙ ap₂ answer (g .gathered .ensures .is) (w .wide .ensures .0)
+    c .row-answer .ensures ∙ ap₂ answer (g .gathered .ensures .is) (w .wide2 .ensures .0)
 
 add-k : tie.Need-add-k Inv-loop μ-loop
 add-k c = omega (arith, few (c .before .before .before .before .before .before .before .before .before .before))
@@ -79,7 +87,7 @@ same-length c = c .before .loop .inv .2
 returns : tie.Need-returns Inv-loop μ-loop
 unfolding planIn
 returns c =
-    let s = c .before .before .before .before .before in
+    let s = c .before .before .before .before .before .before in
     let e : c .before .loop .k ≡ s .args .n = omega arith in
     let p = planIn (s .args .n) (s .args .m) (now (s .args .words)) in
     c .before .loop .inv .1 ∙ ap (λ k. flatMap rowWords (rows k (λ j. rowAnswer p (rowStream (now (s .args .words)) j))) ++ drop (wordsPerRow * k) (now (s .args .out))) e
@@ -88,6 +96,6 @@ returns c =
 pub put-rows-spec : {M : Type 1} → statement M
 put-rows-spec =
     tie.close
-    (tie.spec Inv-loop μ-loop (λ c κs. search needs) (λ c κs. search needs) loop-holds gathered-requires (λ c. search needs)
-    (λ c. search needs) (λ c. search needs) (λ c. search needs) (λ c. search needs) (λ c κs. search needs) row-answer-requires
-    (λ c κs. search needs) add-k (λ c. search needs) loop-again same-length returns)
+    (tie.spec Inv-loop μ-loop (λ c κs. search needs) (λ c κs. search needs) (λ c κs. search needs) loop-holds gathered-requires
+    (λ c. search needs) (λ c. search needs) (λ c. search needs) (λ c. search needs) (λ c. search needs) (λ c κs. search needs)
+    row-answer-requires (λ c κs. search needs) add-k (λ c. search needs) loop-again same-length returns)

@@ -1,4 +1,4 @@
--- In places, the first nine words are those that are lent. Assumes nothing.
+-- In places, the first ten words are those that are lent. Assumes nothing.
 use mathlib.Core.Path.{ap, _∙_}
 use borrow.Author.Needs.{needs}
 use denote.Ref.{now}

@@ -1,5 +1,5 @@
 -- A sheet is answered as its words are. Assumes nothing.
-use mathlib.Core.Path.{ap, _∙_}
+use mathlib.Core.Path.{ap₂, _∙_}
 use borrow.Author.Needs.{needs}
 use Rattle.carried.specs.Carried.{planIn}
 use Rattle.judge.specs.Table.{judge}
@@ -10,11 +10,11 @@ use Rattle.checks.proofs.check.Tie as tie
 
 returns : tie.Need-returns
 returns c =
-    let b = c .before .before .before in
-    let s = b .args .sheet in
+    let w = c .before .before .before in
+    let s = w .before .args .sheet in
     c .check-words .ensures
-    ∙ ap (λ ws. judge (lines (s .count) (s .sources) (planIn (s .count) (s .sources) ws))) (c .before .before .words-of .ensures)
-    ∙ same-check s (_, b .good .0 .1 .1)
+    ∙ ap₂ (λ e ws. judge (lines e (s .count) (s .sources) (planIn (s .count) (s .sources) ws))) (c .before .before .edition-for .ensures) (w .words-of .ensures)
+    ∙ same-check s (_, w .before .good .0 .1 .1)
 
 pub check-spec : {M : Type 1} → statement M
-check-spec = tie.close (tie.spec (λ c κs. search needs) (λ c κs. search needs) returns)
+check-spec = tie.close (tie.spec (λ c κs. search needs) (λ c κs. search needs) (λ c κs. search needs) returns)

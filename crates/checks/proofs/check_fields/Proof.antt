@@ -7,6 +7,7 @@ use lib.ListN.{getD}
 use Rattle.names.specs.Limits.{streams, sources}
 use Rattle.laws.specs.declared.Found.the-variants.{At}
 use Rattle.laws.proofs.Lists.{length-rows}
+use Rattle.judge.specs.declared.Checked.the-variants.{Refused}
 use Rattle.judge.proofs.Table.{given, passed, nothing-given}
 use Rattle.plan.specs.Plan.{Plan}
 use Rattle.carried.specs.Layout as layout
@@ -23,32 +24,35 @@ use Rattle.checks.proofs.check_fields.Tie as tie
 abbrev asked : tie.Start → Plan
 asked b = planIn (min (b .args .n) streams) (min (b .args .m) sources) (now (b .args .words))
 
-one-of-them : (b : tie.Start) {k : ℕ} → lowest 0 (fields (asked b)) ≡ At k → k < layout.largest
+one-of-them : (b : tie.Start) {k : ℕ} → lowest 0 (fields (b .args .edition) (asked b)) ≡ At k → k < layout.largest
 unfolding planIn
 one-of-them b e =
     let p = asked b in
     let ws = now (b .args .words) in
     let n = min (b .args .n) streams in
     let m = min (b .args .m) sources in
-    let f = at-the-lowest 0 (fields p) _ .0 e in
-    omega (arith, f .counted, f .among, length-fields p, length-rows n (λ r. streamIn ws (layout.streamAt r)), length-rows m (λ k. getD ws (layout.gapAt n k) 0))
+    let f = at-the-lowest 0 (fields (b .args .edition) p) _ .0 e in
+    omega (arith, f .counted, f .among, length-fields (b .args .edition) p, length-rows n (λ r. streamIn ws (layout.streamAt r)), length-rows m (λ k. getD ws (layout.gapAt n k) 0))
 
-add-refused : tie.Need-add-refused
-add-refused c = omega (arith, one-of-them (c .before .before .before .before) (sym (c .before .before .before .outside .ensures) ∙ c .before .k .given .1))
-
-mul-refused : tie.Need-mul-refused
-mul-refused c = omega (arith, one-of-them (c .before .before .before .before) (sym (c .before .before .before .outside .ensures) ∙ c .before .k .given .1))
+byte-of-requires : tie.Need-byte-of-requires
+byte-of-requires c κs = one-of-them (c .before .before .before .before) (sym (c .before .before .before .outside .ensures) ∙ c .before .k .given .1)
 
 enum-told : tie.Need-enum-told
 enum-told c = search needs
 
 returns : tie.Need-returns
-returns c = c .refused .ensures ∙ sym (given _ _ _ (ap byteIn (sym (c .before .before .before .before .outside .ensures) ∙ c .before .before .k .given .1)))
+returns c =
+    let y = c .before in
+    let k = y .before .before in
+    c .refused .ensures
+    ∙ ap (λ x. Refused (record { number = 3; place = x })) (y .byte-of .ensures)
+    ∙ sym (given _ _ _ (ap (byteIn (k .before .before .before .args .edition)) (sym (k .before .before .outside .ensures) ∙ k .k .given .1)))
 
 returns-2 : tie.Need-returns-2
-returns-2 c = sym (passed _ _ (ap byteIn (sym (c .before .before .outside .ensures) ∙ c .enum-told .given .1)) ∙ nothing-given)
+returns-2 c =
+    sym (passed _ _ (ap (byteIn (c .before .before .before .args .edition)) (sym (c .before .before .outside .ensures) ∙ c .enum-told .given .1)) ∙ nothing-given)
 
 pub check-fields-spec : {M : Type 1} → statement M
 check-fields-spec =
     tie.close
-    (tie.spec (λ c κs. search needs) (λ c. search needs) add-refused mul-refused (λ c κs. search needs) enum-told returns returns-2)
+    (tie.spec (λ c κs. search needs) (λ c. search needs) byte-of-requires (λ c κs. search needs) enum-told returns returns-2)

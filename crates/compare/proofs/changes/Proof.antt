@@ -9,7 +9,7 @@ use Rattle.names.specs.Limits.{streams}
 use Rattle.plan.specs.Plan.{Plan, planOf}
 use Rattle.plan.proofs.Places.{streams-taken}
 use Rattle.compare.specs.declared.Change.the-variants.{Nothing}
-use Rattle.compare.specs.Changes.{ofConstants, ofStreams, ofOrder, changes}
+use Rattle.compare.specs.Changes.{_or_, ofKit, ofConstants, ofStreams, ofOrder, ofNoise, changes}
 use Rattle.compare.specs.private.Columns.{labelOf, priorityOf, numberThen, orderBy}
 use Rattle.compare.proofs.First.{nothing-or, of-or}
 use Rattle.compare.proofs.Places.{Front, front}
@@ -17,13 +17,20 @@ use Rattle.compare.proofs.Standing.{as-order}
 use Rattle.compare.proofs.changes.Statement.{statement}
 use Rattle.compare.proofs.changes.Tie as tie
 
+-- the master node is no change
+kit-holds : (c : tie.After-enum-told) → let a = c .before .before .before .before .before .args in ofKit (a .old .timing) (a .new .timing) ≡ Nothing
+kit-holds c = sym (c .before .before .kit .ensures) ∙ c .enum-told .given .1
+
 -- ---- the constants hold, and the labels of the first plan are lent
 module _ (c : tie.After-labels-of) where
-  abbrev told : tie.After-enum-told
+  abbrev told : tie.After-enum-told2
   told = c .before .before .before
 
+  abbrev kit : tie.After-enum-told
+  kit = told .before .before .before
+
   abbrev start : tie.Start
-  start = told .before .before .before .before .before
+  start = kit .before .before .before .before .before
 
   abbrev old : Plan
   old = planOf (start .args .old)
@@ -41,7 +48,11 @@ module _ (c : tie.After-labels-of) where
   m-is = streams-taken (start .args .new) (_, start .good .1 .0 .1 .1) _ (c .before .smaller2 .ensures) .0
 
   constants-hold : ofConstants (old .timing) (new .timing) ≡ Nothing
-  constants-hold = sym (told .before .before .constants .ensures) ∙ told .enum-told .given .1
+  constants-hold = sym (told .before .before .constants .ensures) ∙ told .enum-told2 .given .1
+
+  after-constants : changes old new ≡ ofStreams old new or ofOrder old new or ofNoise old new
+  unfolding changes
+  after-constants = nothing-or _ _ (kit-holds kit) ∙ nothing-or _ _ constants-hold
 
   labels : Front labelOf old n (c .labels-of .result)
   labels =
@@ -59,7 +70,7 @@ module _ (c : tie.After-is) where
   f = st .before .before
 
   no-change : st .streams .result .change ≡ Nothing
-  no-change = c .before .before .enum-told2 .given .1
+  no-change = c .before .before .enum-told3 .given .1
 
   streams-hold : ofStreams (old f) (new f) ≡ Nothing
   streams-hold = sym (st .streams .ensures .0) ∙ no-change
@@ -84,10 +95,13 @@ returns : tie.Need-returns
 unfolding changes
 returns c =
     let k = c .before .before .before in
-    sym (of-or _ _ _ (sym (k .constants .ensures) ∙ c .before .why .given .1))
+    sym (of-or _ _ _ (sym (k .kit .ensures) ∙ c .before .why .given .1))
 
-enum-told : tie.Need-enum-told
-enum-told c = search needs
+returns-2 : tie.Need-returns-2
+unfolding changes
+returns-2 c =
+    let k = c .before .before .before in
+    sym (nothing-or _ _ (kit-holds (k .before)) ∙ of-or _ _ _ (sym (k .constants .ensures) ∙ c .before .why2 .given .1))
 
 array-share-prefix-labels : tie.Need-array-share-prefix-labels
 array-share-prefix-labels c = labels c .room
@@ -98,11 +112,10 @@ slice-aggregate-streams c = labels (c .before) .long
 streams-requires : tie.Need-streams-requires
 streams-requires c κs = labels (c .before) .is
 
-returns-2 : tie.Need-returns-2
-unfolding changes
-returns-2 c =
+returns-3 : tie.Need-returns-3
+returns-3 c =
     let t = c .before .before .before in
-    sym (nothing-or _ _ (constants-hold (t .before .before)) ∙ of-or _ _ _ (sym (t .streams .ensures .0) ∙ c .before .change .given .1))
+    sym (after-constants (t .before .before) ∙ of-or _ _ _ (sym (t .streams .ensures .0) ∙ c .before .change .given .1))
 
 array-share-prefix-was : tie.Need-array-share-prefix-was
 array-share-prefix-was c = was c .room
@@ -121,25 +134,24 @@ urgency-requires c κs =
     let t = c .before .before in
     (sym (was t .long) ∙ m-is (f t), sym (is t .long) ∙ m-is (f t))
 
-returns-3 : tie.Need-returns-3
-unfolding changes
-returns-3 c =
-    let o = c .before .before .before in
-    let t = o .before .before .before in
-    sym (nothing-or _ _ (constants-hold (f t)) ∙ nothing-or _ _ (streams-hold t) ∙ of-or _ _ _ (sym (by-columns o) ∙ c .before .why2 .given .1))
-
 returns-4 : tie.Need-returns-4
-unfolding changes
 returns-4 c =
     let o = c .before .before .before in
     let t = o .before .before .before in
+    sym (after-constants (f t) ∙ nothing-or _ _ (streams-hold t) ∙ of-or _ _ _ (sym (by-columns o) ∙ c .before .why3 .given .1))
+
+returns-5 : tie.Need-returns-5
+returns-5 c =
+    let o = c .before .before .before in
+    let t = o .before .before .before in
     c .noise .ensures
-    ∙ sym (nothing-or _ _ (constants-hold (f t)) ∙ nothing-or _ _ (streams-hold t) ∙ nothing-or _ _ (sym (by-columns o) ∙ c .before .enum-told3 .given .1))
+    ∙ sym (after-constants (f t) ∙ nothing-or _ _ (streams-hold t) ∙ nothing-or _ _ (sym (by-columns o) ∙ c .before .enum-told4 .given .1))
 
 pub changes-spec : {M : Type 1} → statement M
 changes-spec =
     tie.close
-    (tie.spec (λ c κs. search needs) (λ c. search needs) returns enum-told (λ c κs. search needs) (λ c κs. search needs)
-    (λ c κs. search needs) array-share-prefix-labels slice-aggregate-streams streams-requires (λ c. search needs) returns-2
-    (λ c. search needs) array-share-prefix-was slice-aggregate-urgency array-share-prefix-is slice-aggregate-urgency-2 urgency-requires
-    (λ c. search needs) returns-3 (λ c. search needs) (λ c κs. search needs) returns-4)
+    (tie.spec (λ c κs. search needs) (λ c. search needs) returns (λ c. search needs) (λ c κs. search needs) (λ c. search needs) returns-2
+    (λ c. search needs) (λ c κs. search needs) (λ c κs. search needs) (λ c κs. search needs) array-share-prefix-labels
+    slice-aggregate-streams streams-requires (λ c. search needs) returns-3 (λ c. search needs) array-share-prefix-was
+    slice-aggregate-urgency array-share-prefix-is slice-aggregate-urgency-2 urgency-requires (λ c. search needs) returns-4
+    (λ c. search needs) (λ c κs. search needs) returns-5)

@@ -23,7 +23,7 @@ use Rattle.fields.proofs.outside.Tie as tie
 abbrev asked : tie.Start → Plan
 asked b = planIn (min (b .args .n) streams) (min (b .args .m) sources) (now (b .args .words))
 
-timing-inside : (c : tie.After-enum-told) → lowest 0 (timingFields (timingIn (now (c .before .before .before .before .before .args .words)))) ≡ Nothing
+timing-inside : (c : tie.After-enum-told) → lowest 0 (timingFields (c .before .before .before .before .before .args .edition) (timingIn (now (c .before .before .before .before .before .args .words)))) ≡ Nothing
 timing-inside c = sym (c .before .before .timing-outside .ensures) ∙ c .enum-told .given .1
 
 -- the streams of the plan are those that were looked at
@@ -39,7 +39,7 @@ returns : tie.Need-returns
 unfolding planIn
 returns c =
     let p = c .before .before .before in
-    sym (timing-here (asked (p .before .before .before)) _ (sym (p .timing-outside .ensures) ∙ c .before .p .given .1))
+    sym (timing-here (p .before .before .before .args .edition) (asked (p .before .before .before)) _ (sym (p .timing-outside .ensures) ∙ c .before .p .given .1))
 
 enum-told : tie.Need-enum-told
 enum-told c = search needs
@@ -48,7 +48,7 @@ streams-outside-requires : tie.Need-streams-outside-requires
 streams-outside-requires c κs =
     let t = c .before .before in
     let b = t .before .before .before .before in
-    let timing = timingFields (timingIn (now (b .before .args .words))) in
+    let timing = timingFields (b .before .args .edition) (timingIn (now (b .before .args .words))) in
     (search needs, (omega (arith, b .smaller .ensures), inside-if-within _ .0 (nothing-if-inside 0 timing .0 (timing-inside t) 8 (omega arith)) .1))
 
 returns-2 : tie.Need-returns-2
@@ -56,7 +56,7 @@ unfolding planIn
 returns-2 c =
     let q = c .before .before .before in
     let t = q .before .before .before in
-    sym (streams-here (asked (t .before .before .before .before .before)) (timing-inside t) _ (streams-are q ∙ c .before .p2 .given .1))
+    sym (streams-here (t .before .before .before .before .before .args .edition) (asked (t .before .before .before .before .before)) (timing-inside t) _ (streams-are q ∙ c .before .p2 .given .1))
 
 returns-3 : tie.Need-returns-3
 unfolding planIn
@@ -70,11 +70,10 @@ returns-3 c =
     let n = min (s .before .args .n) streams in
     c .gaps-outside .ensures
     ∙ rw (s .smaller .ensures, d .smaller2 .ensures) (ap (λ k. lowest (layout.streamAt k) (map gapField (rows (min (s .before .args .m) sources) (λ k. getD ws (layout.gapAt n k) 0)))) (sym (length-rows n (λ r. streamIn ws (layout.streamAt r)))))
-    ∙ sym (gaps-left (asked (s .before)) (timing-inside t) (streams-are q ∙ u .enum-told2 .given .1))
+    ∙ sym (gaps-left (s .before .args .edition) (asked (s .before)) (timing-inside t) (streams-are q ∙ u .enum-told2 .given .1))
 
 pub outside-spec : {M : Type 1} → statement M
 outside-spec =
     tie.close
-    (tie.spec (λ c κs. search needs) (λ c κs. search needs) (λ c. search needs) returns enum-told (λ c. search needs) (λ c. search needs)
-    (λ c. search needs) streams-outside-requires (λ c. search needs) returns-2 (λ c. search needs) (λ c κs. search needs)
-    (λ c κs. search needs) returns-3)
+    (tie.spec (λ c κs. search needs) (λ c κs. search needs) (λ c. search needs) returns enum-told (λ c. search needs)
+    streams-outside-requires (λ c. search needs) returns-2 (λ c. search needs) (λ c κs. search needs) (λ c κs. search needs) returns-3)

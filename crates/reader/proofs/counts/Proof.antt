@@ -13,10 +13,11 @@ use Rattle.names.specs.Limits.{streams, sources}
 use Rattle.words.specs.Words.{wordsOf}
 use Rattle.judge.specs.declared.Checked.the-variants.{Fine}
 use Rattle.judge.specs.Table.{judge}
+use Rattle.carried.specs.declared.Edition.{Edition}
 use Rattle.carried.specs.Layout as layout
 use Rattle.checks.specs.Checks.{rangeLines}
 use Rattle.checks.proofs.Counts.{fine-range}
-use Rattle.file.specs.File.{countIn, sourcesIn, same, contents, sizeRight, contentsRight, countsOf}
+use Rattle.file.specs.File.{editionIn, countIn, sourcesIn, same, contents, sizeRight, contentsRight, countsOf}
 use Rattle.file.proofs.Reading.{refusedCounts, said-size, said-contents, said-ranges, said-counts}
 use Rattle.reader.proofs.counts.Statement.{statement}
 use Rattle.reader.proofs.counts.Tie as tie
@@ -25,29 +26,32 @@ module _ (bs : List ℕ) where
   too-short : length bs < layout.byteOf 0 → sizeRight bs ≡ false
   too-short h = simp (lt-leb (layout.byteOf 0) (length bs) h)
 
-  too-long : layout.size streams sources < length bs → sizeRight bs ≡ false
-  too-long h = simp (lt-leb (length bs) (layout.size streams sources) h, and-false)
+  too-long : layout.largestFile < length bs → sizeRight bs ≡ false
+  too-long h = simp (lt-leb (length bs) layout.largestFile h, and-false)
 
-  right-size : layout.byteOf 0 ≤ length bs → length bs ≤ layout.size streams sources → sizeRight bs ≡ true
-  right-size h k = simp (le-leb (layout.byteOf 0) (length bs) h, le-leb (length bs) (layout.size streams sources) k)
+  right-size : layout.byteOf 0 ≤ length bs → length bs ≤ layout.largestFile → sizeRight bs ≡ true
+  right-size h k = simp (le-leb (layout.byteOf 0) (length bs) h, le-leb (length bs) layout.largestFile k)
 
-  module _ (n m : ℕ) where
-    wrong-words : same (take layout.contentsLength (wordsOf bs)) (contents n m) ≡ false → contentsRight n m bs ≡ false
+  module _ (x : Edition) (n m : ℕ) where
+    wrong-words : same (take layout.contentsLength (wordsOf bs)) (contents x n m) ≡ false → contentsRight x n m bs ≡ false
     wrong-words e = rw e refl
 
-    wrong-end : (length bs ≡ layout.size n m → ⊥) → contentsRight n m bs ≡ false
-    wrong-end h = simp (ne-eqb (length bs) (layout.size n m) h, and-false)
+    wrong-end : (length bs ≡ layout.size x n m → ⊥) → contentsRight x n m bs ≡ false
+    wrong-end h = simp (ne-eqb (length bs) (layout.size x n m) h, and-false)
 
-    right-contents : same (take layout.contentsLength (wordsOf bs)) (contents n m) ≡ true → length bs ≡ layout.size n m → contentsRight n m bs ≡ true
-    right-contents e h = rw e (eq-eqb (length bs) (layout.size n m) h)
+    right-contents : same (take layout.contentsLength (wordsOf bs)) (contents x n m) ≡ true → length bs ≡ layout.size x n m → contentsRight x n m bs ≡ true
+    right-contents e h = rw e (eq-eqb (length bs) (layout.size x n m) h)
 
 -- the file's length is that of a file
 one : (c : tie.Else2) → sizeRight (now (c .before .before .before .before .args .bytes)) ≡ true
 one c = right-size (now (c .before .before .before .before .args .bytes)) (omega arith) (omega (arith, c .before .size .ensures))
 
--- what the code has once the two counts are read: the bytes, n and m
+-- what the code has once the two counts are read: the bytes, the edition, n and m
 abbrev bs-at : tie.After-word-at2 → List ℕ
-bs-at w = now (w .before .before .before .before .before .before .args .bytes)
+bs-at w = now (w .before .before .before .before .before .before .before .args .bytes)
+
+abbrev x-at : tie.After-word-at2 → Edition
+x-at w = w .before .before .edition-in .result
 
 abbrev n-at : tie.After-word-at2 → ℕ
 n-at w = w .before .word-at .result / (layout.word * layout.streamLength)
@@ -56,21 +60,24 @@ abbrev m-at : tie.After-word-at2 → ℕ
 m-at w = w .word-at2 .result / layout.word
 
 -- they are those that the contents state
+x-is : (w : tie.After-word-at2) → editionIn (wordsOf (bs-at w)) ≡ x-at w
+x-is w = sym (w .before .before .edition-in .ensures)
+
 n-is : (w : tie.After-word-at2) → countIn (wordsOf (bs-at w)) ≡ n-at w
 n-is w = ap (λ x. x / (layout.word * layout.streamLength)) (sym (w .before .word-at .ensures))
 
 m-is : (w : tie.After-word-at2) → sourcesIn (wordsOf (bs-at w)) ≡ m-at w
 m-is w = ap (λ x. x / layout.word) (sym (w .word-at2 .ensures))
 
-contents-refused : (w : tie.After-word-at2) → contentsRight (n-at w) (m-at w) (bs-at w) ≡ false → countsOf (bs-at w) ≡ refusedCounts 2
-contents-refused w = said-contents (bs-at w) (n-at w) (m-at w) (n-is w) (m-is w) (one (w .before .before))
+contents-refused : (w : tie.After-word-at2) → contentsRight (x-at w) (n-at w) (m-at w) (bs-at w) ≡ false → countsOf (bs-at w) ≡ refusedCounts 2
+contents-refused w = said-contents (bs-at w) (x-at w) (n-at w) (m-at w) (x-is w) (n-is w) (m-is w) (one (w .before .before .before))
 
 -- the contents are those of its n and m, and it ends where they say
-two : (c : tie.Else4) → let w = c .before .before .before .before .before .before .before in contentsRight (n-at w) (m-at w) (bs-at w) ≡ true
+two : (c : tie.Else4) → let w = c .before .before .before .before .before .before .before in contentsRight (x-at w) (n-at w) (m-at w) (bs-at w) ≡ true
 two c =
     let k = c .before .before .before in
     let w = k .before .before .before .before in
-    right-contents (bs-at w) (n-at w) (m-at w) (sym (k .contents-in .ensures) ∙ not-false (k .contents-in .result) (c .before .before .if3 .left)) (c .if4 .left ∙ c .before .size2 .ensures)
+    right-contents (bs-at w) (x-at w) (n-at w) (m-at w) (sym (k .contents-in .ensures) ∙ not-false (k .contents-in .result) (c .before .before .if3 .left)) (c .if4 .left ∙ c .before .size2 .ensures)
 
 -- n and m are in their ranges
 three : (t : tie.After-enum-told) → let w = t .before .before .before in judge (rangeLines (n-at w) (m-at w)) ≡ Fine
@@ -93,7 +100,7 @@ returns-3 : tie.Need-returns-3
 returns-3 c =
     let p = c .before .before .before in
     let w = p .before in
-    sym (said-ranges (bs-at w) (n-at w) (m-at w) (n-is w) (m-is w) (one (w .before .before)) _ (sym (p .check-counts .ensures) ∙ c .before .r .given .1))
+    sym (said-ranges (bs-at w) (x-at w) (n-at w) (m-at w) (x-is w) (n-is w) (m-is w) (one (w .before .before .before)) _ (sym (p .check-counts .ensures) ∙ c .before .r .given .1))
 
 enum-told : tie.Need-enum-told
 enum-told c = search needs
@@ -106,7 +113,7 @@ returns-4 c =
     let k = c .before .before in
     let w = k .before .before .before .before in
     let differ = sym (k .contents-in .ensures) ∙ not-true (k .contents-in .result) (c .before .if3 .taken) in
-    c .refused-counts3 .ensures ∙ sym (contents-refused w (wrong-words (bs-at w) (n-at w) (m-at w) differ))
+    c .refused-counts3 .ensures ∙ sym (contents-refused w (wrong-words (bs-at w) (x-at w) (n-at w) (m-at w) differ))
 
 cast-size-3 : tie.Need-cast-size-3
 cast-size-3 c = omega (arith, few (c .before .before) .1)
@@ -118,18 +125,19 @@ returns-5 : tie.Need-returns-5
 returns-5 c =
     let w = c .before .before .before .before .before .before .before .before in
     c .refused-counts4 .ensures
-    ∙ sym (contents-refused w (wrong-end (bs-at w) (n-at w) (m-at w) (λ e. c .before .if4 .taken (e ∙ sym (c .before .before .size2 .ensures)))))
+    ∙ sym (contents-refused w (wrong-end (bs-at w) (x-at w) (n-at w) (m-at w) (λ e. c .before .if4 .taken (e ∙ sym (c .before .before .size2 .ensures)))))
 
 returns-6 : tie.Need-returns-6
 returns-6 c =
     let t = c .before .before .before .before in
     let w = t .before .before .before in
-    sym (said-counts (bs-at w) (n-at w) (m-at w) (n-is w) (m-is w) (one (w .before .before)) (two c) (three t))
+    sym (said-counts (bs-at w) (x-at w) (n-at w) (m-at w) (x-is w) (n-is w) (m-is w) (one (w .before .before .before)) (two c) (three t))
 
 pub counts-spec : {M : Type 1} → statement M
 counts-spec =
     tie.close
     (tie.spec (λ c. search needs) (λ c κs. search needs) returns (λ c. search needs) (λ c. search needs) (λ c κs. search needs)
-    (λ c κs. search needs) returns-2 (λ c κs. search needs) (λ c. search needs) (λ c. search needs) (λ c. search needs)
-    (λ c κs. search needs) (λ c. search needs) (λ c κs. search needs) (λ c. search needs) returns-3 enum-told contents-in-requires
-    (λ c κs. search needs) returns-4 cast-size-3 cast-size-4 (λ c κs. search needs) (λ c κs. search needs) returns-5 returns-6)
+    (λ c κs. search needs) returns-2 (λ c κs. search needs) (λ c κs. search needs) (λ c. search needs) (λ c. search needs)
+    (λ c. search needs) (λ c κs. search needs) (λ c. search needs) (λ c κs. search needs) (λ c. search needs) returns-3 enum-told
+    contents-in-requires (λ c κs. search needs) returns-4 cast-size-3 cast-size-4 (λ c κs. search needs) (λ c κs. search needs) returns-5
+    returns-6)

@@ -9,6 +9,7 @@ use denote.Ref.{now}
 use Rattle.names.specs.Limits.{streams, sources}
 use Rattle.judge.specs.declared.Checked.the-variants.{Fine}
 use Rattle.judge.specs.Table.{judge}
+use Rattle.carried.specs.declared.Edition.{Edition}
 use Rattle.carried.specs.Carried.{planIn, sheetOf}
 use Rattle.checks.specs.Checks.{lines}
 use Rattle.file.specs.declared.Counts.the-variants.{Of}
@@ -18,17 +19,20 @@ use Rattle.reader.proofs.read.Statement.{statement}
 use Rattle.reader.proofs.read.Tie as tie
 
 -- what the contents say
-abbrev bs-at : tie.After-n → List ℕ
+abbrev bs-at : tie.After-edition → List ℕ
 bs-at w = now (w .before .before .before .before .before .args .bytes)
 
-abbrev n-at : tie.After-n → ℕ
-n-at w = w .n .given .0 .0
+abbrev x-at : tie.After-edition → Edition
+x-at w = w .edition .given .0 .0
 
-abbrev m-at : tie.After-n → ℕ
-m-at w = w .n .given .0 .1 .0
+abbrev n-at : tie.After-edition → ℕ
+n-at w = w .edition .given .0 .1 .0
 
-said : (w : tie.After-n) → countsOf (bs-at w) ≡ Of (n-at w) (m-at w)
-said w = sym (w .before .before .carry .ensures .0) ∙ w .n .given .1
+abbrev m-at : tie.After-edition → ℕ
+m-at w = w .edition .given .0 .1 .1 .0
+
+said : (w : tie.After-edition) → countsOf (bs-at w) ≡ Of (x-at w) (n-at w) (m-at w)
+said w = sym (w .before .before .carry .ensures .0) ∙ w .edition .given .1
 
 answered : (c : tie.After-check-words) → let w = c .before .before .before in
     readOf (bs-at w) ≡ readAs (c .check-words .result) (planIn (n-at w) (m-at w) (w .before .before .carry .last .1 .0))
@@ -36,8 +40,8 @@ answered c =
     let w = c .before .before .before in
     let n = n-at w in
     let m = m-at w in
-    let plan = counts-plan (bs-at w) n m (said w) (w .before .before .carry .ensures .1) in
-    counts-are (bs-at w) n m (said w) ∙ ap (λ p. readAs (judge (lines n m p)) p) (sym plan) ∙ ap (λ a. readAs a (planIn n m (w .before .before .carry .last .1 .0))) (sym (c .check-words .ensures))
+    let plan = counts-plan (bs-at w) (x-at w) n m (said w) (w .before .before .carry .ensures .1) in
+    counts-are (bs-at w) (x-at w) n m (said w) ∙ ap (λ p. readAs (judge (lines (x-at w) n m p)) p) (sym plan) ∙ ap (λ a. readAs a (planIn n m (w .before .before .carry .last .1 .0))) (sym (c .check-words .ensures))
 
 enum-told : tie.Need-enum-told
 enum-told c = search needs
@@ -54,7 +58,7 @@ returns-2 c =
     let k = told .before .before in
     let w = k .before .before .before in
     let ws = w .before .before .carry .last .1 .0 in
-    let (some, few, quiet) = counts-right (bs-at w) (n-at w) (m-at w) (said w) in
+    let (some, few, quiet) = counts-right (bs-at w) (x-at w) (n-at w) (m-at w) (said w) in
     let n : min (n-at w) streams ≡ n-at w = omega (arith, few) in
     let m : min (m-at w) sources ≡ m-at w = omega (arith, quiet) in
     ap (λ s. record { answer = Fine; sheet = s }) (c .sheet-in .ensures ∙ ap₂ (λ i j. sheetOf (planIn i j ws)) n m)

@@ -5,6 +5,7 @@ use Prim.Native.Nat.{ℕ}
 use denote.Ref.{now}
 use lib.ListN.{replicate}
 use Rattle.names.specs.declared.Refusal.{Refusal}
+use Rattle.carried.specs.declared.Edition.{Edition}
 use Rattle.carried.specs.Layout as layout
 use Rattle.carried.specs.Carried.{planIn}
 use Rattle.file.specs.declared.Counts.the-variants.{Of, Refused as Counts·Refused}
@@ -23,11 +24,12 @@ module _ (bytes buf : List ℕ) where
 
   not-read : (r : Refusal) → countsOf bytes ≡ Counts·Refused r → rewriteOf bytes buf ≡ (Written·Refused r, buf)
   unfolding rewriteOf writeOf
-  not-read r e = not-counted (λ c s. rewriteAs c s buf) no (λ n m p. writeWith n m p buf) (λ s. refl) (λ r s. refl) (λ n m p. write-refused n m p buf) bytes r e
+  not-read r e = not-counted (λ c s. rewriteAs c s buf) no (λ x n m p. writeWith x n m p buf) (λ s. refl) (λ r s. refl) (λ x n m p. write-refused x n m p buf) bytes r e
 
-  read : (n m : ℕ) → countsOf bytes ≡ Of n m → {ws : List ℕ} → ws ≡ carriedOf bytes (replicate layout.largest 0) → rewriteOf bytes buf ≡ writeWith n m (planIn n m ws) buf
+  read : (x : Edition) (n m : ℕ) → countsOf bytes ≡ Of x n m → {ws : List ℕ} → ws ≡ carriedOf bytes (replicate layout.largest 0)
+      → rewriteOf bytes buf ≡ writeWith x n m (planIn n m ws) buf
   unfolding rewriteOf writeOf
-  read n m e d = by-words (λ c s. rewriteAs c s buf) no (λ n m p. writeWith n m p buf) (λ s. refl) (λ r s. refl) (λ n m p. write-refused n m p buf) bytes n m e d
+  read x n m e d = by-words (λ c s. rewriteAs c s buf) no (λ x n m p. writeWith x n m p buf) (λ s. refl) (λ r s. refl) (λ x n m p. write-refused x n m p buf) bytes x n m e d
 
 returns : tie.Need-returns
 returns c =
@@ -42,7 +44,7 @@ returns-2 c =
     let n = w .before .before .before .before in
     let k = n .before .before in
     let a = k .before .before .before .before .args in
-    let e = sym (read (now (a .file)) (now (a .out)) _ _ (sym (k .carry .ensures .0) ∙ n .n .given .1) (k .carry .ensures .1)) in
+    let e = sym (read (now (a .file)) (now (a .out)) _ _ _ (sym (k .carry .ensures .0) ∙ n .edition .given .1) (k .carry .ensures .1)) in
     (w .write-words .ensures .0 ∙ ap (λ p. p .0) e, w .write-words .ensures .1 ∙ ap (λ p. p .1) e)
 
 pub rewrite-spec : {M : Type 1} → statement M

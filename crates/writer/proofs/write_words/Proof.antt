@@ -6,6 +6,7 @@ use borrow.Author.Needs.{needs}
 use denote.Ref.{now}
 use Rattle.names.specs.Limits as limit
 use Rattle.plan.specs.Plan.{Plan}
+use Rattle.carried.specs.declared.Edition.{Edition}
 use Rattle.carried.specs.Carried.{planIn}
 use Rattle.judge.specs.declared.Checked.the-variants.{Fine}
 use Rattle.judge.specs.Table.{judge}
@@ -21,36 +22,36 @@ use Rattle.writer.proofs.write_words.Tie as tie
 abbrev asked : tie.Start → Plan
 asked b = planIn (b .args .n) (b .args .m) (now (b .args .words))
 
-fine : (c : tie.After-enum-told) → let b = c .before .before .before .before in judge (lines (b .args .n) (b .args .m) (asked b)) ≡ Fine
+fine : (c : tie.After-enum-told) → let b = c .before .before .before .before in judge (lines (b .args .edition) (b .args .n) (b .args .m) (asked b)) ≡ Fine
 fine c = sym (c .before .before .check-words .ensures) ∙ c .enum-told .given .1
 
 -- n is at most 64 and m at most 8
-few : (n m : ℕ) (p : Plan) → judge (lines n m p) ≡ Fine → (n ≤ limit.streams) × (m ≤ limit.sources)
-few n m p e =
-    let r = fine-if-right n m p .0 e in
+few : (x : Edition) (n m : ℕ) (p : Plan) → judge (lines x n m p) ≡ Fine → (n ≤ limit.streams) × (m ≤ limit.sources)
+few x n m p e =
+    let (is, r) = fine-if-right x n m p .0 e in
     (omega (arith, r .count, r .within .count), omega (arith, r .sources, r .within .sources))
 
 returns : tie.Need-returns
 returns c =
     let k = c .before .before .before in
     let b = k .before .before in
-    both (write-refused (b .args .n) (b .args .m) (asked b) (now (b .args .buf)) _ (sym (k .check-words .ensures) ∙ c .before .r .given .1))
+    both (write-refused (b .args .edition) (b .args .n) (b .args .m) (asked b) (now (b .args .buf)) _ (sym (k .check-words .ensures) ∙ c .before .r .given .1))
 
 enum-told : tie.Need-enum-told
 enum-told c = search needs
 
 cast-size : tie.Need-cast-size
-cast-size c = let b = c .before .before .before .before in omega (arith, few (b .args .n) (b .args .m) (asked b) (fine c))
+cast-size c = let b = c .before .before .before .before in omega (arith, few (b .args .edition) (b .args .n) (b .args .m) (asked b) (fine c))
 
 cast-size-2 : tie.Need-cast-size-2
-cast-size-2 c = let b = c .before .before .before .before in omega (arith, few (b .args .n) (b .args .m) (asked b) (fine c))
+cast-size-2 c = let b = c .before .before .before .before in omega (arith, few (b .args .edition) (b .args .n) (b .args .m) (asked b) (fine c))
 
 returns-2 : tie.Need-returns-2
 returns-2 c =
     let z = c .before in
     let f = z .before in
     let b = f .before .before .before .before in
-    both (write-no-room (b .args .n) (b .args .m) (asked b) (now (b .args .buf)) (fine f) (omega (arith, c .if1 .taken, z .size .ensures)))
+    both (write-no-room (b .args .edition) (b .args .n) (b .args .m) (asked b) (now (b .args .buf)) (fine f) (omega (arith, c .if1 .taken, z .size .ensures)))
 
 put-file-requires : tie.Need-put-file-requires
 put-file-requires c κs =
@@ -58,8 +59,8 @@ put-file-requires c κs =
     let z = i .before in
     let f = z .before in
     let b = f .before .before .before .before in
-    let (n, m) = few (b .args .n) (b .args .m) (asked b) (fine f) in
-    (search needs, (n, (m, omega (arith, i .if1 .left, z .size .ensures))))
+    let (n, m) = few (b .args .edition) (b .args .n) (b .args .m) (asked b) (fine f) in
+    (fine-if-right (b .args .edition) (b .args .n) (b .args .m) (asked b) .0 (fine f) .0, (search needs, (n, (m, omega (arith, i .if1 .left, z .size .ensures)))))
 
 returns-3 : tie.Need-returns-3
 returns-3 c =
@@ -68,7 +69,7 @@ returns-3 c =
     let z = i .before in
     let f = z .before in
     let b = f .before .before .before .before in
-    let (x, y) = both (write-fine (b .args .n) (b .args .m) (asked b) (now (b .args .buf)) (fine f) (omega (arith, i .if1 .left, z .size .ensures))) in
+    let (x, y) = both (write-fine (b .args .edition) (b .args .n) (b .args .m) (asked b) (now (b .args .buf)) (fine f) (omega (arith, i .if1 .left, z .size .ensures))) in
     (ap Bytes (z .size .ensures) ∙ x, k .put-file .ensures ∙ y)
 
 pub write-words-spec : {M : Type 1} → statement M

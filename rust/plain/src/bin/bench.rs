@@ -5,14 +5,17 @@
 //! tournament every step is a call of its own, in which both sides check the whole state again.
 
 use livnakesh::{Label, Outcome, Phase, Priority, Row, Stream};
-use plain::{self, Plan, Timing, Tournament};
+use plain::{self, Edition, Plan, Timing, Tournament};
 use std::hint::black_box;
 use std::time::{Duration, Instant};
 
-const BASE: Timing = [4, 1, 1, 2, 1, 1, 2, 1, 4];
+const BASE: Timing = [4, 1, 1, 2, 1, 1, 2, 1, 4, 0];
 
 /// As `BASE` with room for 64 priorities: V is 8 and U is 14.
-const BASE_6: Timing = [4, 1, 1, 2, 1, 1, 2, 1, 6];
+const BASE_6: Timing = [4, 1, 1, 2, 1, 1, 2, 1, 6, 0];
+
+/// As `BASE_6` with a master node.
+const SLOTS_6: Timing = [4, 1, 1, 2, 1, 1, 2, 1, 6, 30];
 
 const ROUNDS: u32 = 60;
 
@@ -25,17 +28,18 @@ fn stream(row: u32, period: u32, jitter: u32, payload: u32) -> Stream {
 }
 
 /// 64 streams whose periods lie apart by up to a factor of 16, with a load of so many in 10,000.
-fn full(load: u64, gaps: Vec<u32>) -> Plan {
+fn full(timing: Timing, load: u64, gaps: Vec<u32>) -> Plan {
+    let cost = |payload: u32| plain::slot(&timing).unwrap_or(plain::setup(&timing) + u64::from(payload));
     let weight = |row: u32| u64::from(16 - row / 4);
     let all: u64 = (0..64).map(weight).sum();
     // Rows stand in no order of priority, as on the desk.
     let streams = (0..64).map(|k| {
         let row = k * 37 % 64;
         let payload = 5 + row % 7;
-        let period = u64::from(22 + payload) * 10_000 * all / (load * weight(row));
+        let period = cost(payload) * 10_000 * all / (load * weight(row));
         stream(row, period as u32, 3 * row, payload)
     });
-    Plan { timing: BASE_6, streams: streams.collect(), gaps }
+    Plan { timing, streams: streams.collect(), gaps }
 }
 
 fn single(period: u32, jitter: u32) -> Plan {
@@ -59,7 +63,7 @@ fn longest_busy_period(plan: &Plan) -> Option<u64> {
 }
 
 fn file(plan: &Plan) -> Vec<u8> {
-    let mut file = vec![0; plain::size(plan.streams.len(), plan.gaps.len())];
+    let mut file = vec![0; Edition::of(&plan.timing).size(plan.streams.len(), plan.gaps.len())];
     let wrote = plain::write(plan, &mut file);
     assert_eq!(wrote, Ok(file.len()), "a plan of the benchmark is right");
     file
@@ -178,12 +182,15 @@ fn main() {
     println!("| | proved, ns a call | plain, ns a call | proved / plain |");
     println!("|---|---|---|---|");
     answers_row("one stream", ROUNDS, &single(100, 0));
-    answers_row("64 streams, 50 % load", ROUNDS, &full(5_000, vec![]));
-    answers_row("64 streams, 90 % load", ROUNDS, &full(9_000, vec![]));
-    answers_row("64 streams, 99 % load", ROUNDS, &full(9_900, vec![]));
+    answers_row("64 streams, 50 % load", ROUNDS, &full(BASE_6, 5_000, vec![]));
+    answers_row("64 streams, 90 % load", ROUNDS, &full(BASE_6, 9_000, vec![]));
+    answers_row("64 streams, 99 % load", ROUNDS, &full(BASE_6, 9_900, vec![]));
     let gaps = vec![20_011, 20_023, 20_029, 20_047, 20_051, 20_063, 20_071, 20_089];
-    let noisy = full(9_000, gaps);
+    let noisy = full(BASE_6, 9_000, gaps);
     answers_row("64 streams, 90 % load, 8 noise sources", ROUNDS, &noisy);
+    let slots = full(SLOTS_6, 9_000, vec![]);
+    assert!(plain::Analysis::new(&slots).levels().all(|level| level.bound().is_some()));
+    answers_row("64 streams in slots, 90 % load", ROUNDS, &slots);
     let long = single(24, 43_480);
     assert_eq!(longest_busy_period(&long), Some(1_000_040));
     answers_row("one stream, L 1,000,040, 43,480 instances", ROUNDS, &long);

@@ -2,11 +2,21 @@
 #![allow(dead_code)]
 
 use livnakesh::{Label, Priority, Refused, Stream};
-use plain::{self, Analysis, Level, Plan};
+use plain::{self, Analysis, Edition, Level, Plan};
+use std::cmp::Ordering;
 use std::collections::BTreeMap;
 use std::io::Write;
 
-pub const BASE: plain::Timing = [4, 1, 1, 2, 1, 1, 2, 1, 4];
+pub const BASE: plain::Timing = [4, 1, 1, 2, 1, 1, 2, 1, 4, 0];
+
+/// H's place in the timing.
+pub const H: usize = 4;
+
+/// The longest P.
+pub const LONGEST_SLOT: u32 = 5_000_000;
+
+/// The longest file, that of 64 streams, 8 gaps and a master node.
+pub const LARGEST: usize = 1_652;
 
 /// The terms that one plan may sum up; longer chains have a test of their own.
 pub const MOST_WORK: u64 = 60_000;
@@ -15,7 +25,7 @@ pub fn stream(label: u32, priority: u32, period: u32, jitter: u32, payload: u32,
     Stream { label: Label(label), priority: Priority(priority), period, jitter, payload, deadline }
 }
 
-/// A plan's values as plain words, in the file's order.
+/// A plan's values as plain words, P among them whether there is a master node or not.
 pub fn values_of(plan: &Plan) -> Vec<u32> {
     let mut values = plan.timing.to_vec();
     for s in &plan.streams {
@@ -25,11 +35,38 @@ pub fn values_of(plan: &Plan) -> Vec<u32> {
     values
 }
 
-/// The file of a plan, and whether its values are right or not.
+/// The file of a plan, whether its values are right or not.
 pub fn file_of(plan: &Plan) -> Vec<u8> {
+    match plan.timing[plain::P] {
+        0 => edition_1_of(plan),
+        _ => edition_2_of(plan),
+    }
+}
+
+fn edition_1_of(plan: &Plan) -> Vec<u8> {
     let (n, m) = (plan.streams.len() as u32, plan.gaps.len() as u32);
-    let contents = [1, 3, 1, 44, 36, 2, 80, 24 * n, 3, 80 + 24 * n, 4 * m];
+    let mut words = vec![1, 3, 1, 44, 36, 2, 80, 24 * n, 3, 80 + 24 * n, 4 * m];
+    words.extend(values_of(plan));
+    words.remove(11 + plain::P);
+    words.into_iter().flat_map(u32::to_le_bytes).collect()
+}
+
+/// The same with P in it, also where that is 0.
+pub fn edition_2_of(plan: &Plan) -> Vec<u8> {
+    let (n, m) = (plan.streams.len() as u32, plan.gaps.len() as u32);
+    let contents = [2, 3, 1, 44, 40, 2, 84, 24 * n, 3, 84 + 24 * n, 4 * m];
     contents.into_iter().chain(values_of(plan)).flat_map(u32::to_le_bytes).collect()
+}
+
+/// C'' with a master node, of each row: C' + H. Of right constants alone, as others may be too great for the sum.
+pub fn in_slots(plan: &Plan) -> Vec<u32> {
+    let beside = plain::overhead(&plan.timing) as u32 + plan.timing[H];
+    plan.streams.iter().map(|s| beside + s.payload).collect()
+}
+
+/// The shortest slot that all messages fit in.
+pub fn shortest_slot(plan: &Plan) -> u32 {
+    in_slots(plan).into_iter().max().expect("a plan has streams")
 }
 
 pub fn hex(bytes: &[u8]) -> String {
@@ -105,11 +142,29 @@ fn bits_for(rng: &mut Rng, streams: usize) -> u32 {
     rng.within(u64::from(least), 32) as u32
 }
 
+/// Without a master node.
 fn timing(rng: &mut Rng, streams: usize) -> plain::Timing {
     let most = rng.pick(&[0, 3, 20, 20, 1_000, 65_535]);
     let mut timing = std::array::from_fn(|_| rng.within(0, most) as u32);
     timing[plain::NB] = bits_for(rng, streams);
+    timing[plain::P] = 0;
     timing
+}
+
+/// A slot that all messages fit in, often just so.
+fn slot(rng: &mut Rng, shortest: u64) -> u32 {
+    let more = match rng.below(6) {
+        0 | 1 => 0,
+        2 => 1,
+        3 => rng.below(20),
+        4 => rng.within(0, shortest),
+        _ => u64::from(rng.wide()),
+    };
+    (shortest + more).min(u64::from(LONGEST_SLOT)) as u32
+}
+
+fn edition(rng: &mut Rng) -> Edition {
+    rng.pick(&[Edition::One, Edition::Two])
 }
 
 fn jitter(rng: &mut Rng, habit: u64, period: u64) -> u32 {
@@ -145,9 +200,23 @@ pub fn plan(rng: &mut Rng) -> Plan {
 }
 
 pub fn plan_of(rng: &mut Rng, n: usize, m: usize) -> Plan {
-    let timing = timing(rng, n);
-    let setup = plain::before(&timing) + plain::overhead(&timing);
+    let edition = edition(rng);
+    plan_in(rng, edition, n, m)
+}
+
+pub fn plan_in(rng: &mut Rng, edition: Edition, n: usize, m: usize) -> Plan {
+    let mut timing = timing(rng, n);
     let most_payload = rng.pick(&[1, 10, 100, 1_000, 65_535]);
+    let payloads: Vec<u64> = (0..n).map(|_| rng.within(1, most_payload)).collect();
+    let overhead = plain::overhead(&timing);
+    if edition == Edition::Two {
+        let longest = payloads.iter().max().expect("a plan has streams");
+        timing[plain::P] = slot(rng, longest + overhead + u64::from(timing[H]));
+    }
+    let cost = |payload: u64| match timing[plain::P] {
+        0 => plain::before(&timing) + overhead + payload,
+        slot => u64::from(slot),
+    };
     let load = rng.pick(&[50, 300, 600, 800, 900, 950, 980, 990, 1_000, 1_010, 1_100, 1_500, 4_000]);
     let skew = rng.within(1, 10);
     let weights: Vec<u64> = (0..n).map(|_| rng.within(1, 1 << skew)).collect();
@@ -157,13 +226,12 @@ pub fn plan_of(rng: &mut Rng, n: usize, m: usize) -> Plan {
     let priorities = rng.distinct(n, u32::MAX >> (32 - timing[plain::NB]));
     let mut streams: Vec<Stream> = Vec::new();
     for k in 0..n {
-        let payload = rng.within(1, most_payload);
-        let period = (setup + payload) * 1_000 * all / (load * weights[k]) + rng.below(3);
+        let period = cost(payloads[k]) * 1_000 * all / (load * weights[k]) + rng.below(3);
         let period = period.clamp(1, u64::from(u32::MAX));
         let jitter = jitter(rng, habit, period);
-        streams.push(stream(labels[k], priorities[k], period as u32, jitter, payload as u32, deadline(rng, period)));
+        streams.push(stream(labels[k], priorities[k], period as u32, jitter, payloads[k] as u32, deadline(rng, period)));
     }
-    let hit = setup + most_payload;
+    let hit = cost(most_payload);
     let share = rng.pick(&[5, 20, 50, 200]);
     let gap = |rng: &mut Rng| match rng.below(8) {
         0 => rng.wide().max(1),
@@ -181,6 +249,7 @@ pub fn edge_plan(rng: &mut Rng) -> Plan {
     let most = u32::MAX >> (32 - bits);
     let mut timing: plain::Timing = std::array::from_fn(|_| rng.pick(&[0, 0, 1, 65_534, 65_535]));
     timing[plain::NB] = bits;
+    timing[plain::P] = 0;
     let priorities = rng.distinct(n, most);
     let labels = rng.distinct(n, u32::MAX);
     let wide = [1, 2, u32::MAX - 1, u32::MAX];
@@ -192,7 +261,34 @@ pub fn edge_plan(rng: &mut Rng) -> Plan {
     });
     let streams = streams.collect();
     let gaps = (0..m).map(|_| rng.pick(&[1, u32::MAX, u32::MAX, u32::MAX - 1])).collect();
-    Plan { timing, streams, gaps }
+    let mut plan = Plan { timing, streams, gaps };
+    if edition(rng) == Edition::Two {
+        let shortest = shortest_slot(&plan);
+        plan.timing[plain::P] = rng.pick(&[shortest, shortest + 1, LONGEST_SLOT - 1, LONGEST_SLOT]);
+    }
+    plan
+}
+
+/// A P next to C'' of some row, at a limit, or any word; 0 takes the master node away. Of right constants alone.
+pub fn other_slot(rng: &mut Rng, plan: &Plan) -> u32 {
+    let message = rng.pick(&in_slots(plan));
+    match rng.below(4) {
+        0 => rng.pick(&[0, 1, LONGEST_SLOT - 1, LONGEST_SLOT, LONGEST_SLOT + 1, u32::MAX]),
+        1 => rng.wide(),
+        _ => rng.pick(&[message - 1, message, message + 1]),
+    }
+}
+
+/// How long a slot is beside the longest message, or that there is none.
+pub fn tally_slot(tally: &mut Tally, plan: &Plan) {
+    tally.count(match plan.timing[plain::P] {
+        0 => "slot: none",
+        slot => match slot.cmp(&shortest_slot(plan)) {
+            Ordering::Less => "slot: too short",
+            Ordering::Equal => "slot: just long enough",
+            Ordering::Greater => "slot: longer",
+        },
+    });
 }
 
 /// The terms summed up in a plan's chains, or nothing if they are more than `most`; so that no case takes for ever.
@@ -238,18 +334,18 @@ fn work_at(level: &Level, terms: u64, most: u64) -> Option<u64> {
     Some(spent)
 }
 
-pub fn drawn(rng: &mut Rng, draw: fn(&mut Rng) -> Plan, tally: &mut Tally) -> Plan {
+pub fn drawn(rng: &mut Rng, draw: fn(&mut Rng) -> Plan, counts: &mut impl Counts) -> Plan {
     loop {
         let plan = draw(rng);
         if work(&plan, MOST_WORK).is_some() {
             return plan;
         }
-        tally.count("(chains too long, drawn again)");
+        counts.of(&plan).count("(chains too long, drawn again)");
     }
 }
 
 /// A field of one row copied to a later one.
-pub fn repeat(rng: &mut Rng, plan: &mut Plan, tally: &mut Tally) {
+pub fn repeat(rng: &mut Rng, plan: &mut Plan, counts: &mut impl Counts) {
     let n = plan.streams.len() as u64;
     let (from, to) = (rng.below(n) as usize, rng.below(n) as usize);
     match rng.below(3) {
@@ -257,7 +353,7 @@ pub fn repeat(rng: &mut Rng, plan: &mut Plan, tally: &mut Tally) {
         1 => plan.streams[to].label = plan.streams[from].label,
         _ => plan.streams[to] = plan.streams[from],
     }
-    tally.count("damage: repeated field");
+    counts.of(plan).count("damage: repeated field");
 }
 
 /// How often each kind of case was seen.
@@ -289,6 +385,45 @@ impl Tally {
 pub fn need_all(tally: &Tally, kinds: &[&str], least: u64) {
     for kind in kinds {
         tally.need(kind, least);
+    }
+}
+
+/// Where the cases of a plan are counted.
+pub trait Counts {
+    fn of(&mut self, plan: &Plan) -> &mut Tally;
+}
+
+impl Counts for Tally {
+    fn of(&mut self, _: &Plan) -> &mut Tally {
+        self
+    }
+}
+
+/// A tally for plans without a master node and one for plans in slots, so that neither stands in for the other.
+#[derive(Default)]
+pub struct ByEdition {
+    pub without: Tally,
+    pub slots: Tally,
+}
+
+impl Counts for ByEdition {
+    fn of(&mut self, plan: &Plan) -> &mut Tally {
+        match Edition::of(&plan.timing) {
+            Edition::One => &mut self.without,
+            Edition::Two => &mut self.slots,
+        }
+    }
+}
+
+impl ByEdition {
+    pub fn need_all(&self, kinds: &[&str], least: u64) {
+        need_all(&self.without, kinds, least);
+        need_all(&self.slots, kinds, least);
+    }
+
+    pub fn print(&self, title: &str) {
+        self.without.print(&format!("{title}, no master node"));
+        self.slots.print(&format!("{title}, in slots"));
     }
 }
 
