@@ -18,12 +18,13 @@ use Rattle.laws.proofs.Rows.{is-false, some-passes, some-at, finds-lowest}
 use Rattle.plan.specs.declared.Timing.{Timing}
 use Rattle.plan.specs.declared.Stream.{Stream}
 use Rattle.plan.specs.Plan.{Plan, blank, at}
+use Rattle.plan.specs.Rules.{hasMaster}
 use Rattle.carried.specs.Layout.{timingLength}
 use Rattle.carried.specs.Carried.{timingWords}
 use Rattle.promise.specs.Lighter.{SameKit, NoGreater, Eased, Lighter, NotRefused}
 use Rattle.compare.specs.declared.Change.the-variants.{Nothing}
 use Rattle.compare.specs.declared.Reason.the-variants.{MasterNode}
-use Rattle.compare.specs.Changes.{_or_, firstChange, hasMaster, ofKit, grown, ofConstants, rowOf, eased, inRow, ofStream, numberIn, numberUnder, overtakes, urgency, ofGap, ofStreams, ofOrder, ofNoise, changes}
+use Rattle.compare.specs.Changes.{_or_, firstChange, ofKit, grown, ofConstants, rowOf, eased, inRow, ofStream, numberIn, numberUnder, overtakes, urgency, ofGap, ofStreams, ofOrder, ofNoise, changes}
 use Rattle.compare.specs.Claims.{LighterExactly}
 use Rattle.compare.proofs.First.{of-not-nothing, or-nothing, must-nothing, must-true, passes, passes-then, no-reason, pass, nothing-if-none}
 use Rattle.compare.proofs.Gaps.{by-order, counts-of-partners, partners-of-counts}

@@ -16,6 +16,7 @@ use Rattle.plan.specs.declared.Timing.{Timing}
 use Rattle.plan.specs.declared.Stream.{Stream}
 use Rattle.plan.specs.declared.Sheet.{Sheet}
 use Rattle.plan.specs.Plan.{Plan, at, planOf}
+use Rattle.plan.specs.Rules.{hasMaster}
 use Rattle.carried.specs.Layout as layout
 use Rattle.carried.specs.Carried.{timingWords}
 use Rattle.checks.specs.Checks.{checkedOf}
@@ -42,9 +43,6 @@ firstChange f zero = Nothing
 firstChange f (suc n) = firstChange f n or f n
 
 -- ---- the master node: both plans have one, or neither has
-
-abbrev pub hasMaster : Timing → Bool
-hasMaster t = leb 1 (t .p)
 
 abbrev pub ofKit : Timing → Timing → Change
 ofKit old new = must (Bool·beq (hasMaster old) (hasMaster new)) MasterNode

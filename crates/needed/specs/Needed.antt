@@ -13,9 +13,10 @@ use Rattle.laws.specs.Rows.{some}
 use Rattle.plan.specs.declared.Timing.{Timing}
 use Rattle.plan.specs.declared.Stream.{Stream}
 use Rattle.plan.specs.Plan.{Plan, at}
+use Rattle.plan.specs.Rules.{hasMaster}
 use Rattle.promise.specs.Lighter.{Namesakes, Lighter, NotRefused, Kept}
 use Rattle.compare.specs.declared.Change.the-variants.{Nothing}
-use Rattle.compare.specs.Changes.{hasMaster, rowOf, overtakes, atMost, changes}
+use Rattle.compare.specs.Changes.{rowOf, overtakes, atMost, changes}
 use Rattle.figures.specs.Plans.{timed, constants, pulsing, stream, plan, base}
 
 -- ---- the conditions

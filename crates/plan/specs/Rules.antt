@@ -83,9 +83,13 @@ rowAnswer p i = answer (terms p i) (i .deadline)
 abbrev pub answers : Plan → List Answer
 answers p = map (rowAnswer p) (p .streams)
 
+-- a kit has a master node exactly if P is at least 1
+abbrev pub hasMaster : Timing → Bool
+hasMaster t = leb 1 (t .p)
+
 -- in slots C'' is at most P, or the stream is refused: this is the test, ..
 abbrev pub exceedsSlot : Timing → Stream → Bool
-exceedsSlot t j = leb 1 (t .p) && ltb (t .p) (C″ t j)
+exceedsSlot t j = hasMaster t && ltb (t .p) (C″ t j)
 
 -- .. and this is what a stream that is not refused has
 abbrev pub FitsSlot : Timing → Stream → Type 0
