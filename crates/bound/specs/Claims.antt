@@ -56,7 +56,7 @@ FirstTermNotBelowZero = (r : Terms) → T (leZ (pos 0) (term r 0))
 abbrev pub TermsAboveZero : Type 0
 TermsAboveZero = (r : Terms) → Sound r → (L q : ℕ) → busy r ≡ At L → q < Q r L → T (leZ (pos (r .last)) (term r q))
 
--- A term may be below zero as a number, though only for a q that does not count. The terms of P1's first stream:
+-- A term may be below zero as a number, though only for a q that does not count. Of a stream that takes 23 ticks in 100:
 abbrev pub sparse : Terms
 sparse =
     record {

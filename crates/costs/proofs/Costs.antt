@@ -1,6 +1,6 @@
 -- Each constant is at most 65,535, and a product of two bounded numbers is bounded. Assumes nothing.
 use mathlib.Core.Path.{_≡_, refl, sym, ap, _∙_}
-use Prim.Native.Nat.{ℕ, _+_, _-_, _*_, _≤_, min}
+use Prim.Native.Nat.{ℕ, _+_, _*_, _≤_, min}
 use native.Mathlib.Nat.{mul-le-mul, lt-of-not-le}
 use native.Mathlib.Decide.{decLe}
 use native.Mathlib.Omega.{arith}
@@ -14,9 +14,9 @@ use Rattle.costs.specs.declared.Overheads.{Overheads}
 pub overhead-within : OverheadWithin
 unfolding overheadsOf
 overhead-within t w =
-    let nb : min (t .nb) bits - 1 ≡ t .nb - 1 = omega (arith, w .nb) in
-    let pulses : (t .h + t .g) * (min (t .nb) bits - 1) ≤ (constant + constant) * (bits - 1) =
-    mul-le-mul {n₁ = t .h + t .g} {m₁ = min (t .nb) bits - 1} {n₂ = constant + constant} {m₂ = bits - 1} (omega (arith, w .h, w .g)) (omega arith) in
+    let nb : min (t .nb) bits ≡ t .nb = omega (arith, w .nb) in
+    let pulses : (t .h + t .g) * min (t .nb) bits ≤ (constant + constant) * bits =
+    mul-le-mul {n₁ = t .h + t .g} {m₁ = min (t .nb) bits} {n₂ = constant + constant} {m₂ = bits} (omega (arith, w .h, w .g)) (omega arith) in
     let (little, early) = leads in
     record {
       lead-is = refl;

@@ -1,6 +1,6 @@
 -- What a message costs the channel beside its payload, of every timing, and how large that is within the limits.
 use mathlib.Core.Path.{_≡_}
-use Prim.Native.Nat.{ℕ, _+_, _-_, _*_, min, _≤_}
+use Prim.Native.Nat.{ℕ, _+_, _*_, min, _≤_}
 use Rattle.names.specs.Limits.{constant, bits}
 use Rattle.plan.specs.declared.Timing.{Timing}
 use Rattle.plan.specs.Rules.{U, lead, late}
@@ -30,9 +30,9 @@ overheadsOf t = record { lead = lead t; u = U (fewBits t); late = late t }
 abbrev pub mostV : ℕ
 mostV = constant + constant + constant + constant
 
--- the most that U can be: G + (H + G) × (NB - 1) + ETG + LAG
+-- the most that U can be: G + (H + G) × NB + ETG + LAG
 abbrev pub mostU : ℕ
-mostU = constant + (constant + constant) * (bits - 1) + constant + constant
+mostU = constant + (constant + constant) * bits + constant + constant
 
 -- ---- What is proved of them; the proof is in proofs/Costs.antt.
 

@@ -3,7 +3,7 @@
 // The one public function answers for every timing, and its contract determines the answer; within the limits these are the letters
 // of the rules. Nothing is assumed. This crate knows of a plan's timing; it must not know of checks or refusals.
 ghost use mathlib.Core.Path.{_≡_};
-ghost use Prim.Native.Nat.{_+_, _-_, _*_, _^_, _≤_, _<_, max, min};
+ghost use Prim.Native.Nat.{_+_, _*_, _^_, _≤_, _<_, max, min};
 ghost use Rattle.names.specs.Limits as limit;
 ghost use Rattle.plan.specs.Rules.{«V», U};
 ghost use Rattle.costs.specs.Costs.{fewBits, overheadsOf};
@@ -24,26 +24,20 @@ fn longer(a: u32, b: u32) -> u64
     if a < b { b as u64 } else { a as u64 }
 }
 
-// NB - 1, of 32 bits at most.
-fn bits_but_one(nb: u32) -> u64
-    ensures { λ r. ⌜ r ≡ min nb limit.bits - 1 ⌝ }
-    ensures { λ r. ⌜ r < limit.bits ⌝ }
+// NB, of 32 bits at most.
+fn few_bits(nb: u32) -> u64
+    ensures { λ r. ⌜ r ≡ min nb limit.bits ⌝ }
+    ensures { λ r. ⌜ r ≤ limit.bits ⌝ }
 {
-    if nb == 0 {
-        return 0;
-    }
-    if BITS < nb {
-        return BITS as u64 - 1;
-    }
-    nb as u64 - 1
+    if BITS < nb { BITS as u64 } else { nb as u64 }
 }
 
-// A pulse and its guard for each priority bit but one.
+// A pulse and its guard for each priority bit.
 fn pulses(h: u32, g: u32, nb: u32) -> u64
-    ensures { λ r. ⌜ r ≡ (h + g) * (min nb limit.bits - 1) ⌝ }
+    ensures { λ r. ⌜ r ≡ (h + g) * min nb limit.bits ⌝ }
     ensures { λ r. ⌜ r ≤ 2 ^ 33 * limit.bits ⌝ }
 {
-    (h as u64 + g as u64) * bits_but_one(nb)
+    (h as u64 + g as u64) * few_bits(nb)
 }
 
 // V = F + E + max(TFCS, SWX) + H.
@@ -53,7 +47,7 @@ fn v_of(t: Timing) -> u64
     t.f as u64 + t.e as u64 + longer(t.tfcs, t.swx) + t.h as u64
 }
 
-// U = G + (H + G) * (NB - 1) + ETG + LAG.
+// U = G + (H + G) * NB + ETG + LAG.
 fn u_of(t: Timing) -> u64
     ensures { λ r. ⌜ r ≡ U (fewBits t) ⌝ }
 {

@@ -1,6 +1,6 @@
--- Document 01, "Plans to run": its figures for P1 to P12, as one table in the document's order, and two plans in slots after
--- them. The claim is that every entry of it holds, `Figures`, proved in proofs/Figures.antt. All rows of a plan have the same columns, so
--- that some of them are not in the document.
+-- Document 01, "Plans to run", with a pulse for each priority bit (document 02, request 02): the figures for P1 to P12, as one table in
+-- the document's order, and two plans in slots after them. The claim is that every entry of it holds, `Figures`, proved in
+-- proofs/Figures.antt. All rows of a plan have the same columns, so that some of them are not in the documents.
 use mathlib.Core.Path.{_≡_}
 use mathlib.Core.Bool.{Bool, true, false}
 use mathlib.Core.List.{List, [], _∷_, _++_}
@@ -28,7 +28,7 @@ use Rattle.tournament_state.specs.declared.Phase.{Phase, the-variants.AtBit, th
 use Rattle.tournament_state.specs.declared.Tournament.{Tournament}
 use Rattle.tournament.specs.Rule.{steps}
 use Rattle.tournament.specs.Answers.{startOf, runOf}
-use Rattle.figures.specs.Plans.{base, P1, P2, P3, P4, P5, P6, P7, P8, P9, P10, P11, P12, slots}
+use Rattle.figures.specs.Plans.{base, P1, P2, alone, P3, P4, P5, P6, P7, P8, P9, P10, P11, P12, slots}
 
 -- ---- an entry: what is run, and its figures
 
@@ -108,49 +108,53 @@ three = true ∷ true ∷ true ∷ []
 abbrev row1 : List Bool
 row1 = false ∷ true ∷ false ∷ []
 
--- the listing that the document prints for P1
+-- the listing of P1
 abbrev listingOfP1 : List ℕ
 listingOfP1 =
     ascii "label priority bound deadline verdict\n"
-    ++ ascii "10.1 1 39 60 met\n"
-    ++ ascii "10.10 2 69 120 met\n"
-    ++ ascii "11.2 3 68 200 met\n"
+    ++ ascii "10.1 1 43 60 met\n"
+    ++ ascii "10.10 2 75 120 met\n"
+    ++ ascii "11.2 3 74 200 met\n"
 
 -- and the one for P1 in slots of 30 ticks
 abbrev listingInSlots : List ℕ
 listingInSlots =
     ascii "label priority bound deadline verdict\n"
-    ++ ascii "10.1 1 45 60 met\n"
-    ++ ascii "10.10 2 87 120 met\n"
-    ++ ascii "11.2 3 102 200 met\n"
+    ++ ascii "10.1 1 47 60 met\n"
+    ++ ascii "10.10 2 89 120 met\n"
+    ++ ascii "11.2 3 104 200 met\n"
 
 abbrev pub table : List Entry
 table =
-    -- base constants: V = 8 and U = 10
-    ofTiming base 8 10
-    -- P1: C'' is 23, 25, 20; the file has 152 bytes; the whole listing
+    -- base constants: V = 8 and U = 12
+    ofTiming base 8 12
+    -- P1: C'' is 25, 27, 22; the file has 152 bytes; the whole listing
     ∷ ofPlan P1 Fine Fine
-    ∷ ofRow P1 0 23 (At 39) 1 (16 gives 39 ∷ []) (met 39)
-    ∷ ofRow P1 1 25 (At 59) 1 (34 gives 69 ∷ []) (met 69)
-    ∷ ofRow P1 2 20 (At 68) 1 (48 gives 68 ∷ []) (met 68)
+    ∷ ofRow P1 0 25 (At 43) 1 (18 gives 43 ∷ []) (met 43)
+    ∷ ofRow P1 1 27 (At 65) 1 (38 gives 75 ∷ []) (met 75)
+    ∷ ofRow P1 2 22 (At 74) 1 (52 gives 74 ∷ []) (met 74)
     ∷ ofListing P1 152 listingOfP1
-    -- P2: bounds 62 (missed), 94, 93
+    -- P2: bounds 68 (missed), 102, 101
     ∷ ofPlan P2 Fine Fine
-    ∷ ofRow P2 0 23 (At 62) 1 (39 gives 62 ∷ []) (missed 62)
-    ∷ ofRow P2 1 25 (At 84) 1 (59 gives 94 ∷ []) (met 94)
-    ∷ ofRow P2 2 20 (At 93) 1 (73 gives 93 ∷ []) (met 93)
-    -- P3: L = 23, bound 23
+    ∷ ofRow P2 0 25 (At 68) 1 (43 gives 68 ∷ []) (missed 68)
+    ∷ ofRow P2 1 27 (At 92) 1 (65 gives 102 ∷ []) (met 102)
+    ∷ ofRow P2 2 22 (At 126) 1 (79 gives 101 ∷ []) (met 101)
+    -- P3: L = 25, bound 25
     ∷ ofPlan P3 Fine Fine
-    ∷ ofRow P3 0 23 (At 23) 1 (0 gives 23 ∷ []) (met 23)
+    ∷ ofRow P3 0 25 (At 25) 1 (0 gives 25 ∷ []) (met 25)
     -- P4: none
     ∷ ofPlan P4 Fine Fine
-    ∷ ofRow P4 0 23 Nothing 0 [] noBound
+    ∷ ofRow P4 0 25 Nothing 0 [] noBound
     -- P5: none
     ∷ ofPlan P5 Fine Fine
-    ∷ ofRow P5 0 23 Nothing 0 [] noBound
-    -- P6: L = 115, Q = 5, bound 53
+    ∷ ofRow P5 0 25 Nothing 0 [] noBound
+    -- P3, P4 and P5 with the T and J that document 01 gave them: C'' is above T now, and there is none
+    ∷ ofRow (alone 23 0) 0 25 Nothing 0 [] noBound
+    ∷ ofRow (alone 22 0) 0 25 Nothing 0 [] noBound
+    ∷ ofRow (alone 23 23) 0 25 Nothing 0 [] noBound
+    -- P6: L = 150, Q = 6, bound 55
     ∷ ofPlan P6 Fine Fine
-    ∷ ofRow P6 0 23 (At 115) 5 (0 gives 53 ∷ 23 gives 46 ∷ 46 gives 39 ∷ 69 gives 32 ∷ 92 gives 25 ∷ []) (met 53)
+    ∷ ofRow P6 0 25 (At 150) 6 (0 gives 55 ∷ 25 gives 50 ∷ 50 gives 45 ∷ 75 gives 40 ∷ 100 gives 35 ∷ 125 gives 30 ∷ []) (met 55)
     -- P7, the last: L = 70, w(0) = 20, w(1) = 60, bound 35, where the first instance alone gives 30
     ∷ ofPlan P7 Fine Fine
     ∷ ofRow P7 0 10 (At 19) 1 (9 gives 19 ∷ []) (met 19)
@@ -167,14 +171,14 @@ table =
     -- P12: row 1 wins; rows 0 and 2 go silent at the second bit from the top
     ∷ ofTournament 4 3 P12 Fine Fine
     ((AtBit 1, three) ∷ (AtBit 2, three) ∷ (AtBit 3, row1) ∷ (AtBit 4, row1) ∷ (Finished (record { 0 = 1 }), row1) ∷ [])
-    -- in slots of 30 ticks: C'' is 16, 18, 13, each message costs 30, B is 29; the file has 156 bytes; the whole listing
+    -- in slots of 30 ticks: C'' is 18, 20, 15, each message costs 30, B is 29; the file has 156 bytes; the whole listing
     ∷ ofPlan (slots 30) Fine Fine
-    ∷ ofRow (slots 30) 0 16 (At 59) 1 (29 gives 45 ∷ []) (met 45)
-    ∷ ofRow (slots 30) 1 18 (At 89) 1 (59 gives 87 ∷ []) (met 87)
-    ∷ ofRow (slots 30) 2 13 (At 179) 1 (89 gives 102 ∷ []) (met 102)
+    ∷ ofRow (slots 30) 0 18 (At 59) 1 (29 gives 47 ∷ []) (met 47)
+    ∷ ofRow (slots 30) 1 20 (At 89) 1 (59 gives 89 ∷ []) (met 89)
+    ∷ ofRow (slots 30) 2 15 (At 179) 1 (89 gives 104 ∷ []) (met 104)
     ∷ ofListing (slots 30) 156 listingInSlots
-    -- in slots of 17: refused 10 at row 1, whose C'' is 18
-    ∷ ofPlan (slots 17) (refusal 10 1) (refusal 10 1)
+    -- in slots of 19: refused 10 at row 1, whose C'' is 20
+    ∷ ofPlan (slots 19) (refusal 10 1) (refusal 10 1)
     ∷ []
 
 -- ---- the claim

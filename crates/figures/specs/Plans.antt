@@ -1,5 +1,5 @@
--- Document 01, "Plans to run": the base constants and P1 to P12, and two plans in slots, for which document 02 gives none. What the
--- documents leave open is chosen here, and the comment says so.
+-- Document 01, "Plans to run": the base constants and P1 to P12, of which document 02 has P3 to P5 reworked, and two plans in slots, for
+-- which it gives none. What the documents leave open is chosen here, and the comment says so.
 use mathlib.Core.List.{List, [], _∷_, _++_}
 use Prim.Native.Nat.{ℕ, _+_, _-_, _*_}
 use lib.ListN.{take, replicate}
@@ -53,20 +53,20 @@ abbrev pub P2 : Plan
 P2 = plan base (P1 .streams) (1000 ∷ [])
 
 -- P3 to P6: one stream, C 5, with T and J; its label 10.1, priority 1 and deadline 1,000 are chosen
-abbrev alone : ℕ → ℕ → Plan
+abbrev pub alone : ℕ → ℕ → Plan
 alone t j = plan base (stream 10 1 1 t j 5 1000 ∷ []) []
 
--- P3: T 23, J 0
+-- P3: T 25, J 0. Its T is its C'', and so is P5's; document 01, where C'' was 23, had T 23 in both
 abbrev pub P3 : Plan
-P3 = alone 23 0
+P3 = alone 25 0
 
--- P4: T 22
+-- P4: T 24, a tick less
 abbrev pub P4 : Plan
-P4 = alone 22 0
+P4 = alone 24 0
 
--- P5: T 23, J 23
+-- P5: T 25, J 25
 abbrev pub P5 : Plan
-P5 = alone 23 23
+P5 = alone 25 25
 
 -- P6: T 30, J 30
 abbrev pub P6 : Plan
@@ -97,6 +97,6 @@ P11 = plan base (stream 10 1 1 100 0 0 60 ∷ stream 10 10 2 150 10 7 120 ∷ st
 abbrev pub P12 : List Priority
 P12 = (priority 5 ∷ priority 3 ∷ priority 6 ∷ []) ++ replicate (contenders - 3) none
 
--- in slots: P1 with a master node that pulses every 30 ticks, and every 17, where 10.10 does not fit
+-- in slots: P1 with a master node that pulses every 30 ticks, and every 19, where 10.10 does not fit
 abbrev pub slots : ℕ → Plan
 slots P = plan (pulsing P) (P1 .streams) []

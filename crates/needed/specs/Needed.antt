@@ -77,26 +77,26 @@ infix 20 _becomes_
 abbrev _becomes_ : Plan → Plan → Pair
 old becomes new = record { old = old; new = new }
 
--- one stream, 10.1: under the base constants its bound is C'' = 23, its deadline
+-- one stream, 10.1: under the base constants its bound is C'' = 25, its deadline
 abbrev oneUnder : Timing → Plan
-oneUnder t = plan t (stream 10 1 1 100 0 5 23 ∷ []) []
+oneUnder t = plan t (stream 10 1 1 100 0 5 25 ∷ []) []
 
--- the same for slots, where its C'' is 16: its deadline is 31
+-- the same for slots, where its C'' is 18: its deadline is 35
 abbrev inSlots : Timing → Plan
-inSlots t = plan t (stream 10 1 1 1000 0 5 31 ∷ []) []
+inSlots t = plan t (stream 10 1 1 1000 0 5 35 ∷ []) []
 
--- two streams under the base constants, 10.1 with T, J and D as given: with T 100 and J 0 the bound of 10.1 is 14 + 23 = 37, and that of
--- 10.10 is 23 + 23 = 46, its deadline
+-- two streams under the base constants, 10.1 with T, J and D as given: with T 100 and J 0 the bound of 10.1 is 16 + 25 = 41, and that of
+-- 10.10 is 25 + 25 = 50, its deadline
 abbrev two : ℕ → ℕ → ℕ → Plan
-two t j d = plan base (stream 10 1 1 t j 5 d ∷ stream 10 10 2 100 0 5 46 ∷ []) []
+two t j d = plan base (stream 10 1 1 t j 5 d ∷ stream 10 10 2 200 0 5 50 ∷ []) []
 
 -- pair i breaks condition i alone
 abbrev pub allPairs : List Pair
 allPairs =
-    -- the master node goes, with F at 100: in slots of 16 ticks the bound of 10.1 is B + C'' = 15 + 16 = 31, its deadline, and without them
-    -- it is V + C' = 104 + 15 = 119
-    (inSlots (timed 16 100 1 1 2 1 1 2 1 4) becomes inSlots (timed 0 100 1 1 2 1 1 2 1 4))
-    -- F grows from 4 to 5: V grows from 8 to 9, and the bound of 10.1 from 23 to 24, past its deadline of 23
+    -- the master node goes, with F at 100: in slots of 18 ticks the bound of 10.1 is B + C'' = 17 + 18 = 35, its deadline, and without them
+    -- it is V + C' = 104 + 17 = 121
+    (inSlots (timed 18 100 1 1 2 1 1 2 1 4) becomes inSlots (timed 0 100 1 1 2 1 1 2 1 4))
+    -- F grows from 4 to 5: V grows from 8 to 9, and the bound of 10.1 from 25 to 26, past its deadline of 25
     ∷ (oneUnder base becomes oneUnder (constants 5 1 1 2 1 1 2 1 4))
     -- E grows from 1 to 2: the same
     ∷ (oneUnder base becomes oneUnder (constants 4 2 1 2 1 1 2 1 4))
@@ -104,32 +104,32 @@ allPairs =
     ∷ (oneUnder base becomes oneUnder (constants 4 1 3 2 1 1 2 1 4))
     -- SWX grows from 2 to 3: the same
     ∷ (oneUnder base becomes oneUnder (constants 4 1 1 3 1 1 2 1 4))
-    -- H grows from 1 to 2: V grows from 8 to 9, U from 10 to 13, and the bound of 10.1 from 23 to 27
+    -- H grows from 1 to 2: V grows from 8 to 9, U from 12 to 16, and the bound of 10.1 from 25 to 30
     ∷ (oneUnder base becomes oneUnder (constants 4 1 1 2 2 1 2 1 4))
-    -- G grows from 1 to 2: U grows from 10 to 14, and the bound of 10.1 from 23 to 27
+    -- G grows from 1 to 2: U grows from 12 to 17, and the bound of 10.1 from 25 to 30
     ∷ (oneUnder base becomes oneUnder (constants 4 1 1 2 1 2 2 1 4))
-    -- ETG grows from 2 to 3: U grows from 10 to 11, and the bound of 10.1 from 23 to 24
+    -- ETG grows from 2 to 3: U grows from 12 to 13, and the bound of 10.1 from 25 to 26
     ∷ (oneUnder base becomes oneUnder (constants 4 1 1 2 1 1 3 1 4))
     -- LAG grows from 1 to 2: the same
     ∷ (oneUnder base becomes oneUnder (constants 4 1 1 2 1 1 2 2 4))
-    -- NB grows from 4 to 5: U grows from 10 to 12, and the bound of 10.1 from 23 to 25
+    -- NB grows from 4 to 5: U grows from 12 to 14, and the bound of 10.1 from 25 to 27
     ∷ (oneUnder base becomes oneUnder (constants 4 1 1 2 1 1 2 1 5))
-    -- P grows from 16 to 17: B grows from 15 to 16, and the bound of 10.1 from 31 to 32, past its deadline of 31
-    ∷ (inSlots (pulsing 16) becomes inSlots (pulsing 17))
-    -- the label 10.10 is new, and more urgent: the bound of 10.1 grows from 23 to 46, past its deadline of 23
-    ∷ (plan base (stream 10 1 2 100 0 5 23 ∷ []) [] becomes plan base (stream 10 10 1 100 0 5 60 ∷ stream 10 1 2 100 0 5 23 ∷ []) [])
-    -- T of 10.1 falls from 100 to 30: 10.10 waits for two of its messages, and the bound of 10.10 grows from 46 to 69, past its deadline
-    ∷ (two 100 0 37 becomes two 30 0 37)
+    -- P grows from 18 to 19: B grows from 17 to 18, and the bound of 10.1 from 35 to 36, past its deadline of 35
+    ∷ (inSlots (pulsing 18) becomes inSlots (pulsing 19))
+    -- the label 10.10 is new, and more urgent: the bound of 10.1 grows from 25 to 50, past its deadline of 25
+    ∷ (plan base (stream 10 1 2 100 0 5 25 ∷ []) [] becomes plan base (stream 10 10 1 100 0 5 60 ∷ stream 10 1 2 100 0 5 25 ∷ []) [])
+    -- T of 10.1 falls from 100 to 30: 10.10 waits for two of its messages, and the bound of 10.10 grows from 50 to 75, past its deadline
+    ∷ (two 100 0 41 becomes two 30 0 41)
     -- J of 10.1 grows from 0 to 90: the same
     ∷ (two 100 0 200 becomes two 100 90 200)
-    -- C of 10.1 grows from 5 to 6: its bound grows from 23 to 24, past its deadline of 23
-    ∷ (oneUnder base becomes plan base (stream 10 1 1 100 0 6 23 ∷ []) [])
-    -- D of 10.1 falls from 23 to 22: its bound is still 23
-    ∷ (oneUnder base becomes plan base (stream 10 1 1 100 0 5 22 ∷ []) [])
-    -- 10.1 and 10.10 swap their priorities: the bound of 10.1 grows from 37 to 46, past its deadline of 37
-    ∷ (two 100 0 37 becomes plan base (stream 10 1 2 100 0 5 37 ∷ stream 10 10 1 100 0 5 46 ∷ []) [])
-    -- a second noise source would have to share the partner of the first: the bound of 10.1 grows from 46 to 69, past its deadline of 46
-    ∷ (plan base (stream 10 1 1 100 0 5 46 ∷ []) (1000 ∷ []) becomes plan base (stream 10 1 1 100 0 5 46 ∷ []) (1000 ∷ 1000 ∷ []))
+    -- C of 10.1 grows from 5 to 6: its bound grows from 25 to 26, past its deadline of 25
+    ∷ (oneUnder base becomes plan base (stream 10 1 1 100 0 6 25 ∷ []) [])
+    -- D of 10.1 falls from 25 to 24: its bound is still 25
+    ∷ (oneUnder base becomes plan base (stream 10 1 1 100 0 5 24 ∷ []) [])
+    -- 10.1 and 10.10 swap their priorities: the bound of 10.1 grows from 41 to 50, past its deadline of 41
+    ∷ (two 100 0 41 becomes plan base (stream 10 1 2 100 0 5 41 ∷ stream 10 10 1 200 0 5 50 ∷ []) [])
+    -- a second noise source would have to share the partner of the first: the bound of 10.1 grows from 50 to 75, past its deadline of 50
+    ∷ (plan base (stream 10 1 1 100 0 5 50 ∷ []) (1000 ∷ []) becomes plan base (stream 10 1 1 100 0 5 50 ∷ []) (1000 ∷ 1000 ∷ []))
     ∷ []
 
 abbrev pub pair : ℕ → Pair
@@ -161,12 +161,12 @@ EachNeeded =
     → NotRefused (pair i .old) × NotRefused (pair i .new) × Broken i (pair i .old) (pair i .new) × Lost (pair i .old) (pair i .new)
 
 -- And they can all hold with something eased in each: constants smaller, T and D longer, J and C shorter, a stream fewer, rows in
--- another order, other priority numbers in the same order, gaps longer, fewer and in another order. The bound of 10.1 falls from 198
--- to 80, and that of 11.2 from 252 to 89.
+-- another order, other priority numbers in the same order, gaps longer, fewer and in another order. The bound of 10.1 falls from 218
+-- to 88, and that of 11.2 from 276 to 97.
 abbrev pub easier : Pair
 easier =
     plan (constants 5 2 2 3 2 2 3 2 5)
-    (stream 10 1 7 400 5 6 200 ∷ stream 10 10 13 600 10 7 300 ∷ stream 11 2 20 800 5 3 400 ∷ [])
+    (stream 10 1 7 400 5 6 220 ∷ stream 10 10 13 600 10 7 300 ∷ stream 11 2 20 800 5 3 400 ∷ [])
     (500 ∷ 900 ∷ 500 ∷ [])
     becomes plan base (stream 11 2 5 900 0 2 450 ∷ stream 10 1 2 500 0 5 250 ∷ []) (950 ∷ 600 ∷ [])
 

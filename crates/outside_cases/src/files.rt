@@ -56,9 +56,9 @@ fn of_others() {
     let p2 = p2_file();
     let mut enough = [7; 6];
     answers(&p2, &mut enough);
-    let p3 = one_file(23);
+    let p3 = one_file(25);
     both(&p3);
-    let p4 = one_file(22);
+    let p4 = one_file(24);
     both(&p4);
 }
 
@@ -146,8 +146,8 @@ pub(crate) fn cases() {
     changed(104, 1, 152, 0);
     changed(148, 0, 149, 0);
     compared();
-    in_slots(80, 18);
-    in_slots(80, 17);
+    in_slots(80, 20);
+    in_slots(80, 19);
     in_slots(80, 31);
     in_slots(80, 0);
     in_slots(100, 0);

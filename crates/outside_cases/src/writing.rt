@@ -88,8 +88,8 @@ fn slots() {
     write(3, 0, 9, 30, &mut enough);
     let mut short = [7; 155];
     write(3, 0, 9, 30, &mut short);
-    write(3, 0, 9, 18, &mut short);
-    write(3, 0, 9, 17, &mut short);
+    write(3, 0, 9, 20, &mut short);
+    write(3, 0, 9, 19, &mut short);
     write(3, 0, 9, 5000001, &mut short);
 }
 
@@ -124,7 +124,7 @@ pub(crate) fn p1_file(at: usize, byte: u8, also: usize, other: u8) -> [u8; 152] 
     file
 }
 
-// The file of one stream: P3 has a period of 23, and P4 one of 22.
+// The file of one stream: P3 has a period of 25, and P4 one of 24.
 pub(crate) fn one_file(period: u32) -> [u8; 104] {
     let mut file = [7; 104];
     let words = [4, 1, 1, 2, 1, 1, 2, 1, 4, 0, 655361, 1, period, 0, 5, 1000];

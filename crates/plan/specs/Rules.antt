@@ -20,9 +20,9 @@ selfOrSlotted P self slotted = cond (eqb P 0) self slotted
 abbrev pub «V» : Timing → ℕ
 «V» t = t .f + t .e + max (t .tfcs) (t .swx) + t .h
 
--- U = G + (H + G) × (NB - 1) + ETG + LAG
+-- U = G + (H + G) × NB + ETG + LAG
 abbrev pub U : Timing → ℕ
-U t = t .g + (t .h + t .g) * (t .nb - 1) + t .etg + t .lag
+U t = t .g + (t .h + t .g) * t .nb + t .etg + t .lag
 
 -- C' = C + U
 abbrev pub C′ : Timing → Stream → ℕ

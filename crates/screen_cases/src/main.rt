@@ -100,8 +100,8 @@ fn main() {
     wrong(5, 655370, 1);
     wrong(5, 655361, 1);
     wrong(5, 655361, 2);
-    slots(18, 5);
-    slots(17, 5);
-    slots(17, 0);
+    slots(20, 5);
+    slots(19, 5);
+    slots(19, 0);
     slots(5000001, 5);
 }

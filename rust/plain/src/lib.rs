@@ -285,7 +285,7 @@ pub fn before(timing: &Timing) -> u64 {
 /// U, the time that a tournament's bits take.
 pub fn overhead(timing: &Timing) -> u64 {
     let [_, _, _, _, h, g, etg, lag, bits, _] = timing.map(u64::from);
-    g + (h + g) * (bits - 1) + etg + lag
+    g + (h + g) * bits + etg + lag
 }
 
 /// P, from one pulse of the master node to the next.

@@ -175,7 +175,7 @@ fn long_chains() {
     for (payload, more, jitter) in
         [(5, 0, 0), (5, 1, 0), (5, 1, 100_000), (5, 3, 1_000_000), (482, 0, 500), (4_982, 0, 1), (1, 2, 700_000)]
     {
-        let period = payload + 18 + more;
+        let period = payload + 20 + more;
         for gaps in [vec![], vec![u32::MAX]] {
             let mut streams = vec![stream(7, 3, period, jitter, payload, 1_000)];
             for others in 0..2 {
@@ -195,7 +195,7 @@ fn long_chains() {
 fn long_chains_in_slots() {
     let (mut rng, mut tally) = (Rng(0x10E65), Tally::default());
     for (slot, more, jitter) in
-        [(16, 1, 0), (16, 1, 100_000), (18, 3, 1_000_000), (500, 0, 500), (5_000, 0, 0), (40, 2, 700_000), (LONGEST_SLOT, 1, 9)]
+        [(18, 1, 0), (18, 1, 100_000), (20, 3, 1_000_000), (500, 0, 500), (5_000, 0, 0), (40, 2, 700_000), (LONGEST_SLOT, 1, 9)]
     {
         let timing = [4, 1, 1, 2, 1, 1, 2, 1, 4, slot];
         for gaps in [vec![], vec![u32::MAX]] {

@@ -186,7 +186,7 @@ fn cases() -> Vec<Case> {
         std::fs::read_dir(folder).expect("the cases").map(|entry| entry.expect("a case").path()).collect();
     plans.retain(|path| path.extension().is_some_and(|kind| kind == "plan"));
     plans.sort();
-    assert!(plans.len() >= 397, "only {} cases", plans.len());
+    assert!(plans.len() >= 399, "only {} cases", plans.len());
     let case = |path: PathBuf| Case {
         name: path.file_stem().expect("a name").to_string_lossy().into_owned(),
         plan: std::fs::read(&path).expect("a plan file"),

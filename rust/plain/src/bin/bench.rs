@@ -11,7 +11,7 @@ use std::time::{Duration, Instant};
 
 const BASE: Timing = [4, 1, 1, 2, 1, 1, 2, 1, 4, 0];
 
-/// As `BASE` with room for 64 priorities: V is 8 and U is 14.
+/// As `BASE` with room for 64 priorities: V is 8 and U is 16.
 const BASE_6: Timing = [4, 1, 1, 2, 1, 1, 2, 1, 6, 0];
 
 /// As `BASE_6` with a master node.
@@ -48,13 +48,13 @@ fn single(period: u32, jitter: u32) -> Plan {
 
 /// A light stream above a heavy one with much jitter.
 fn pair() -> Plan {
-    Plan { timing: BASE, streams: vec![stream(0, 2_300, 0, 5), stream(1, 24, 33_040, 5)], gaps: vec![] }
+    Plan { timing: BASE, streams: vec![stream(0, 2_500, 0, 5), stream(1, 26, 29_600, 5)], gaps: vec![] }
 }
 
 /// 63 streams that hardly ever send, above one that fills the channel and has jitter.
 fn crowded() -> Plan {
     let mut streams: Vec<Stream> = (0..63).map(|row| stream(row, 4_000_000_000, 0, 5)).collect();
-    streams.push(stream(63, 65_557, 65_557, 65_535));
+    streams.push(stream(63, 65_559, 65_559, 65_535));
     Plan { timing: BASE_6, streams, gaps: vec![] }
 }
 
@@ -191,14 +191,14 @@ fn main() {
     let slots = full(SLOTS_6, 9_000, vec![]);
     assert!(plain::Analysis::new(&slots).levels().all(|level| level.bound().is_some()));
     answers_row("64 streams in slots, 90 % load", ROUNDS, &slots);
-    let long = single(24, 43_480);
-    assert_eq!(longest_busy_period(&long), Some(1_000_040));
-    answers_row("one stream, L 1,000,040, 43,480 instances", ROUNDS, &long);
+    let long = single(26, 40_000);
+    assert_eq!(longest_busy_period(&long), Some(1_000_000));
+    answers_row("one stream, L 1,000,000, 40,000 instances", ROUNDS, &long);
     let pair = pair();
-    assert_eq!(longest_busy_period(&pair), Some(1_000_040));
-    answers_row("two streams, L 1,000,040, 43,045 instances", ROUNDS, &pair);
-    answers_row("P5: 186,737,708 evaluations, none", 2, &single(23, 23));
-    answers_row("64 streams, the last of 32,758 evaluations, none", ROUNDS, &crowded());
+    assert_eq!(longest_busy_period(&pair), Some(1_000_000));
+    answers_row("two streams, L 1,000,000, 39,600 instances", ROUNDS, &pair);
+    answers_row("P5: 171,798,691 evaluations, none", 2, &single(25, 25));
+    answers_row("64 streams, the last of 32,757 evaluations, none", ROUNDS, &crowded());
     rewrite_row("read and write 64 streams, 8 gaps", &file(&noisy));
     let mut refused = file(&noisy);
     refused[1_644..].fill(0);
