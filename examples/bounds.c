@@ -3,12 +3,15 @@
 #include "livnakesh.h"
 #include <stdio.h>
 
+/* A row's words are its verdict, its bound and the instance that gives it; a plan has at most 64 rows. */
+enum { ROW = 3, MOST_ROWS = 64 };
+
 int main(void)
 {
     static uint8_t file[4096];
-    static uint64_t words[2 * 64];
+    static uint64_t words[ROW * MOST_ROWS];
     size_t length = fread(file, 1, sizeof file, stdin);
-    struct livnakesh_said said = livnakesh_answers(file, length, words, 2 * 64);
+    struct livnakesh_said said = livnakesh_answers(file, length, words, ROW * MOST_ROWS);
     if (said.refusal != 0) {
         printf("refused %llu at %llu\n", (unsigned long long)said.refusal, (unsigned long long)said.value);
         return 2;
@@ -16,10 +19,11 @@ int main(void)
     /* n, the number of streams, stands in the file: the length of its second body, 24 bytes a stream */
     size_t streams = (file[28] + 256 * (size_t)file[29]) / 24;
     for (size_t row = 0; row < streams; row++) {
-        unsigned long long bound = words[2 * row + 1];
-        switch (words[2 * row]) {
-        case 0: printf("row %zu: at most %llu ticks, in time\n", row, bound); break;
-        case 1: printf("row %zu: up to %llu ticks, too late\n", row, bound); break;
+        const uint64_t *answer = words + ROW * row;
+        unsigned long long bound = answer[1], instance = answer[2];
+        switch (answer[0]) {
+        case 0: printf("row %zu: at most %llu ticks, in time (instance %llu)\n", row, bound, instance); break;
+        case 1: printf("row %zu: up to %llu ticks, too late (instance %llu)\n", row, bound, instance); break;
         default: printf("row %zu: no bound\n", row); break;
         }
     }

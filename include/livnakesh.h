@@ -64,9 +64,10 @@ struct livnakesh_stepped {
     uint64_t at;
 };
 
-/* The answers of a plan file: two words a row in file order, verdict (0 met, 1 missed, 2 none) and then the bound
- * (0 for none). Words after 2n stay as found; n is the word at byte 28 of the file, divided by 24, in both editions.
- * Refusals 1 to 5, 10 and 6; 6 if fewer than 2n words are lent. value is 0. */
+/* The answers of a plan file: three words a row in file order, verdict (0 met, 1 missed, 2 none), the bound (0 for none) and then
+ * the instance q that gives it, counted from 0: the first of those with the largest term (0 for none). Words after 3n stay as
+ * found; n is the word at byte 28 of the file, divided by 24, in both editions.
+ * Refusals 1 to 5, 10 and 6; 6 if fewer than 3n words are lent. value is 0. */
 struct livnakesh_said livnakesh_answers(const uint8_t *file, size_t file_length, uint64_t *words, size_t word_count);
 
 /* Reads a plan file and writes its plan's file at the start of the lent buffer; the rest of the buffer is kept.
@@ -84,7 +85,7 @@ struct livnakesh_said livnakesh_write(size_t streams, size_t gaps, const uint32_
 
 /* The answers of the screen's values, as livnakesh_answers gives them for their file. timing is ten words, F to NB and P: one that
  * is not lent is 0, so a caller who lends nine has no master node, and words after them are not looked at. The lists' own lengths
- * are n and m. Refusals 2 to 5, 10 and 6, with the places that the file would have; 6 if fewer than 2n words are lent. value is 0. */
+ * are n and m. Refusals 2 to 5, 10 and 6, with the places that the file would have; 6 if fewer than 3n words are lent. value is 0. */
 struct livnakesh_said livnakesh_screen(const struct livnakesh_stream *streams, size_t stream_count,
                                        const uint32_t *timing, size_t timing_count, const uint32_t *gaps, size_t gap_count,
                                        uint64_t *words, size_t word_count);

@@ -10,8 +10,12 @@ fn main() {
         Ok(rows) => {
             for (row, answer) in rows.into_iter().enumerate() {
                 match answer {
-                    Answer::Met(bound) => println!("row {row}: at most {bound} ticks, in time"),
-                    Answer::Missed(bound) => println!("row {row}: up to {bound} ticks, too late"),
+                    Answer::Met { bound, instance } => {
+                        println!("row {row}: at most {bound} ticks, in time (instance {instance})")
+                    }
+                    Answer::Missed { bound, instance } => {
+                        println!("row {row}: up to {bound} ticks, too late (instance {instance})")
+                    }
                     Answer::None => println!("row {row}: no bound"),
                 }
             }

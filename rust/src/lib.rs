@@ -34,10 +34,12 @@ pub struct Refused {
 }
 
 /// What a row's answer words say: a bound that is at most the deadline, one that is above it, or none.
+///
+/// The instance says which message of a burst, counted from 0, is the latest; the first of those that are equally late.
 #[derive(Clone, Copy, Debug, PartialEq, Eq)]
 pub enum Answer {
-    Met(u64),
-    Missed(u64),
+    Met { bound: u64, instance: u64 },
+    Missed { bound: u64, instance: u64 },
     None,
 }
 
@@ -148,8 +150,8 @@ fn said(said: Said) -> Result<u64, Refused> {
     }
 }
 
-/// The words of a row: its verdict, and then its bound.
-const ROW: usize = 2;
+/// The words of a row: its verdict, its bound, and the instance that gives it.
+const ROW: usize = 3;
 
 /// The words of the rows of the largest plan.
 const WORDS: usize = ROW * 64;
@@ -179,14 +181,15 @@ fn rows(words: &[u64]) -> Vec<Answer> {
 
 fn answer(row: &[u64]) -> Answer {
     match row[0] {
-        0 => Answer::Met(row[1]),
-        1 => Answer::Missed(row[1]),
+        0 => Answer::Met { bound: row[1], instance: row[2] },
+        1 => Answer::Missed { bound: row[1], instance: row[2] },
         2 => Answer::None,
         other => panic!("the library's contract has no verdict {other}"),
     }
 }
 
-/// As `answers`, in lent memory: two words a row, the verdict (0 met, 1 missed, 2 none) and the bound; the words after them stay as found.
+/// As `answers`, in lent memory: three words a row, the verdict (0 met, 1 missed, 2 none), the bound and the instance that gives
+/// it, both 0 for none. The words after them stay as found; with fewer words it is refused 6.
 pub fn answer_words(file: &[u8], words: &mut [u64]) -> Result<(), Refused> {
     // SAFETY: both slices outlive the call, and the library stays within them.
     said(unsafe { livnakesh_answers(file.as_ptr(), file.len(), words.as_mut_ptr(), words.len()) }).map(|_| ())

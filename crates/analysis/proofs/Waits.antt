@@ -1,31 +1,29 @@
--- The searches for w(q) climb once: each may start where the one before ended, and C'' further on. Assumes nothing.
-use mathlib.Core.Path.{_≡_, refl, sym, ap, _∙_, subst}
-use mathlib.Core.List.{List, []}
-use Prim.Native.Nat.{ℕ, suc, _+_, _-_, _*_, _^_, _≤_, _<_}
-use native.Mathlib.Nat.{le-trans, suc-mul, mul-suc, zero-mul, mul-le-mul-left, lt-of-not-le}
-use native.Mathlib.Decide.{decLe}
+-- The searches for w(q) climb once: each may start where the one before ended, and C'' further on; and what is kept of their terms. Assumes nothing.
+use mathlib.Core.Path.{_≡_, refl, sym, ap, ap₂, _∙_, subst}
+use mathlib.Core.Bool.{Bool, true, false, cond}
+use mathlib.Core.List.{List}
+use Prim.Native.Nat.{ℕ, _+_, _-_, _*_, _^_, _≤_, _<_}
+use native.Mathlib.Nat.{le-trans, suc-mul, zero-mul}
 use native.Mathlib.Numerals.{add-one}
 use native.Mathlib.Omega.{arith}
-use lib.Dec.{T, leb→le}
-use lib.IntN.{pos, _-ℤ_}
-use lib.Signed.{leZ}
+use lib.IntN.{ℤ, pos, _-ℤ_}
+use lib.Signed.{ltZ}
 use Rattle.names.specs.Limits.{ticks}
-use Rattle.laws.specs.Lists.{ceil, sumOf, rows}
-use Rattle.laws.proofs.Round.{ceil-room, ceil-covers}
-use Rattle.laws.proofs.Signed.{diff-back}
+use Rattle.laws.specs.Lists.{ceil, rows}
+use Rattle.laws.specs.Signed.{maxZ, largestTo, FirstLargest}
+use Rattle.laws.proofs.Round.{ceil-room}
+use Rattle.laws.proofs.Signed.{largest-start, largest-more, first-start, first-more}
 use Rattle.laws.specs.declared.Found.the-variants.{At}
 use Rattle.laws.proofs.Chain.{least-later, least-agrees}
 use Rattle.bound.specs.Terms.{Terms}
-use Rattle.bound.specs.Bound.{demand, E, sideW, busy, Q, w, term, bound}
+use Rattle.bound.specs.Bound.{sideW, busy, Q, w, term}
 use Rattle.bound.specs.Claims.{Sound}
 use Rattle.bound.proofs.Sides.{sideW-mono, busy-is-least}
-use Rattle.bound.proofs.Largest.{some-instance, first-term, bound-is-largest}
+use Rattle.bound.proofs.Largest.{some-instance}
 use Rattle.bound.proofs.Instances.{room, settles, w-exists, w-rises, sideW-suc}
-use Rattle.analysis.specs.declared.Gathered.{Gathered}
 use Rattle.analysis.specs.Gathered.{Lent, termsOf}
-use Rattle.analysis.specs.private.Chains.{side, restW, aloneTerms, MakesUp, RestKept, Bounded, Settled}
-use Rattle.analysis.specs.private.Fit.{FitRow}
-use Rattle.analysis.proofs.Fit.{fit-sound, sideL-alone}
+use Rattle.analysis.specs.declared.searches.Reached.{Reached}
+use Rattle.analysis.specs.private.Chains.{side, restW, aloneTerms, MakesUp, RestKept, Bounded, Settled, largerOf}
 use Rattle.analysis.proofs.Chains.{kept-start, kept-up}
 
 -- w(q)'s right side is B + q × C'' and the rest
@@ -108,54 +106,31 @@ gone-small l jitter period q a b p h = omega (arith, ceil-room q (l + jitter) pe
 pub term-is : (r : Terms) (q wait : ℕ) → wait ≡ w r q → pos (r .own .J + r .last + wait) -ℤ pos (q * r .own .T) ≡ term r q
 term-is r q wait e = let a : r .own .J + r .last + wait ≡ r .own .J + w r q + r .last = omega arith in ap (λ z. pos z -ℤ pos (q * r .own .T)) a
 
+-- ---- the worst of the instances up to q, and its term
+pub record WorstTo (f : ℕ → ℤ) (q : ℕ) (best : Reached) : Type 0 where
+  pub term : best .term ≡ largestTo f q
+  pub first : FirstLargest f q (best .instance)
+
+pub worst-start : (f : ℕ → ℤ) (z : ℤ) → z ≡ f 0 → WorstTo f 0 (record { term = z; instance = 0 })
+worst-start f z e = record { term = e ∙ sym (largest-start f); first = first-start f }
+
+field : {A : Type 0} (p : Reached → A) (t : Bool) (a b : Reached) → p (cond t a b) ≡ cond t (p a) (p b)
+field p true a b = refl
+field p false a b = refl
+
+-- the next one is named only where its term is larger
+pub worst-more : (f : ℕ → ℤ) (q : ℕ) (best : Reached) (z : ℤ) → WorstTo f q best → z ≡ f (q + 1) → WorstTo f (q + 1) (largerOf best (record { term = z; instance = q + 1 }))
+worst-more f q best z k e =
+    let next : Reached = record { term = z; instance = q + 1 } in
+    let test : ltZ (best .term) z ≡ ltZ (largestTo f q) (f (q + 1)) = ap₂ ltZ (k .term) e in
+    record {
+      term = field (λ r. r .term) (ltZ (best .term) z) next best ∙ ap₂ maxZ (k .term) e ∙ largest-more f q;
+      first = subst (FirstLargest f (q + 1))
+          (sym (field (λ r. r .instance) (ltZ (best .term) z) next best ∙ ap (λ t. cond t (q + 1) (best .instance)) test))
+          (first-more f q (best .instance) (k .first));
+    }
+
 -- ---- nobody else on the channel
 pub alone-terms : (t : Lent) → t .row .urgent ≡ 0 → t .row .sources ≡ 0 → termsOf t ≡ aloneTerms (t .row)
 unfolding rows
 alone-terms t e d = rw (e, d) refl
-
-module _ (g : Gathered) (f : FitRow g) (L : ℕ) (b : busy (aloneTerms g) ≡ At L) where
-  abbrev r : Terms
-  r = aloneTerms g
-
-  -- w(q) = B + q × C''
-  alone-w : (q : ℕ) → q < Q r L → w r q ≡ g .blocking + q * g .cost
-  unfolding sideW demand E sumOf
-  alone-w q h = omega (arith, w-exists r (fit-sound g [] [] f) L q b h .0 .fixed, zero-mul (g .hit))
-
-  -- L = B + Q × C'', and Q periods cover L: so C'' is no more than T
-  alone-L : g .blocking + Q r L * g .cost ≡ L
-  alone-L = sym (sideL-alone g L) ∙ busy-is-least r L .0 b .1 .fixed
-
-  alone-load : g .cost ≤ g .period
-  alone-load =
-      let l = busy-is-least r L .0 b .1 in
-      elim (decLe (g .cost) (g .period)) [
-        | yes h ↦ h
-        | no h ↦
-            absurd
-            (omega (
-              arith,
-              alone-L,
-              some-instance r (fit-sound g [] [] f) L (l .above),
-              ceil-covers (L + g .jitter) (g .period) (f .own .some),
-              mul-le-mul-left {m = suc (g .period)} {n = g .cost} (Q r L) (lt-of-not-le h),
-              mul-suc (Q r L) (g .period),
-            ))
-      ]
-
-  -- so no term is above the first
-  pub alone-bound : g .jitter + g .blocking + g .last ≡ bound r L
-  alone-bound =
-      let s = fit-sound g [] [] f in
-      let (above, (q, h, e), p) = bound-is-largest r s L b in
-      let some = some-instance r s L (busy-is-least r L .0 b .1 .above) in
-      let first : g .jitter + w r 0 + g .last ≤ bound r L = leb→le _ _ (subst (λ z. T (leZ z (pos (bound r L)))) (first-term r) (above 0 some)) in
-      omega (
-        arith,
-        first,
-        alone-w 0 some,
-        zero-mul (g .cost),
-        diff-back (bound r L) (g .jitter + w r q + g .last) (q * g .period) e,
-        alone-w q h,
-        mul-le-mul-left {m = g .cost} {n = g .period} q alone-load,
-      )

@@ -7,12 +7,11 @@ ghost use lib.ListN.{length};
 ghost use lib.IntN.{pos, _-ℤ_};
 ghost use Rattle.names.specs.Limits.{ticks};
 ghost use Rattle.laws.specs.Lists.{ceil};
-ghost use Rattle.laws.specs.Signed.{maxZ};
 ghost use Rattle.laws.specs.declared.Found.the-variants.{At};
 ghost use Rattle.bound.specs.Bound as rule;
 ghost use Rattle.analysis.specs.Gathered.{stairs as most, lent, termsOf};
 ghost use Rattle.analysis.specs.private.Stairs.{Stand, Near};
-ghost use Rattle.analysis.specs.private.Chains.{OwnKept, ownL, aloneTerms, Bounded, side, Settled};
+ghost use Rattle.analysis.specs.private.Chains.{OwnKept, ownL, aloneTerms, Bounded, side, Settled, largerOf};
 ghost use Rattle.analysis.specs.private.Fit.{FitRow, Fit};
 use crate::Gathered;
 use crate::STAIRS;
@@ -144,11 +143,17 @@ fn term(a: u64, b: u64) -> i64
     a as i64 - b as i64
 }
 
+// A term and its instance.
+struct Reached {
+    term: i64,
+    instance: u64,
+}
+
 // The earlier of two equal terms is kept.
-fn larger(best: i64, next: i64) -> i64
-    ensures { λ r. ⌜ r ≡ maxZ best next ⌝ }
+fn larger(best: Reached, next: Reached) -> Reached
+    ensures { λ r. ⌜ r ≡ largerOf best next ⌝ }
 {
-    if best < next { next } else { best }
+    if best.term < next.term { next } else { best }
 }
 
 // Q: how many instances a busy period has.
@@ -162,7 +167,14 @@ fn instances(l: u64, jitter: u64, period: u64) -> u64
     (l + jitter + (period - 1)) / period
 }
 
-// The largest term J + w(q) + C'' - q * T. The search for w(q + 1) starts at w(q) + C'', with the edges where they are.
+// The bound, and the instance that gives it.
+struct Worst {
+    bound: u64,
+    instance: u64,
+}
+
+// The largest term J + w(q) + C'' - q * T, and the first q that has it. The search for w(q + 1) starts at w(q) + C'', with the edges
+// where they are.
 fn largest_term<'a>(
     g: Gathered,
     l: u64,
@@ -170,11 +182,12 @@ fn largest_term<'a>(
     periods: &'a [u64; STAIRS],
     jitters: &'a [u64; STREAMS],
     edges: &mut [u64; STAIRS],
-) -> u64
+) -> Worst
     requires { ⌜ Fit (lent g (now costs) (now periods) (now jitters)) ⌝ }
     requires { ⌜ rule.busy (termsOf (lent g (now costs) (now periods) (now jitters))) ≡ At l ⌝ }
     requires { ⌜ length (now edges) ≡ most ⌝ }
-    ensures { λ r. ⌜ r ≡ rule.bound (termsOf (lent g (now (costs .entry)) (now (periods .entry)) (now (jitters .entry)))) l ⌝ }
+    ensures { λ r. ⌜ r .bound ≡ rule.bound (termsOf (lent g (now (costs .entry)) (now (periods .entry)) (now (jitters .entry)))) l ⌝ }
+    ensures { λ r. ⌜ r .instance ≡ rule.worst (termsOf (lent g (now (costs .entry)) (now (periods .entry)) (now (jitters .entry)))) l ⌝ }
 {
     let n = g.urgent + g.sources;
     start_edges(jitters, g.urgent, n, g.late + 1, g.cost, edges);
@@ -184,8 +197,12 @@ fn largest_term<'a>(
     let mut base = g.blocking;
     let mut nearest = [0; LOTS];
     let mut wait = settled(base, 0, 0, n, costs, periods, edges, &mut nearest);
-    let mut best = term(ends + wait, 0);
     let mut q: u64 = 0;
+    let first = term(ends + wait, 0);
+    let mut best = Reached {
+        term: first,
+        instance: q,
+    };
     while q + 1 < count {
         let sum = wait - base;
         base += cost;
@@ -200,23 +217,35 @@ fn largest_term<'a>(
             &mut nearest,
         );
         q += 1;
-        best = larger(best, term(ends + wait, q * g.period));
+        let next = term(ends + wait, q * g.period);
+        best = larger(
+            best,
+            Reached {
+                term: next,
+                instance: q,
+            },
+        );
     }
-    best as u64
+    Worst {
+        bound: best.term as u64,
+        instance: best.instance,
+    }
 }
 
-fn judged(bound: u64, deadline: u64) -> Answer
-    ensures { λ r. ⌜ r ≡ record { verdict = rule.verdict bound deadline; bound = bound } ⌝ }
+fn judged(bound: u64, instance: u64, deadline: u64) -> Answer
+    ensures { λ r. ⌜ r ≡ record { verdict = rule.verdict bound deadline; bound = bound; instance = instance } ⌝ }
 {
     if bound <= deadline {
         Answer {
             verdict: Verdict::Met,
             bound,
+            instance,
         }
     } else {
         Answer {
             verdict: Verdict::Missed,
             bound,
+            instance,
         }
     }
 }
@@ -232,10 +261,11 @@ pub(crate) fn answer_alone(g: Gathered, deadline: u64) -> Answer
         return Answer {
             verdict: Verdict::None,
             bound: 0,
+            instance: 0,
         };
     };
     let first = term(g.jitter + g.blocking + g.last, 0);
-    judged(first as u64, deadline)
+    judged(first as u64, 0, deadline)
 }
 
 // The answer among other streams and noise sources.
@@ -255,8 +285,9 @@ pub(crate) fn answer_among<'a>(
         return Answer {
             verdict: Verdict::None,
             bound: 0,
+            instance: 0,
         };
     };
-    let bound = largest_term(g, l, costs, periods, jitters, &mut edges);
-    judged(bound, deadline)
+    let worst = largest_term(g, l, costs, periods, jitters, &mut edges);
+    judged(worst.bound, worst.instance, deadline)
 }

@@ -1,5 +1,6 @@
 pub mod Sides
 pub mod Instances
 pub mod Largest
+pub mod Alone
 pub mod AboveZero
 pub mod Answers

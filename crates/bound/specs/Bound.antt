@@ -7,7 +7,7 @@ use lib.IntN.{ℤ, pos, natAbs, _-ℤ_}
 use Rattle.names.specs.Limits.{ticks}
 use Rattle.laws.specs.Lists.{ceil, sumOf}
 use Rattle.laws.specs.Search.{firstFixed, orZero}
-use Rattle.laws.specs.Signed.{largestTo}
+use Rattle.laws.specs.Signed.{largestTo, firstLargest}
 use Rattle.laws.specs.declared.Found.{Found, the-variants.At, the-variants.Nothing}
 use Rattle.bound.specs.declared.Verdict.{Verdict, the-variants.Met, the-variants.Missed, the-variants.None}
 use Rattle.bound.specs.declared.Answer.{Answer}
@@ -49,14 +49,18 @@ term r q = pos (r .own .J + w r q + r .last) -ℤ pos (q * r .own .T)
 unfoldable pub bound : Terms → ℕ → ℕ
 bound r L = natAbs (largestTo (term r) (Q r L - 1))
 
+-- the worst instance: the smallest q, from 0 to Q - 1, whose term is the largest
+unfoldable pub worst : Terms → ℕ → ℕ
+worst r L = firstLargest (term r) (Q r L - 1)
+
 -- "met" is bound ≤ D, else "missed"
 abbrev pub verdict : ℕ → ℕ → Verdict
 verdict b D = cond (leb b D) Met Missed
 
 -- the answer of a stream with the deadline D
 abbrev pub answerFor : Terms → ℕ → Found → Answer
-answerFor r D Nothing = record { verdict = None; bound = 0 }
-answerFor r D (At L) = record { verdict = verdict (bound r L) D; bound = bound r L }
+answerFor r D Nothing = record { verdict = None; bound = 0; instance = 0 }
+answerFor r D (At L) = record { verdict = verdict (bound r L) D; bound = bound r L; instance = worst r L }
 
 unfoldable pub answer : Terms → ℕ → Answer
 answer r D = answerFor r D (busy r)

@@ -6,12 +6,12 @@ use mathlib.Core.Logic.{_↔_}
 use Prim.Native.Nat.{ℕ, _+_, _-_, _≤_, _<_}
 use lib.Dec.{T}
 use lib.IntN.{pos, negℤ}
-use lib.Signed.{leZ}
+use lib.Signed.{leZ, ltZ}
 use Rattle.names.specs.Limits.{ticks}
 use Rattle.laws.specs.Search.{Least}
 use Rattle.laws.specs.declared.Found.the-variants.{At, Nothing}
 use Rattle.bound.specs.Terms.{Terms}
-use Rattle.bound.specs.Bound.{sideL, busy, Q, sideW, w, term, bound}
+use Rattle.bound.specs.Bound.{sideL, busy, Q, sideW, w, term, bound, worst}
 
 -- L is the least positive whole number with L = its right side, and at most 4,294,967,295 ..
 abbrev pub BusyIsLeast : Type 0
@@ -47,6 +47,20 @@ BoundIsLargest =
     × ((q : ℕ) × (q < Q r L) × (pos (bound r L) ≡ term r q))
     × (1 ≤ bound r L)
 
+-- q is the worst instance: it is one of the instances, its term is the bound, and no earlier one reaches it
+pub record Worst (r : Terms) (L q : ℕ) : Type 0 where
+  pub counts : q < Q r L
+  pub gives : term r q ≡ pos (bound r L)
+  pub earlier : (e : ℕ) → e < q → T (ltZ (term r e) (pos (bound r L)))
+
+-- the one that is named is that one, and no other
+abbrev pub WorstIsFirst : Type 0
+WorstIsFirst = (r : Terms) → Sound r → (L q : ℕ) → busy r ≡ At L → (worst r L ≡ q) ↔ Worst r L q
+
+-- a stream alone on the channel, with nobody more urgent and no noise, has its first instance as the worst, however many there are
+abbrev pub AloneIsFirst : Type 0
+AloneIsFirst = (r : Terms) → Sound r → (L : ℕ) → busy r ≡ At L → r .urgent ≡ [] → r .gaps ≡ [] → worst r L ≡ 0
+
 -- the term of q = 0 is never below zero, whatever the terms are
 abbrev pub FirstTermNotBelowZero : Type 0
 FirstTermNotBelowZero = (r : Terms) → T (leZ (pos 0) (term r 0))
@@ -76,3 +90,7 @@ TermBelowZero = Sound sparse × (busy sparse ≡ At 39) × (Q sparse 39 ≡ 1) �
 -- the bound is at most J + L, so it fits its word: with J and L at most 4,294,967,295 it has ten digits at most
 abbrev pub BoundWithin : Type 0
 BoundWithin = (r : Terms) → Sound r → (L : ℕ) → busy r ≡ At L → bound r L ≤ r .own .J + L
+
+-- the worst instance is below L, since each instance takes a tick at least: it has ten digits at most too
+abbrev pub WorstWithin : Type 0
+WorstWithin = (r : Terms) → Sound r → (L : ℕ) → busy r ≡ At L → worst r L < L

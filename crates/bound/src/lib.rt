@@ -10,8 +10,9 @@ pub enum Verdict {
     None,
 }
 
-// A row's answer. The bound is 0 where there is none.
+// A row's answer: its verdict, its bound, and the instance that gives it. Where there is no bound, both numbers are 0.
 pub struct Answer {
     pub verdict: Verdict,
     pub bound: u64,
+    pub instance: u64,
 }

@@ -1,10 +1,12 @@
--- A listing of a plan file is no longer than the largest: its fields are words of 32 bits, its bounds have ten digits. Assumes nothing.
+-- A listing of a plan file is no longer than the largest: its fields are words of 32 bits, its bounds and instances have ten digits. Assumes nothing.
 use mathlib.Core.Path.{_≡_, refl, ap, _∙_}
 use mathlib.Core.List.{List, [], _∷_, map}
-use Prim.Native.Nat.{ℕ, zero, suc, _^_, _<_}
+use Prim.Native.Nat.{ℕ, zero, suc, _+_, _^_, _≤_, _<_}
 use native.Mathlib.Omega.{arith}
 use lib.ListN.{length, getD, length-map}
 use lib.Pow.{pow-mono}
+use Rattle.names.specs.Limits.{ticks}
+use Rattle.plan.specs.declared.Stream.{Stream}
 use Rattle.plan.specs.Plan.{Plan, planOf, blank}
 use Rattle.plan.specs.Rules.{rowAnswer, answers}
 use Rattle.plan.proofs.Rules.{row-within}
@@ -34,14 +36,24 @@ module _ (n m : ℕ) (p : Plan) (r : Right n m p) where
         deadline = s .deadline;
       }
 
-  small : (k : ℕ) → k < length (answers p) → getD (map (λ a. a .bound) (answers p)) k 0 < 10 ^ 10
-  small k h =
-      let g : k < length (p .streams) = omega (arith, length-map (p .streams) (rowAnswer p)) in
-      rw (in-row (λ a. a .bound) (rowAnswer p) (p .streams) k blank g)
-      (omega (arith, row-within p (getD (p .streams) k blank) (r .within .stream k g) (r .slots k g)))
+  module _ (k : ℕ) (h : k < length (answers p)) where
+    among : k < length (p .streams)
+    among = omega (arith, length-map (p .streams) (rowAnswer p))
+
+    abbrev i : Stream
+    i = getD (p .streams) k blank
+
+    small : (rowAnswer p i .bound ≤ ticks + ticks) × (rowAnswer p i .instance < ticks)
+    small = row-within p i (r .within .stream k among) (r .slots k among)
+
+    small-bound : getD (map (λ a. a .bound) (answers p)) k 0 < 10 ^ 10
+    small-bound = rw (in-row (λ a. a .bound) (rowAnswer p) (p .streams) k blank among) (omega (arith, small .0))
+
+    small-instance : getD (map (λ a. a .instance) (answers p)) k 0 < 10 ^ 10
+    small-instance = rw (in-row (λ a. a .instance) (rowAnswer p) (p .streams) k blank among) (omega (arith, small .1))
 
   listed : Listed 10 p (answers p)
-  listed = record { count = r .within .count; stream = printed; bound = small }
+  listed = record { count = r .within .count; stream = printed; bound = small-bound; instance = small-instance }
 
 pub listing-fits : ListingFits
 unfolding shown

@@ -44,7 +44,8 @@ shownFile bs = fileAs (readOf bs .answer) (planOf (readOf bs .sheet))
 
 -- ---- What is proved of what is shown; the proofs are in proofs/Fits.antt and proofs/Again.antt.
 
--- every file that is not refused is shown in full where the largest listing has room, since no bound has more than 10 digits
+-- every file that is not refused is shown in full where the largest listing has room, since no bound and no instance has more than 10
+-- digits
 abbrev pub ListingFits : Type 0
 ListingFits =
     (bs buffer : List ℕ) → readOf bs .answer ≡ Fine → most 10 ≤ length buffer

@@ -31,10 +31,11 @@ const NO_ROOM: u32 = 6;
 // One byte more than the largest file has, so that a longer one is seen to be too long.
 const FILE: usize = WORD * (CONTENTS + CARRIED) + 1;
 
-// The words of the header, and what each column of a row has at most, with what parts and ends them; a bound has 10 digits at most.
-const HEADER: usize = 5 + 1 + 8 + 1 + 5 + 1 + 8 + 1 + 7 + 1;
+// The words of the header, and what each column of a row has at most, with what parts and ends them; a bound and an instance have
+// 10 digits at most.
+const HEADER: usize = 5 + 1 + 8 + 1 + 5 + 1 + 8 + 1 + 8 + 1 + 7 + 1;
 
-const ROW: usize = 11 + 1 + 10 + 1 + 10 + 1 + 10 + 1 + 6 + 1;
+const ROW: usize = 11 + 1 + 10 + 1 + 10 + 1 + 10 + 1 + 10 + 1 + 6 + 1;
 
 const LISTED: usize = HEADER + STREAMS * ROW;
 

@@ -12,12 +12,12 @@ use lib.ListN.{length}
 use Rattle.laws.specs.declared.Found.{Found, the-variants.Nothing}
 use Rattle.laws.specs.Lists.{sumOf, largestOf, those, rows}
 use Rattle.laws.specs.Search.{first}
-use Rattle.laws.specs.Signed.{largestTo}
+use Rattle.laws.specs.Signed.{largestTo, firstLargest}
 use Rattle.laws.proofs.Tests.{both}
 use Rattle.laws.specs.Rows.{some}
 use Rattle.repeats.specs.Repeats.{firstRepeat}
 use Rattle.bound.specs.Terms.{Terms}
-use Rattle.bound.specs.Bound.{E, demand, sideL, busy, sideW, w, bound, answerFor, answer}
+use Rattle.bound.specs.Bound.{E, demand, sideL, busy, sideW, w, bound, worst, answerFor, answer}
 use Rattle.plan.specs.Rules.{selfOrSlotted, «V», U, C″, B, hit, terms, answers}
 use Rattle.fields.specs.Fields.{fields, lowest}
 use Rattle.judge.specs.Table.{judge}
@@ -99,8 +99,8 @@ all-hold (x ∷ es) e = (holds x cc, all-hold es cc)
 
 -- ---- the whole table is the same again: antt computes it
 same-again : map again table ≡ table
-unfolding again full load delayed sumOf largestOf those rows first largestTo some firstRepeat
-    E demand sideL busy sideW w bound answer selfOrSlotted B hit terms layout.editionFor
+unfolding again full load delayed sumOf largestOf those rows first largestTo firstLargest some firstRepeat
+    E demand sideL busy sideW w bound worst answer selfOrSlotted B hit terms layout.editionFor
     fields lowest flatMap judge wordsOf bytesOf fileWords planIn same readOf
     listingOf text.listedRows text.row digits digitsOf
     lowestUnfit verdictOf begunOf heardAt silencedAt marksAfter lowestMarked winnerOf nextAt steps startOf runOf

@@ -1,6 +1,6 @@
--- Document 01, "Plans to run", with a pulse for each priority bit (document 02, request 02): the figures for P1 to P12, as one table in
--- the document's order, and two plans in slots after them. The claim is that every entry of it holds, `Figures`, proved in
--- proofs/Figures.antt. All rows of a plan have the same columns, so that some of them are not in the documents.
+-- Document 01, "Plans to run", with a pulse for each priority bit and the worst instance (document 02, requests 02 and 03): the figures
+-- for P1 to P12, as one table in the document's order, and three plans of our own after them. The claim is that every entry of it holds,
+-- `Figures`, proved in proofs/Figures.antt. All rows of a plan have the same columns, so that some of them are not in the documents.
 use mathlib.Core.Path.{_≡_}
 use mathlib.Core.Bool.{Bool, true, false}
 use mathlib.Core.List.{List, [], _∷_, _++_}
@@ -28,7 +28,7 @@ use Rattle.tournament_state.specs.declared.Phase.{Phase, the-variants.AtBit, th
 use Rattle.tournament_state.specs.declared.Tournament.{Tournament}
 use Rattle.tournament.specs.Rule.{steps}
 use Rattle.tournament.specs.Answers.{startOf, runOf}
-use Rattle.figures.specs.Plans.{base, P1, P2, alone, P3, P4, P5, P6, P7, P8, P9, P10, P11, P12, slots}
+use Rattle.figures.specs.Plans.{base, P1, P2, alone, P3, P4, P5, P6, P7, P8, P9, P10, P11, P12, slots, equallyLate}
 
 -- ---- an entry: what is run, and its figures
 
@@ -91,15 +91,15 @@ infix 80 _gives_
 abbrev _gives_ : ℕ → ℕ → ℕ × ℤ
 n gives b = (n, pos b)
 
--- an answer with its bound
-abbrev met : ℕ → Answer
-met b = record { verdict = Met; bound = b }
+-- an answer with its bound, and the worst instance
+abbrev met : ℕ → ℕ → Answer
+met b q = record { verdict = Met; bound = b; instance = q }
 
-abbrev missed : ℕ → Answer
-missed b = record { verdict = Missed; bound = b }
+abbrev missed : ℕ → ℕ → Answer
+missed b q = record { verdict = Missed; bound = b; instance = q }
 
 abbrev noBound : Answer
-noBound = record { verdict = None; bound = 0 }
+noBound = record { verdict = None; bound = 0; instance = 0 }
 
 -- of three contenders, all are in, and row 1 alone
 abbrev three : List Bool
@@ -111,18 +111,18 @@ row1 = false ∷ true ∷ false ∷ []
 -- the listing of P1
 abbrev listingOfP1 : List ℕ
 listingOfP1 =
-    ascii "label priority bound deadline verdict\n"
-    ++ ascii "10.1 1 43 60 met\n"
-    ++ ascii "10.10 2 75 120 met\n"
-    ++ ascii "11.2 3 74 200 met\n"
+    ascii "label priority bound instance deadline verdict\n"
+    ++ ascii "10.1 1 43 0 60 met\n"
+    ++ ascii "10.10 2 75 0 120 met\n"
+    ++ ascii "11.2 3 74 0 200 met\n"
 
 -- and the one for P1 in slots of 30 ticks
 abbrev listingInSlots : List ℕ
 listingInSlots =
-    ascii "label priority bound deadline verdict\n"
-    ++ ascii "10.1 1 47 60 met\n"
-    ++ ascii "10.10 2 89 120 met\n"
-    ++ ascii "11.2 3 104 200 met\n"
+    ascii "label priority bound instance deadline verdict\n"
+    ++ ascii "10.1 1 47 0 60 met\n"
+    ++ ascii "10.10 2 89 0 120 met\n"
+    ++ ascii "11.2 3 104 0 200 met\n"
 
 abbrev pub table : List Entry
 table =
@@ -130,18 +130,18 @@ table =
     ofTiming base 8 12
     -- P1: C'' is 25, 27, 22; the file has 152 bytes; the whole listing
     ∷ ofPlan P1 Fine Fine
-    ∷ ofRow P1 0 25 (At 43) 1 (18 gives 43 ∷ []) (met 43)
-    ∷ ofRow P1 1 27 (At 65) 1 (38 gives 75 ∷ []) (met 75)
-    ∷ ofRow P1 2 22 (At 74) 1 (52 gives 74 ∷ []) (met 74)
+    ∷ ofRow P1 0 25 (At 43) 1 (18 gives 43 ∷ []) (met 43 0)
+    ∷ ofRow P1 1 27 (At 65) 1 (38 gives 75 ∷ []) (met 75 0)
+    ∷ ofRow P1 2 22 (At 74) 1 (52 gives 74 ∷ []) (met 74 0)
     ∷ ofListing P1 152 listingOfP1
     -- P2: bounds 68 (missed), 102, 101
     ∷ ofPlan P2 Fine Fine
-    ∷ ofRow P2 0 25 (At 68) 1 (43 gives 68 ∷ []) (missed 68)
-    ∷ ofRow P2 1 27 (At 92) 1 (65 gives 102 ∷ []) (met 102)
-    ∷ ofRow P2 2 22 (At 126) 1 (79 gives 101 ∷ []) (met 101)
+    ∷ ofRow P2 0 25 (At 68) 1 (43 gives 68 ∷ []) (missed 68 0)
+    ∷ ofRow P2 1 27 (At 92) 1 (65 gives 102 ∷ []) (met 102 0)
+    ∷ ofRow P2 2 22 (At 126) 1 (79 gives 101 ∷ []) (met 101 0)
     -- P3: L = 25, bound 25
     ∷ ofPlan P3 Fine Fine
-    ∷ ofRow P3 0 25 (At 25) 1 (0 gives 25 ∷ []) (met 25)
+    ∷ ofRow P3 0 25 (At 25) 1 (0 gives 25 ∷ []) (met 25 0)
     -- P4: none
     ∷ ofPlan P4 Fine Fine
     ∷ ofRow P4 0 25 Nothing 0 [] noBound
@@ -154,12 +154,12 @@ table =
     ∷ ofRow (alone 23 23) 0 25 Nothing 0 [] noBound
     -- P6: L = 150, Q = 6, bound 55
     ∷ ofPlan P6 Fine Fine
-    ∷ ofRow P6 0 25 (At 150) 6 (0 gives 55 ∷ 25 gives 50 ∷ 50 gives 45 ∷ 75 gives 40 ∷ 100 gives 35 ∷ 125 gives 30 ∷ []) (met 55)
-    -- P7, the last: L = 70, w(0) = 20, w(1) = 60, bound 35, where the first instance alone gives 30
+    ∷ ofRow P6 0 25 (At 150) 6 (0 gives 55 ∷ 25 gives 50 ∷ 50 gives 45 ∷ 75 gives 40 ∷ 100 gives 35 ∷ 125 gives 30 ∷ []) (met 55 0)
+    -- P7, the last: L = 70, w(0) = 20, w(1) = 60, bound 35 at q = 1, where the first instance alone gives 30
     ∷ ofPlan P7 Fine Fine
-    ∷ ofRow P7 0 10 (At 19) 1 (9 gives 19 ∷ []) (met 19)
-    ∷ ofRow P7 1 10 (At 49) 2 (19 gives 29 ∷ 39 gives 14 ∷ []) (met 29)
-    ∷ ofRow P7 2 10 (At 70) 2 (20 gives 30 ∷ 60 gives 35 ∷ []) (met 35)
+    ∷ ofRow P7 0 10 (At 19) 1 (9 gives 19 ∷ []) (met 19 0)
+    ∷ ofRow P7 1 10 (At 49) 2 (19 gives 29 ∷ 39 gives 14 ∷ []) (met 29 0)
+    ∷ ofRow P7 2 10 (At 70) 2 (20 gives 30 ∷ 60 gives 35 ∷ []) (met 35 1)
     -- P8: refused 4 at row 1
     ∷ ofPlan P8 (refusal 4 1) (refusal 4 1)
     -- P9: still 4
@@ -173,12 +173,17 @@ table =
     ((AtBit 1, three) ∷ (AtBit 2, three) ∷ (AtBit 3, row1) ∷ (AtBit 4, row1) ∷ (Finished (record { 0 = 1 }), row1) ∷ [])
     -- in slots of 30 ticks: C'' is 18, 20, 15, each message costs 30, B is 29; the file has 156 bytes; the whole listing
     ∷ ofPlan (slots 30) Fine Fine
-    ∷ ofRow (slots 30) 0 18 (At 59) 1 (29 gives 47 ∷ []) (met 47)
-    ∷ ofRow (slots 30) 1 20 (At 89) 1 (59 gives 89 ∷ []) (met 89)
-    ∷ ofRow (slots 30) 2 15 (At 179) 1 (89 gives 104 ∷ []) (met 104)
+    ∷ ofRow (slots 30) 0 18 (At 59) 1 (29 gives 47 ∷ []) (met 47 0)
+    ∷ ofRow (slots 30) 1 20 (At 89) 1 (59 gives 89 ∷ []) (met 89 0)
+    ∷ ofRow (slots 30) 2 15 (At 179) 1 (89 gives 104 ∷ []) (met 104 0)
     ∷ ofListing (slots 30) 156 listingInSlots
     -- in slots of 19: refused 10 at row 1, whose C'' is 20
     ∷ ofPlan (slots 19) (refusal 10 1) (refusal 10 1)
+    -- two instances that are equally late: the earlier one is named
+    ∷ ofPlan equallyLate Fine Fine
+    ∷ ofRow equallyLate 0 10 (At 19) 1 (9 gives 19 ∷ []) (met 19 0)
+    ∷ ofRow equallyLate 1 10 (At 49) 2 (19 gives 29 ∷ 39 gives 19 ∷ []) (met 29 0)
+    ∷ ofRow equallyLate 2 10 (At 120) 3 (20 gives 30 ∷ 70 gives 40 ∷ 110 gives 40 ∷ []) (met 40 1)
     ∷ []
 
 -- ---- the claim

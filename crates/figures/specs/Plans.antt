@@ -1,5 +1,6 @@
--- Document 01, "Plans to run": the base constants and P1 to P12, of which document 02 has P3 to P5 reworked, and two plans in slots, for
--- which it gives none. What the documents leave open is chosen here, and the comment says so.
+-- Document 01, "Plans to run": the base constants and P1 to P12, of which document 02 has P3 to P5 reworked, and for what it gives no
+-- plan two in slots and one with two instances that are equally late. What the documents leave open is chosen here, and the comment says
+-- so.
 use mathlib.Core.List.{List, [], _∷_, _++_}
 use Prim.Native.Nat.{ℕ, _+_, _-_, _*_}
 use lib.ListN.{take, replicate}
@@ -72,10 +73,15 @@ P5 = alone 25 25
 abbrev pub P6 : Plan
 P6 = alone 30 30
 
--- P7: F to LAG all 0; three streams, C 10, T 25, 35, 35, J 0; NB 4, the labels 10.1, 10.2, 10.3, the priorities 1, 2, 3 and the deadlines
+-- three streams, F to LAG all 0, C 10, J 0, with T of each; NB 4, the labels 10.1, 10.2, 10.3, the priorities 1, 2, 3 and the deadlines
 -- of 1,000 are chosen
+abbrev pub tens : ℕ → ℕ → ℕ → Plan
+tens a b c =
+    plan (constants 0 0 0 0 0 0 0 0 4) (stream 10 1 1 a 0 10 1000 ∷ stream 10 2 2 b 0 10 1000 ∷ stream 10 3 3 c 0 10 1000 ∷ []) []
+
+-- P7: T 25, 35, 35
 abbrev pub P7 : Plan
-P7 = plan (constants 0 0 0 0 0 0 0 0 4) (stream 10 1 1 25 0 10 1000 ∷ stream 10 2 2 35 0 10 1000 ∷ stream 10 3 3 35 0 10 1000 ∷ []) []
+P7 = tens 25 35 35
 
 -- P8: P1 with both first priorities 1
 abbrev pub P8 : Plan
@@ -100,3 +106,7 @@ P12 = (priority 5 ∷ priority 3 ∷ priority 6 ∷ []) ++ replicate (contenders
 -- in slots: P1 with a master node that pulses every 30 ticks, and every 19, where 10.10 does not fit
 abbrev pub slots : ℕ → Plan
 slots P = plan (pulsing P) (P1 .streams) []
+
+-- T 25, 30, 40: the second and the third message of 10.3 are equally late
+abbrev pub equallyLate : Plan
+equallyLate = tens 25 30 40

@@ -41,6 +41,10 @@ seen-one t n lo (At x) Nothing a b = absurd (b x (a .0) (a .1) (a .2))
 seen-one t n lo Nothing (At x) a b = absurd (a x (b .0) (b .1) (b .2))
 seen-one t n lo Nothing Nothing a b = refl
 
+-- the first that passes is found
+pub first-is : (t : ℕ → Bool) (lo n x : ℕ) → lo ≤ x → x < lo + n → t x ≡ true → ((y : ℕ) → lo ≤ y → y < x → t y ≡ true → ⊥) → first t lo n ≡ At x
+first-is t lo n x a b e f = seen-one t n lo (first t lo n) (At x) (seen t n lo) (a, b, e, f)
+
 pub finds-least : FindsLeast
 finds-least f lo n x = (to, from)
   where
@@ -50,8 +54,7 @@ finds-least f lo n x = (to, from)
         (s .1, record { above = s .0; fixed = eqb-true _ _ (s .2); least = λ y a g. le-unless (λ b. s .3 y a b (eq-eqb _ _ g)) })
 
     from : (x < lo + n) × Least f lo x → firstFixed f lo n ≡ At x
-    from h = seen-one (λ x. eqb (f x) x) n lo _ (At x) (seen (λ x. eqb (f x) x) n lo)
-        (h .1 .above, h .0, eq-eqb _ _ (h .1 .fixed), λ y a b g. omega (arith, h .1 .least y a (eqb-true _ _ g)))
+    from h = first-is (λ x. eqb (f x) x) lo n x (h .1 .above) (h .0) (eq-eqb _ _ (h .1 .fixed)) (λ y a b g. omega (arith, h .1 .least y a (eqb-true _ _ g)))
 
 pub finds-none : FindsNone
 finds-none f lo n = (

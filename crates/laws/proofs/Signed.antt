@@ -8,13 +8,15 @@ use native.Mathlib.Nat.{le-refl, eq-or-lt-of-le}
 use native.Mathlib.Numerals.{add-one}
 use native.Mathlib.Omega.{arith}
 use borrow.Author.Tests.{ltb-true, ltb-false}
-use lib.Dec.{T, ltb, leb, le→leb, leb→le}
+use lib.Dec.{T, ltb, leb, le→leb, leb→le, lt→ltb, ltb→lt}
 use lib.IntN.{ℤ, pos, negsuc, natAbs, _-ℤ_}
-use lib.Signed.{mag, ltZ, leZ, nonNeg, ≤ℤ-refl}
+use lib.Signed.{mag, ltZ, leZ, nonNeg, leZ-yes, ltZ-yes, ≤ℤ-refl, clashℤ}
 use mir.Syntax.{w64}
 use mir.Val.{toZ, ofZ, SFits}
 use mir.Facts.{toZ-ofZ, toZ-pos}
-use Rattle.laws.specs.Signed.{maxZ, largestTo}
+use Rattle.laws.specs.Search.{orZero}
+use Rattle.laws.specs.Signed.{maxZ, largestTo, firstLargest, FirstLargest, FindsFirstLargest}
+use Rattle.laws.proofs.Search.{first-is}
 
 -- ---- the order, as a test
 pub le-trans-Z : (a b c : ℤ) → T (leZ a b) → T (leZ b c) → T (leZ a c)
@@ -25,6 +27,15 @@ le-trans-Z (negsuc a) (pos b) (pos c) h k = tt
 le-trans-Z (negsuc a) (pos b) (negsuc c) h k = absurd k
 le-trans-Z (negsuc a) (negsuc b) (pos c) h k = tt
 le-trans-Z (negsuc a) (negsuc b) (negsuc c) h k = le→leb c a (omega (arith, leb→le b a h, leb→le c b k))
+
+le-lt-Z : (a b c : ℤ) → T (leZ a b) → T (ltZ b c) → T (ltZ a c)
+le-lt-Z (pos a) (pos b) (pos c) h k = lt→ltb a c (omega (arith, leb→le a b h, ltb→lt b c k))
+le-lt-Z (pos a) (pos b) (negsuc c) h k = k
+le-lt-Z (pos a) (negsuc b) c h k = absurd h
+le-lt-Z (negsuc a) (pos b) (pos c) h k = tt
+le-lt-Z (negsuc a) (pos b) (negsuc c) h k = absurd k
+le-lt-Z (negsuc a) (negsuc b) (pos c) h k = tt
+le-lt-Z (negsuc a) (negsuc b) (negsuc c) h k = lt→ltb c a (omega (arith, leb→le b a h, ltb→lt c b k))
 
 lt-le : (a b : ℤ) → ltZ a b ≡ true → T (leZ a b)
 lt-le (pos a) (pos b) h = le→leb a b (omega (arith, ltb-true a b h))
@@ -38,15 +49,23 @@ not-lt (pos a) (negsuc b) h = tt
 not-lt (negsuc a) (pos b) h = absurd (subst T h tt)
 not-lt (negsuc a) (negsuc b) h = le→leb a b (ltb-false b a h)
 
--- ---- the larger of two is at least each, and is one of them
-larger : (a b : ℤ) → T (leZ a (maxZ a b)) × T (leZ b (maxZ a b)) × ((maxZ a b ≡ a) ⊎ (maxZ a b ≡ b))
+-- what is equal reaches it
+reaches : (a b : ℤ) → b ≡ a → leZ a b ≡ true
+reaches a b e = rw e (go (leZ a a) (≤ℤ-refl a .le))
+  where
+    go : (t : Bool) → T t → t ≡ true
+    go true h = refl
+    go false h = absurd h
+
+-- ---- the larger of two is at least each
+larger : (a b : ℤ) → T (leZ a (maxZ a b)) × T (leZ b (maxZ a b))
 larger a b = go (ltZ a b) refl
   where
-    go : (t : Bool) → ltZ a b ≡ t → T (leZ a (cond t b a)) × T (leZ b (cond t b a)) × ((cond t b a ≡ a) ⊎ (cond t b a ≡ b))
-    go true e = (lt-le a b e, ≤ℤ-refl b .le, inr refl)
-    go false e = (≤ℤ-refl a .le, not-lt a b e, inl refl)
+    go : (t : Bool) → ltZ a b ≡ t → T (leZ a (cond t b a)) × T (leZ b (cond t b a))
+    go true e = (lt-le a b e, ≤ℤ-refl b .le)
+    go false e = (≤ℤ-refl a .le, not-lt a b e)
 
--- ---- the largest of f 0 .. f n is at least each, is one of them, and grows by one more
+-- ---- the largest of f 0 .. f n is at least each, and grows by one more
 pub largest-ge : (f : ℕ → ℤ) (n q : ℕ) → q ≤ n → T (leZ (f q) (largestTo f n))
 unfolding largestTo
 largest-ge f zero q h = let e : q ≡ 0 = omega arith in rw e (≤ℤ-refl (f 0) .le)
@@ -55,13 +74,6 @@ largest-ge f (suc n) q h =
     (λ l. le-trans-Z (f q) (largestTo f n) (maxZ (largestTo f n) (f (suc n))) (largest-ge f n q (omega arith)) (larger (largestTo f n) (f (suc n)) .0))
     (eq-or-lt-of-le h)
 
-pub largest-is : (f : ℕ → ℤ) (n : ℕ) → (q : ℕ) × (q ≤ n) × (largestTo f n ≡ f q)
-unfolding largestTo
-largest-is f zero = (0, le-refl 0, refl)
-largest-is f (suc n) =
-    let (q, h, e) = largest-is f n in
-    ⊎-elim (λ d. (q, omega arith, d ∙ e)) (λ d. (suc n, le-refl (suc n), d)) (larger (largestTo f n) (f (suc n)) .2)
-
 pub largest-start : (f : ℕ → ℤ) → largestTo f 0 ≡ f 0
 unfolding largestTo
 largest-start f = refl
@@ -69,6 +81,44 @@ largest-start f = refl
 pub largest-more : (f : ℕ → ℤ) (q : ℕ) → maxZ (largestTo f q) (f (q + 1)) ≡ largestTo f (q + 1)
 unfolding largestTo
 largest-more f q = rw add-one refl
+
+-- ---- the first place of the largest: at one more, the earlier of two equal ones stays
+pub first-start : (f : ℕ → ℤ) → FirstLargest f 0 0
+unfolding largestTo
+first-start f = record { among = le-refl 0; largest = refl; earlier = λ e h. absurd (omega arith) }
+
+next : (f : ℕ → ℤ) (n q : ℕ) → FirstLargest f n q → FirstLargest f (suc n) (cond (ltZ (largestTo f n) (f (suc n))) (suc n) q)
+unfolding largestTo
+next f n q h = go (ltZ (largestTo f n) (f (suc n))) refl
+  where
+    go : (t : Bool) → ltZ (largestTo f n) (f (suc n)) ≡ t → FirstLargest f (suc n) (cond t (suc n) q)
+    go true e =
+        let top : largestTo f (suc n) ≡ f (suc n) = ap (λ t. cond t (f (suc n)) (largestTo f n)) e in
+        record {
+          among = le-refl (suc n);
+          largest = sym top;
+          earlier = λ j g. rw top (le-lt-Z (f j) (largestTo f n) (f (suc n)) (largest-ge f n j (omega arith)) (subst T (sym e) tt));
+        }
+    go false e =
+        let top : largestTo f (suc n) ≡ largestTo f n = ap (λ t. cond t (f (suc n)) (largestTo f n)) e in
+        record { among = omega (arith, h .among); largest = h .largest ∙ sym top; earlier = λ j g. rw top (h .earlier j g) }
+
+pub first-more : (f : ℕ → ℤ) (n q : ℕ) → FirstLargest f n q → FirstLargest f (n + 1) (cond (ltZ (largestTo f n) (f (n + 1))) (n + 1) q)
+first-more f n q h = rw add-one (next f n q h)
+
+pub first-exists : (f : ℕ → ℤ) (n : ℕ) → (q : ℕ) × FirstLargest f n q
+first-exists f zero = (0, first-start f)
+first-exists f (suc n) = let (q, h) = first-exists f n in (cond (ltZ (largestTo f n) (f (suc n))) (suc n) q, next f n q h)
+
+pub finds-first-largest : FindsFirstLargest
+unfolding firstLargest
+finds-first-largest f n q = (λ e. let (x, h) = first-exists f n in subst (FirstLargest f n) (sym (found x h) ∙ e) h, found q)
+  where
+    found : (x : ℕ) → FirstLargest f n x → firstLargest f n ≡ x
+    found x h =
+        ap orZero
+        (first-is (λ q. leZ (largestTo f n) (f q)) 0 (suc n) x (omega arith) (omega (arith, h .among)) (reaches (largestTo f n) (f x) (h .largest))
+        (λ y a b e. clashℤ {a = f y} {b = largestTo f n} (ltZ-yes (h .earlier y b)) (leZ-yes (subst T (sym e) tt))))
 
 -- ---- what is at least a positive number is a positive number
 pub above-pos : (a : ℕ) (z : ℤ) → 1 ≤ a → T (leZ (pos a) z) → T (nonNeg z) × (1 ≤ natAbs z)
@@ -107,15 +157,6 @@ module _ (a b : ℕ) (p : a < 2 ^ 63) (q : b < 2 ^ 63) where
   pub diff-fits : SFits w64 (toZ w64 a -ℤ toZ w64 b)
   diff-fits = rw (toZ-pos w64 p, toZ-pos w64 q) exact
 
--- the larger of two, as a branch of the code finds it
-module _ (a b : ℤ) (fa : SFits w64 a) (fb : SFits w64 b) where
-  seen : (t : Bool) → ltZ (toZ w64 (ofZ w64 a)) (toZ w64 (ofZ w64 b)) ≡ t → cond t b a ≡ maxZ a b
-  seen t e =
-      let same : ltZ (toZ w64 (ofZ w64 a)) (toZ w64 (ofZ w64 b)) ≡ ltZ a b = rw (toZ-ofZ fa, toZ-ofZ fb) refl in
-      ap (λ t. cond t b a) (sym e ∙ same)
-
-  pub larger-yes : ltZ (toZ w64 (ofZ w64 a)) (toZ w64 (ofZ w64 b)) ≡ true → toZ w64 (ofZ w64 b) ≡ maxZ a b
-  larger-yes e = toZ-ofZ fb ∙ seen true e
-
-  pub larger-no : ltZ (toZ w64 (ofZ w64 a)) (toZ w64 (ofZ w64 b)) ≡ false → toZ w64 (ofZ w64 a) ≡ maxZ a b
-  larger-no e = toZ-ofZ fa ∙ seen false e
+-- a test on the bits of two numbers is the test on the numbers
+pub bits-lt : (a b : ℤ) → SFits w64 a → SFits w64 b → ltZ (toZ w64 (ofZ w64 a)) (toZ w64 (ofZ w64 b)) ≡ ltZ a b
+bits-lt a b p q = rw (toZ-ofZ p, toZ-ofZ q) refl

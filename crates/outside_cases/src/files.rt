@@ -2,6 +2,7 @@
 use crate::writing::one_file;
 use crate::writing::p1_file;
 use crate::writing::p2_file;
+use crate::writing::p7_file;
 use crate::writing::slots_file;
 use carried::CARRIED;
 use carried::CONTENTS;
@@ -34,7 +35,7 @@ fn rewrite(file: &[u8], lent: &mut [u8]) {
 
 // Both into a few words and bytes.
 fn both(file: &[u8]) {
-    let mut few_words = [7; 3];
+    let mut few_words = [7; 4];
     answers(file, &mut few_words);
     let mut few_bytes = [7; 10];
     rewrite(file, &mut few_bytes);
@@ -42,9 +43,9 @@ fn both(file: &[u8]) {
 
 fn of_p1() {
     let file = p1_file(152, 0, 152, 0);
-    let mut room = [7; 8];
+    let mut room = [7; 11];
     answers(&file, &mut room);
-    let mut too_few = [7; 5];
+    let mut too_few = [7; 8];
     answers(&file, &mut too_few);
     let mut enough = [7; 160];
     rewrite(&file, &mut enough);
@@ -54,8 +55,11 @@ fn of_p1() {
 
 fn of_others() {
     let p2 = p2_file();
-    let mut enough = [7; 6];
+    let mut enough = [7; 9];
     answers(&p2, &mut enough);
+    let p7 = p7_file();
+    let mut also = [7; 9];
+    answers(&p7, &mut also);
     let p3 = one_file(25);
     both(&p3);
     let p4 = one_file(24);
@@ -106,7 +110,7 @@ fn in_slots(at: usize, byte: u8) {
     let old = slots_file(156, 0);
     let new = slots_file(at, byte);
     lighter(&old, &new);
-    let mut enough = [7; 6];
+    let mut enough = [7; 9];
     answers(&new, &mut enough);
 }
 

@@ -132,6 +132,43 @@ pub(crate) fn one_file(period: u32) -> [u8; 104] {
     file
 }
 
+// The file of P7, whose last stream is latest at its second instance.
+pub(crate) fn p7_file() -> [u8; 152] {
+    let mut file = [7; 152];
+    let words = [
+        0,
+        0,
+        0,
+        0,
+        0,
+        0,
+        0,
+        0,
+        4,
+        0,
+        655361,
+        1,
+        25,
+        0,
+        10,
+        1000,
+        655362,
+        2,
+        35,
+        0,
+        10,
+        1000,
+        655363,
+        3,
+        35,
+        0,
+        10,
+        1000,
+    ];
+    livnakesh_write(3, 0, &words, &mut file);
+    file
+}
+
 // The file of P1 in slots of 30 ticks with another byte in one place.
 pub(crate) fn slots_file(at: usize, byte: u8) -> [u8; 156] {
     let mut file = [7; 156];

@@ -1,7 +1,7 @@
 -- A stream whose fields are within the limits, and which fits its slot where there are slots, has sound terms and a bound of ten digits at
 -- most. Assumes nothing.
 use mathlib.Core.Path.{_≡_, refl}
-use Prim.Native.Nat.{ℕ, _+_, _≤_}
+use Prim.Native.Nat.{ℕ, _+_, _≤_, _<_}
 use native.Mathlib.Nat.{lt-of-not-le}
 use native.Mathlib.Decide.{decLe}
 use native.Mathlib.Omega.{arith}
@@ -10,7 +10,7 @@ use Rattle.names.specs.Limits.{ticks}
 use Rattle.laws.specs.declared.Found.{Found, the-variants.At, the-variants.Nothing}
 use Rattle.bound.specs.Bound.{busy, answerFor, answer}
 use Rattle.bound.proofs.Sides.{busy-is-least}
-use Rattle.bound.proofs.Largest.{bound-within}
+use Rattle.bound.proofs.Largest.{bound-within, worst-within}
 use Rattle.plan.specs.Rules.{selfOrSlotted, «V», B, hit, terms}
 use Rattle.plan.specs.Claims.{LettersAre, TermsSound, RowWithin}
 
@@ -72,6 +72,10 @@ pub row-within : RowWithin
 unfolding answer terms
 row-within p i s fits = go (busy (terms p i)) refl
   where
-    go : (f : Found) → busy (terms p i) ≡ f → answerFor (terms p i) (i .deadline) f .bound ≤ ticks + ticks
-    go (At L) e = omega (arith, bound-within (terms p i) (terms-sound p i s fits) L e, busy-is-least (terms p i) L .0 e .0, s .jitter)
-    go Nothing e = omega arith
+    go : (f : Found) → busy (terms p i) ≡ f
+        → (answerFor (terms p i) (i .deadline) f .bound ≤ ticks + ticks) × (answerFor (terms p i) (i .deadline) f .instance < ticks)
+    go (At L) e =
+        let sound = terms-sound p i s fits in
+        let small = busy-is-least (terms p i) L .0 e .0 in
+        (omega (arith, bound-within (terms p i) sound L e, small, s .jitter), omega (arith, worst-within (terms p i) sound L e, small))
+    go Nothing e = (omega arith, omega arith)

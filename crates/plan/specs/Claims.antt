@@ -75,6 +75,8 @@ RowWExists = (p : Plan) → Within p → (k : ℕ) → k < length (p .streams) �
 abbrev pub TermsSound : Type 0
 TermsSound = (p : Plan) (i : Stream) → StreamWithin (p .timing .nb) i → FitsSlot (p .timing) i → Sound (terms p i)
 
--- no bound is more than 8,589,934,590
+-- no bound is more than 8,589,934,590, and the worst instance is below 4,294,967,295
 abbrev pub RowWithin : Type 0
-RowWithin = (p : Plan) (i : Stream) → StreamWithin (p .timing .nb) i → FitsSlot (p .timing) i → rowAnswer p i .bound ≤ ticks + ticks
+RowWithin =
+    (p : Plan) (i : Stream) → StreamWithin (p .timing .nb) i → FitsSlot (p .timing) i
+    → (rowAnswer p i .bound ≤ ticks + ticks) × (rowAnswer p i .instance < ticks)

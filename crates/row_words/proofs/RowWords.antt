@@ -13,7 +13,7 @@ use Rattle.laws.proofs.Pieces.{flat-append, length-flat}
 use Rattle.bound.specs.declared.Answer.{Answer}
 use Rattle.bound.specs.declared.Verdict.{Verdict, the-variants.Met, the-variants.Missed, the-variants.None}
 use Rattle.bound.specs.Bound.{verdictNumber}
-use Rattle.row_words.specs.RowWords.{rowWords, wordsPerRow, withAnswer, verdictAt, boundAt, verdictOfNumber, answerAt, ReadBack, RowsReadBack}
+use Rattle.row_words.specs.RowWords.{rowWords, wordsPerRow, withAnswer, verdictAt, boundAt, instanceAt, verdictOfNumber, answerAt, ReadBack, RowsReadBack}
 
 -- the number of words of some rows
 pub length-words : (l : List Answer) → length (flatMap rowWords l) ≡ wordsPerRow * length l
@@ -21,9 +21,12 @@ length-words = length-flat wordsPerRow rowWords (λ a. refl)
 
 -- what the stores leave
 pub put-is : (ws : List ℕ) (k : ℕ) (a : Answer) → k < length ws / wordsPerRow
-    → set (set ws (wordsPerRow * k) (verdictNumber (a .verdict))) (wordsPerRow * k + 1) (a .bound) ≡ withAnswer ws k a
+    → set (set (set ws (wordsPerRow * k) (verdictNumber (a .verdict))) (wordsPerRow * k + 1) (a .bound)) (wordsPerRow * k + 2) (a .instance) ≡ withAnswer ws k a
 unfolding withAnswer
-put-is ws k a h = rw (lt-ltb _ _ h, add-one) (sets-eq (rowWords a) ws (wordsPerRow * k) (omega arith))
+put-is ws k a h = rw (lt-ltb _ _ h, add-one, two (wordsPerRow * k)) (sets-eq (rowWords a) ws (wordsPerRow * k) (omega arith))
+  where
+    two : (x : ℕ) → x + 2 ≡ suc (suc x)
+    two x = omega arith
 
 -- one row more, after those before it
 pub put-next : (f : ℕ → Answer) (k : ℕ) (ws now : List ℕ) → wordsPerRow * k + wordsPerRow ≤ length ws
@@ -49,14 +52,16 @@ pub record RowSays (ws : List ℕ) (k : ℕ) (a : Answer) : Type 0 where
   pub there : k < length ws / wordsPerRow
   pub verdict : verdictAt ws k ≡ verdictNumber (a .verdict)
   pub bound : boundAt ws k ≡ a .bound
+  pub instance : instanceAt ws k ≡ a .instance
 
 says : (front : List ℕ) (a : Answer) (after : List ℕ) (k : ℕ) → length front ≡ wordsPerRow * k → RowSays (front ++ (rowWords a ++ after)) k a
 says front a after k e =
     let v = verdictNumber (a .verdict) in
     record {
       there = omega (arith, length-append front (rowWords a ++ after));
-      verdict = getD-at front v (a .bound ∷ after) 0 (wordsPerRow * k) e;
-      bound = rw (← e) (getD-append-add front (v ∷ a .bound ∷ after) 1 0);
+      verdict = getD-at front v (a .bound ∷ a .instance ∷ after) 0 (wordsPerRow * k) e;
+      bound = rw (← e) (getD-append-add front (v ∷ a .bound ∷ a .instance ∷ after) 1 0);
+      instance = rw (← e) (getD-append-add front (v ∷ a .bound ∷ a .instance ∷ after) 2 0);
     }
 
 pub row-says : (l : List Answer) (after : List ℕ) (d : Answer) (k : ℕ) → k < length l → RowSays (flatMap rowWords l ++ after) k (getD l k d)
@@ -76,7 +81,7 @@ verdict-back None = refl
 
 back : {ws : List ℕ} {k : ℕ} {a : Answer} → RowSays ws k a → answerAt ws k ≡ a
 unfolding answerAt
-back {a = a} s = rw (lt-ltb _ _ (s .there), s .verdict, s .bound, verdict-back (a .verdict)) refl
+back {a = a} s = rw (lt-ltb _ _ (s .there), s .verdict, s .bound, s .instance, verdict-back (a .verdict)) refl
 
 pub read-back : ReadBack
 unfolding withAnswer
@@ -86,7 +91,7 @@ read-back ws k a h =
 
 pub rows-read-back : RowsReadBack
 rows-read-back l after =
-    let d : Answer = record { verdict = None; bound = 0 } in
+    let d : Answer = record { verdict = None; bound = 0; instance = 0 } in
     rows-same (length l) _ (λ k. getD l k d) (λ k h. back (row-says l after d k h))
     ∙ rows-take l d (length l) (omega arith)
     ∙ take-all (length l) l (omega arith)

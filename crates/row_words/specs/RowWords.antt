@@ -10,13 +10,13 @@ use Rattle.bound.specs.declared.Verdict.{Verdict, the-variants.Met, the-variant
 use Rattle.bound.specs.declared.Answer.{Answer}
 use Rattle.bound.specs.Bound.{verdictNumber}
 
--- the words of a row: the verdict (0 met, 1 missed, 2 none), then the bound (0 for none)
+-- the words of a row: the verdict (0 met, 1 missed, 2 none), the bound and the worst instance (both 0 for none)
 abbrev pub rowWords : Answer → List ℕ
-rowWords a = verdictNumber (a .verdict) ∷ a .bound ∷ []
+rowWords a = verdictNumber (a .verdict) ∷ a .bound ∷ a .instance ∷ []
 
 -- how many these are
 abbrev pub wordsPerRow : ℕ
-wordsPerRow = 2
+wordsPerRow = 3
 
 -- all words of row k are there
 abbrev pub hasRow : List ℕ → ℕ → Bool
@@ -34,6 +34,9 @@ verdictAt ws k = getD ws (wordsPerRow * k) 0
 abbrev pub boundAt : List ℕ → ℕ → ℕ
 boundAt ws k = getD ws (wordsPerRow * k + 1) 0
 
+abbrev pub instanceAt : List ℕ → ℕ → ℕ
+instanceAt ws k = getD ws (wordsPerRow * k + 2) 0
+
 -- a verdict from its number
 abbrev pub verdictOfNumber : ℕ → Verdict
 verdictOfNumber v = cond (eqb v 0) Met (cond (eqb v 1) Missed None)
@@ -42,8 +45,8 @@ verdictOfNumber v = cond (eqb v 0) Met (cond (eqb v 1) Missed None)
 unfoldable pub answerAt : List ℕ → ℕ → Answer
 answerAt ws k =
     cond (hasRow ws k)
-    (record { verdict = verdictOfNumber (verdictAt ws k); bound = boundAt ws k })
-    (record { verdict = None; bound = 0 })
+    (record { verdict = verdictOfNumber (verdictAt ws k); bound = boundAt ws k; instance = instanceAt ws k })
+    (record { verdict = None; bound = 0; instance = 0 })
 
 -- the answers of the first n rows
 abbrev pub answersIn : ℕ → List ℕ → List Answer

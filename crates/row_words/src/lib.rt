@@ -9,8 +9,8 @@ use bound::Answer;
 use bound::Verdict;
 use names::Row;
 
-// The words of a row: its verdict and its bound.
-pub const WORDS_PER_ROW: usize = 2;
+// The words of a row: its verdict, its bound and its worst instance.
+pub const WORDS_PER_ROW: usize = 3;
 
 fn number(v: Verdict) -> u64
     ensures { λ r. ⌜ r ≡ verdictNumber v ⌝ }
@@ -46,6 +46,7 @@ pub fn put_answer(words: &mut [u64], row: Row, answer: Answer) -> bool
     let at = WORDS_PER_ROW * row.0;
     words[at] = number(verdict);
     words[at + 1] = answer.bound;
+    words[at + 2] = answer.instance;
     true
 }
 
@@ -57,11 +58,13 @@ pub fn answer_in(words: &[u64], row: Row) -> Answer
         return Answer {
             verdict: Verdict::None,
             bound: 0,
+            instance: 0,
         };
     }
     let at = WORDS_PER_ROW * row.0;
     Answer {
         verdict: verdict(words[at]),
         bound: words[at + 1],
+        instance: words[at + 2],
     }
 }

@@ -57,11 +57,11 @@ fn answered() {
     let p1 = streams(5, 655370, 2);
     let timing = [4, 1, 1, 2, 1, 1, 2, 1, 4];
     let gaps = [1000];
-    let mut long = [7; 8];
+    let mut long = [7; 11];
     screen(p1, &timing, &gaps[..0], &mut long);
-    let mut short = [7; 5];
+    let mut short = [7; 8];
     screen(p1, &timing, &gaps[..0], &mut short);
-    let mut enough = [7; 6];
+    let mut enough = [7; 9];
     screen(p1, &timing, &gaps, &mut enough);
 }
 
@@ -70,7 +70,7 @@ fn lengths() {
     let p1 = streams(5, 655370, 2);
     let timing = [4, 1, 1, 2, 1, 1, 2, 1, 4, 30, 9];
     let gaps = [1000; 9];
-    let mut out = [7; 6];
+    let mut out = [7; 9];
     screen(p1, &timing[..8], &gaps[..0], &mut out);
     screen(p1, &timing, &gaps, &mut out);
     screen(p1, &timing[..10], &gaps[..0], &mut out);

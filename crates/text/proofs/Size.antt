@@ -10,15 +10,15 @@ use Rattle.bound.specs.declared.Answer.{Answer}
 use Rattle.plan.specs.declared.Stream.{Stream}
 use Rattle.plan.specs.Plan.{blank}
 use Rattle.decimal.proofs.Decimal.{few-digits}
-use Rattle.text.specs.Listing.{group, boundText, verdictText, header, row, listedRows, listingOf, refusedOf}
+use Rattle.text.specs.Listing.{group, boundedText, verdictText, header, row, listedRows, listingOf, refusedOf}
 use Rattle.text.proofs.Laying.{all-put}
 use Rattle.text.specs.Claims.{beside, Printed, LargestListing, NeverFull, LargestRefusal}
 
 -- ---- the fields
-bound-size : (w : ℕ) (v : Verdict) (b : ℕ) → 1 ≤ w → b < 10 ^ w → length (boundText v b) ≤ w
-bound-size w Met b h l = few-digits w b h l
-bound-size w Missed b h l = few-digits w b h l
-bound-size w None b h l = h
+bounded-size : (w : ℕ) (v : Verdict) (b : ℕ) → 1 ≤ w → b < 10 ^ w → length (boundedText v b) ≤ w
+bounded-size w Met b h l = few-digits w b h l
+bounded-size w Missed b h l = few-digits w b h l
+bounded-size w None b h l = h
 
 verdict-size : (v : Verdict) → length (verdictText v) ≤ 6
 verdict-size Met = omega arith
@@ -26,33 +26,35 @@ verdict-size Missed = omega arith
 verdict-size None = omega arith
 
 -- ---- the lines
-row-size : (w : ℕ) (s : Stream) (a : Answer) → 1 ≤ w → Printed s → a .bound < 10 ^ w → length (row s a) ≤ beside + w
+row-size : (w : ℕ) (s : Stream) (a : Answer) → 1 ≤ w → Printed s → a .bound < 10 ^ w → a .instance < 10 ^ w → length (row s a) ≤ beside + 2 * w
 unfolding row
-row-size w s a h p l =
+row-size w s a h p l i =
     simp length-append
     (omega (
       arith,
       few-digits 5 (s .label .0 / group) (omega arith) (omega (arith, p .label)),
       few-digits 5 (s .label .0 % group) (omega arith) (omega arith),
       few-digits 10 (s .priority .0) (omega arith) (omega (arith, p .priority)),
-      bound-size w (a .verdict) (a .bound) h l,
+      bounded-size w (a .verdict) (a .bound) h l,
+      bounded-size w (a .verdict) (a .instance) h i,
       few-digits 10 (s .deadline) (omega arith) (omega (arith, p .deadline)),
       verdict-size (a .verdict),
     ))
 
 rows-size : (w : ℕ) (ss : List Stream) (answers : List Answer) → 1 ≤ w
     → ((k : ℕ) → k < length ss → Printed (getD ss k blank)) → ((k : ℕ) → k < length answers → getD (map (λ a. a .bound) answers) k 0 < 10 ^ w)
-    → length (listedRows ss answers) ≤ length ss * (beside + w)
+    → ((k : ℕ) → k < length answers → getD (map (λ a. a .instance) answers) k 0 < 10 ^ w)
+    → length (listedRows ss answers) ≤ length ss * (beside + 2 * w)
 unfolding listedRows
-rows-size w [] answers h p l = omega arith
-rows-size w (s ∷ ss) [] h p l = omega arith
-rows-size w (s ∷ ss) (a ∷ answers) h p l =
+rows-size w [] answers h p l i = omega arith
+rows-size w (s ∷ ss) [] h p l i = omega arith
+rows-size w (s ∷ ss) (a ∷ answers) h p l i =
     omega (
       arith,
       length-append (row s a) (listedRows ss answers),
-      suc-mul (length ss) (beside + w),
-      row-size w s a h (p 0 (omega arith)) (l 0 (omega arith)),
-      rows-size w ss answers h (λ k g. p (suc k) (omega arith)) (λ k g. l (suc k) (omega arith)),
+      suc-mul (length ss) (beside + 2 * w),
+      row-size w s a h (p 0 (omega arith)) (l 0 (omega arith)) (i 0 (omega arith)),
+      rows-size w ss answers h (λ k g. p (suc k) (omega arith)) (λ k g. l (suc k) (omega arith)) (λ k g. i (suc k) (omega arith)),
     )
 
 -- ---- the listing
@@ -62,8 +64,8 @@ largest-listing w p answers h l =
     omega (
       arith,
       length-append header (listedRows (p .streams) answers),
-      rows-size w (p .streams) answers h (l .stream) (l .bound),
-      mul-le-mul-right (beside + w) (l .count),
+      rows-size w (p .streams) answers h (l .stream) (l .bound) (l .instance),
+      mul-le-mul-right (beside + 2 * w) (l .count),
     )
 
 pub never-full : NeverFull

@@ -34,26 +34,27 @@ pub record Printed (s : Stream) : Type 0 where
   pub priority : s .priority .0 ≤ ticks
   pub deadline : s .deadline ≤ ticks
 
--- a plan of at most 64 streams with such words, and answers whose bounds have at most w digits
+-- a plan of at most 64 streams with such words, and answers whose bounds and instances have at most w digits
 pub record Listed (w : ℕ) (p : Plan) (answers : List Answer) : Type 0 where
   pub count : length (p .streams) ≤ streams
   pub stream : (k : ℕ) → k < length (p .streams) → Printed (at p k)
   pub bound : (k : ℕ) → k < length answers → getD (map (λ a. a .bound) answers) k 0 < 10 ^ w
+  pub instance : (k : ℕ) → k < length answers → getD (map (λ a. a .instance) answers) k 0 < 10 ^ w
 
--- what a row has at most beside its bound: 11 bytes of its label, 10 of its priority, 10 of its deadline, 6 of its verdict, 4 spaces and
--- the newline
+-- what a row has at most beside its bound and its instance: 11 bytes of its label, 10 of its priority, 10 of its deadline, 6 of its
+-- verdict, 5 spaces and the newline
 abbrev pub beside : ℕ
-beside = 11 + 10 + 10 + 6 + 4 + 1
+beside = 11 + 10 + 10 + 6 + 5 + 1
 
--- the header, and 64 rows whose bounds have at most w digits
+-- the header, and 64 rows whose bounds and instances have at most w digits
 abbrev pub most : ℕ → ℕ
-most w = length header + streams * (beside + w)
+most w = length header + streams * (beside + 2 * w)
 
--- no listing has more; bounds up to 8,589,934,590 have 10 digits at most
+-- no listing has more; bounds up to 8,589,934,590, and instances below 4,294,967,295, have 10 digits at most
 abbrev pub LargestListing : Type 0
 LargestListing = (w : ℕ) (p : Plan) (answers : List Answer) → 1 ≤ w → Listed w p answers → length (listingOf p answers) ≤ most w
 
--- a buffer that holds bounds of 20 digits is never too small: no 64-bit word has more
+-- a buffer that holds bounds and instances of 20 digits is never too small: no 64-bit word has more
 abbrev pub NeverFull : Type 0
 NeverFull =
     (p : Plan) (answers : List Answer) (buffer : List ℕ) → Listed 20 p answers → most 20 ≤ length buffer

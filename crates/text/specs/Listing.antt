@@ -1,4 +1,4 @@
--- The listing of document 01, "Plans to run", byte by byte.
+-- The listing of document 01, "Plans to run", with the instance that gives the bound (document 02, request 03), byte by byte.
 use mathlib.Core.List.{List, [], _∷_, _++_}
 use Prim.Native.Nat.{ℕ, _/_, _%_}
 use Rattle.names.specs.declared.Label.{Label}
@@ -26,11 +26,11 @@ group = 65536
 abbrev pub labelText : Label → List ℕ
 labelText l = digits (l .0 / group) ++ point ∷ digits (l .0 % group)
 
--- a row that is none prints "-" as its bound ..
-abbrev pub boundText : Verdict → ℕ → List ℕ
-boundText Met b = digits b
-boundText Missed b = digits b
-boundText None b = ascii "-"
+-- a row that is none prints "-" as its bound and as its instance ..
+abbrev pub boundedText : Verdict → ℕ → List ℕ
+boundedText Met b = digits b
+boundedText Missed b = digits b
+boundedText None b = ascii "-"
 
 -- .. and "none" as its verdict
 abbrev pub verdictText : Verdict → List ℕ
@@ -40,7 +40,7 @@ verdictText None = ascii "none"
 
 -- the first line
 abbrev pub header : List ℕ
-header = line (ascii "label" ∷ ascii "priority" ∷ ascii "bound" ∷ ascii "deadline" ∷ ascii "verdict" ∷ [])
+header = line (ascii "label" ∷ ascii "priority" ∷ ascii "bound" ∷ ascii "instance" ∷ ascii "deadline" ∷ ascii "verdict" ∷ [])
 
 -- the line of a stream and its answer
 unfoldable pub row : Stream → Answer → List ℕ
@@ -48,7 +48,8 @@ row s a =
     line
     (labelText (s .label)
     ∷ digits (s .priority .0)
-    ∷ boundText (a .verdict) (a .bound)
+    ∷ boundedText (a .verdict) (a .bound)
+    ∷ boundedText (a .verdict) (a .instance)
     ∷ digits (s .deadline)
     ∷ verdictText (a .verdict)
     ∷ [])

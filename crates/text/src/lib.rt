@@ -82,12 +82,13 @@ pub fn lay_label(out: &mut [u8], at: usize, label: Label) -> usize
     lay_number(out, at, number as u64)
 }
 
-fn lay_bound(out: &mut [u8], at: usize, verdict: Verdict, bound: u64) -> usize
-    ensures { λ r. ⌜ Lays (now (out .entry)) at (text.boundText verdict bound) r (now (out .exit)) ⌝ }
+// A row's bound or its instance, of which a row that is none has neither.
+fn lay_bounded(out: &mut [u8], at: usize, verdict: Verdict, x: u64) -> usize
+    ensures { λ r. ⌜ Lays (now (out .entry)) at (text.boundedText verdict x) r (now (out .exit)) ⌝ }
 {
     match verdict {
-        Verdict::Met => lay_number(out, at, bound),
-        Verdict::Missed => lay_number(out, at, bound),
+        Verdict::Met => lay_number(out, at, x),
+        Verdict::Missed => lay_number(out, at, x),
         Verdict::None => lay(out, at, b'-'),
     }
 }
@@ -111,7 +112,9 @@ fn lay_row(out: &mut [u8], at: usize, stream: Stream, answer: Answer) -> usize
     let at = lay(out, at, b' ');
     let at = lay_number(out, at, stream.priority.0 as u64);
     let at = lay(out, at, b' ');
-    let at = lay_bound(out, at, verdict, answer.bound);
+    let at = lay_bounded(out, at, verdict, answer.bound);
+    let at = lay(out, at, b' ');
+    let at = lay_bounded(out, at, verdict, answer.instance);
     let at = lay(out, at, b' ');
     let at = lay_number(out, at, stream.deadline as u64);
     let at = lay(out, at, b' ');
@@ -122,7 +125,7 @@ fn lay_row(out: &mut [u8], at: usize, stream: Stream, answer: Answer) -> usize
 fn lay_header(out: &mut [u8], at: usize) -> usize
     ensures { λ r. ⌜ Lays (now (out .entry)) at text.header r (now (out .exit)) ⌝ }
 {
-    lay_text(out, at, b"label priority bound deadline verdict\n")
+    lay_text(out, at, b"label priority bound instance deadline verdict\n")
 }
 
 fn lay_listing(out: &mut [u8], at: usize, sheet: Sheet, answers: &[u64]) -> usize

@@ -25,6 +25,9 @@ const MOST_GAPS: usize = 8;
 const LARGEST: usize = Edition::Two.size(MOST_STREAMS, MOST_GAPS);
 const LONGEST_SLOT: u32 = 5_000_000;
 
+/// The words of a row's answer: its verdict, its bound, and the instance that gives it.
+pub const ROW: usize = 3;
+
 /// The longest busy period that counts.
 const HORIZON: u64 = u32::MAX as u64;
 
@@ -327,6 +330,13 @@ impl Load {
     }
 }
 
+/// How late a stream's messages can be, and which of them is as late as that: the first such instance.
+#[derive(Clone, Copy, Debug, PartialEq, Eq)]
+pub struct Worst {
+    pub bound: u64,
+    pub instance: u64,
+}
+
 /// A stream with all that bears on it.
 pub struct Level<'a> {
     pub row: usize,
@@ -393,20 +403,25 @@ impl Level<'_> {
         }
     }
 
-    fn term(&self, q: u64, wait: u64) -> i64 {
+    /// How late instance q is, if it waits so long.
+    pub fn term(&self, q: u64, wait: u64) -> i64 {
         (self.own.jitter + wait + self.own.last) as i64 - (q * self.own.period) as i64
     }
 
-    pub fn bound(&self) -> Option<u64> {
+    pub fn worst(&self) -> Option<Worst> {
         let instances = self.instances(self.busy_period()?);
         let mut wait = self.wait(0, 0);
-        let mut largest = self.term(0, wait);
+        let (mut largest, mut instance) = (self.term(0, wait), 0);
         for q in 1..instances {
             // An instance waits at least for the whole of the one before it.
             wait = self.wait(q, wait + self.own.cost);
-            largest = largest.max(self.term(q, wait));
+            let term = self.term(q, wait);
+            // Of instances that are equally late the first is told.
+            if term > largest {
+                (largest, instance) = (term, q);
+            }
         }
-        Some(largest as u64)
+        Some(Worst { bound: largest as u64, instance })
     }
 }
 
@@ -466,21 +481,21 @@ fn extremes(loads: &[Load], before: u64) -> Vec<(u64, u64)> {
     both
 }
 
-fn answer(bound: Option<u64>, deadline: u32) -> [u64; 2] {
-    match bound {
-        None => [2, 0],
-        Some(bound) => [u64::from(bound > u64::from(deadline)), bound],
+fn answer(worst: Option<Worst>, deadline: u32) -> [u64; ROW] {
+    match worst {
+        None => [2, 0, 0],
+        Some(Worst { bound, instance }) => [u64::from(bound > u64::from(deadline)), bound, instance],
     }
 }
 
 /// Answers a plan whose values are known to be right.
 fn answer_checked(plan: &Plan, words: &mut [u64]) -> Result<(), Refused> {
-    let Some(rows) = words.get_mut(..2 * plan.streams.len()) else {
+    let Some(rows) = words.get_mut(..ROW * plan.streams.len()) else {
         return refused(6, 0);
     };
     for level in Analysis::new(plan).levels() {
         let row = level.row;
-        rows[2 * row..2 * row + 2].copy_from_slice(&answer(level.bound(), plan.streams[row].deadline));
+        rows[ROW * row..][..ROW].copy_from_slice(&answer(level.worst(), plan.streams[row].deadline));
     }
     Ok(())
 }

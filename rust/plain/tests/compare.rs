@@ -4,12 +4,12 @@
 mod common;
 
 use common::{
-    bytes, drawn, edge_plan, edition_2_of, file_of, hex, in_slots, lent, need_all, other_slot, plan, plan_in, plan_of, repeat,
-    shortest_slot, stream, tally_refusal, tally_rows, tally_slot, words, work, ByEdition, Counts, Rng, Tally, BASE, H, LARGEST,
-    LONGEST_SLOT, MOST_WORK,
+    bytes, drawn, edge_plan, edition_2_of, file_of, hex, in_slots, lent, lent_words, need_all, other_slot, plan, plan_in,
+    plan_of, repeat, shortest_slot, stream, tally_instance, tally_no_room, tally_refusal, tally_rows, tally_slot, tally_tie,
+    terms, words, work, ByEdition, Counts, Rng, Tally, BASE, H, LARGEST, LONGEST_SLOT, MOST_WORK,
 };
 use livnakesh::{Compared, Label, Priority, Reason, Refused, Stream};
-use plain::{self, Analysis, Edition, Level, Plan, P};
+use plain::{self, Analysis, Edition, Plan, Worst, P, ROW};
 
 // ---- both on one file ----
 
@@ -20,13 +20,14 @@ fn streams(rng: &mut Rng, file: &[u8]) -> usize {
 
 fn answers_alike(rng: &mut Rng, file: &[u8], tally: &mut Tally) -> Option<Vec<u64>> {
     let n = streams(rng, file);
-    let found = words(rng.next(), lent(rng, 2 * n, tally));
+    let found = lent_words(rng, n, tally);
     let (mut proved, mut ours) = (found.clone(), found.clone());
     let said = livnakesh::answer_words(file, &mut proved);
     assert_eq!(said, plain::answers(file, &mut ours), "answers, {} words lent: {}", found.len(), hex(file));
     assert_eq!(proved, ours, "answers, {} words lent: {}", found.len(), hex(file));
     tally_refusal(tally, said);
-    let kept = if said.is_ok() { 2 * n } else { 0 };
+    tally_no_room(tally, n, found.len(), said);
+    let kept = if said.is_ok() { ROW * n } else { 0 };
     assert_eq!(proved[kept..], found[kept..], "words after the answers: {}", hex(file));
     tally_rows(tally, &proved[..kept]);
     said.ok().map(|()| proved[..kept].to_vec())
@@ -104,6 +105,8 @@ fn drawn_plans() {
     }
     tallies.print("drawn plans");
     tallies.need_all(&["row: met", "row: missed", "row: none", "refusal 6"], 10_000);
+    tallies.need_all(&["refusal 6: room but for the instances"], 5_000);
+    tallies.need_all(&["worst: the first instance", "worst: the second instance", "worst: a later instance"], 1_000);
     tallies.need_all(&["lent: too short", "lent: exact", "lent: longer", "streams: 1", "streams: 64"], 5_000);
     tallies.need_all(&["load: below 50 %", "load: 50 to 89 %", "load: 90 to 99 %", "load: 100 % and above"], 5_000);
     tallies.need_all(&["gaps: 0", "gaps: 8", "NB: 1 to 4", "NB: 5 to 31", "NB: 32"], 1_000);
@@ -157,7 +160,7 @@ fn slots_next_to_every_message() {
                 assert_eq!((&proved, &ours), (written, written), "{lent} bytes lent: {}", hex(&file));
             }
             let wanted = Err(too_long.unwrap_or(Refused { number: 6, place: 0 }));
-            let mut few = words(rng.next(), 2 * n - 1);
+            let mut few = words(rng.next(), ROW * n - 1);
             let found = few.clone();
             assert_eq!(livnakesh::answer_words(&file, &mut few), wanted, "{}", hex(&file));
             assert_eq!(few, found, "{}", hex(&file));
@@ -251,8 +254,9 @@ fn ceil(ticks: u64, by: u32) -> u64 {
     ticks.div_ceil(u64::from(by))
 }
 
-/// The bound as documents 01 and 02 say it: each least number is looked for by counting up. Nothing if L is more than `most`.
-fn bound_by_counting(plan: &Plan, row: usize, most: u64) -> Option<u64> {
+/// The terms of a row's instances as documents 01 and 02 say it: each least number is looked for by counting up. Nothing if L is
+/// more than `most`.
+fn terms_by_counting(plan: &Plan, row: usize, most: u64) -> Option<Vec<i64>> {
     let slots = plan.timing[P] > 0;
     let [p, h] = [P, H].map(|k| u64::from(plan.timing[k]));
     let v = if slots { 0 } else { plain::before(&plan.timing) };
@@ -271,9 +275,16 @@ fn bound_by_counting(plan: &Plan, row: usize, most: u64) -> Option<u64> {
     let terms = (0..instances(busy)).map(|q| {
         let right = |w: u64| blocking + q * cost(own) + sum(w + v + 1) + noise(w + cost(own));
         let wait = (0..=busy - cost(own)).find(|&w| w == right(w)).expect("w(q) is never more than L - C''");
-        i128::from(own.jitter) + i128::from(wait + last) - i128::from(q) * i128::from(own.period)
+        (u64::from(own.jitter) + wait + last) as i64 - (q * u64::from(own.period)) as i64
     });
-    terms.max().map(|largest| u64::try_from(largest).expect("the term for q = 0 is not below zero"))
+    Some(terms.collect())
+}
+
+/// The largest term, and the first instance that has it.
+fn worst_of(terms: &[i64]) -> Worst {
+    let largest = *terms.iter().max().expect("a busy period has an instance");
+    let instance = terms.iter().position(|&term| term == largest).expect("the largest is one of them");
+    Worst { bound: u64::try_from(largest).expect("the term for q = 0 is not below zero"), instance: instance as u64 }
 }
 
 fn small_plan(rng: &mut Rng) -> Plan {
@@ -297,31 +308,72 @@ fn small_plan(rng: &mut Rng) -> Plan {
     plan
 }
 
+/// Messages of one cost, and periods and jitters of whole and half costs, so that many instances are equally late.
+fn even_plan(rng: &mut Rng) -> Plan {
+    let mut plan = small_plan(rng);
+    let payload = plan.streams[0].payload;
+    plan.streams.iter_mut().for_each(|s| s.payload = payload);
+    if plan.timing[P] > 0 {
+        plan.timing[P] = shortest_slot(&plan);
+    }
+    let cost = plain::slot(&plan.timing).unwrap_or(plain::setup(&plan.timing) + u64::from(payload));
+    let n = plan.streams.len() as u64;
+    for s in &mut plan.streams {
+        let halves = rng.within((2 * n - 2).max(2), 2 * n + 3);
+        s.period = (cost * halves / 2) as u32;
+        s.jitter = if rng.one_in(3) { (cost * rng.below(2 * halves) / 2) as u32 } else { 0 };
+    }
+    if !rng.one_in(4) {
+        plan.gaps.clear();
+    }
+    plan
+}
+
 #[test]
 fn plain_planner_by_counting() {
     let (mut rng, mut tallies) = (Rng(0xC0DE), ByEdition::default());
-    for _ in 0..40_000 {
-        let plan = drawn(&mut rng, small_plan, &mut tallies);
+    for _ in 0..60_000 {
+        let draw = if rng.one_in(3) { even_plan } else { small_plan };
+        let plan = drawn(&mut rng, draw, &mut tallies);
         let tally = tallies.of(&plan);
         for level in Analysis::new(&plan).levels() {
-            let counted = bound_by_counting(&plan, level.row, 4_000);
+            let counted = terms_by_counting(&plan, level.row, 4_000);
             let busy_period = level.busy_period();
             if counted.is_none() && busy_period.is_some_and(|length| length > 4_000) {
                 tally.count("busy period too long to count");
                 continue;
             }
-            assert_eq!(level.bound(), counted, "row {} of {}", level.row, hex(&file_of(&plan)));
-            tally.count(if counted.is_some() { "bound" } else { "none" });
-            tally.count(if later_is_worst(&level) { "worst: a later instance" } else { "worst: the first instance" });
+            let worst = counted.as_deref().map(worst_of);
+            assert_eq!(level.worst(), worst, "row {} of {}", level.row, hex(&file_of(&plan)));
+            tally.count(if worst.is_some() { "bound" } else { "none" });
+            if let (Some(worst), Some(terms)) = (worst, counted) {
+                tally_instance(tally, worst.instance);
+                tally_tie(tally, &terms);
+            }
         }
     }
     tallies.print("plain planner against the rule by counting up");
     tallies.need_all(&["bound", "none", "worst: the first instance"], 1_000);
-    tallies.need_all(&["worst: a later instance"], 400);
+    tallies.need_all(&["worst: the second instance", "tie: the first instance and a later one"], 300);
+    tallies.need_all(&["worst: a later instance"], 100);
+    tallies.need_all(&["tie: two later instances"], 25);
 }
 
-fn later_is_worst(level: &Level) -> bool {
-    level.bound().is_some_and(|bound| bound > level.own.jitter + level.wait(0, 0) + level.own.last)
+/// Of instances that are equally late both planners tell the first.
+#[test]
+fn equally_late_instances() {
+    let (mut rng, mut tallies) = (Rng(0x71E), ByEdition::default());
+    for _ in 0..60_000 {
+        let plan = drawn(&mut rng, even_plan, &mut tallies);
+        let tally = tallies.of(&plan);
+        if answers_alike(&mut rng, &file_of(&plan), tally).is_some() {
+            Analysis::new(&plan).levels().filter_map(|level| terms(&level)).for_each(|terms| tally_tie(tally, &terms));
+        }
+    }
+    tallies.print("equally late instances");
+    tallies.need_all(&["tie: the first instance and a later one"], 500);
+    tallies.need_all(&["tie: two later instances"], 50);
+    tallies.need_all(&["worst: the second instance", "worst: a later instance"], 150);
 }
 
 // ---- files that are not right ----
@@ -662,20 +714,23 @@ fn demand_3(old: &Plan, new: &Plan) -> bool {
         && plain::partnered(&old.gaps, &new.gaps)
 }
 
-/// What "lighter" promises: a bound stays one and grows no larger, and met stays met.
+/// What "lighter" promises: a bound stays one and grows no larger, and met stays met. Which instance is the worst may change.
 fn promise_kept(old: &Plan, new: &Plan, tally: &mut Tally) {
     if work(old, MOST_WORK).is_none() || work(new, MOST_WORK).is_none() {
         return tally.count("promise: chains too long");
     }
-    let (mut before, mut after) = ([9; 128], [9; 128]);
+    let (mut before, mut after) = ([9; ROW * 64], [9; ROW * 64]);
     let said = livnakesh::answer_words(&file_of(old), &mut before).and(livnakesh::answer_words(&file_of(new), &mut after));
     assert_eq!(said, Ok(()));
     for (row, stream) in new.streams.iter().enumerate() {
         let old_row = old.streams.iter().position(|s| s.label == stream.label).expect("a lighter plan has no new label");
-        let (was, is) = (&before[2 * old_row..2 * old_row + 2], &after[2 * row..2 * row + 2]);
+        let (was, is) = (&before[ROW * old_row..][..ROW], &after[ROW * row..][..ROW]);
         let kept = was[0] == 2 || (is[0] <= was[0] && is[1] <= was[1]);
         assert!(kept, "row {row} has {is:?} after {was:?}: {} and {}", hex(&file_of(old)), hex(&file_of(new)));
         tally.count(["promise: row was met", "promise: row was missed", "promise: row had none"][was[0] as usize]);
+        if was[0] != 2 && is[2] != was[2] {
+            tally.count("promise: another instance is the worst");
+        }
     }
     tally.count("promise: pair run");
 }
@@ -763,6 +818,7 @@ fn pairs_of_plans() {
     tallies.need_all(&["condition 5, longer payload", "condition 6, shorter deadline", "condition 7, less urgent"], 500);
     tallies.need_all(&["condition 8, more noise", "condition 9, master node"], 500);
     tallies.need_all(&["promise: row was met", "promise: row was missed", "promise: row had none"], 500);
+    tallies.need_all(&["promise: another instance is the worst"], 50);
     for number in [1, 2, 3, 4, 5, 10] {
         tallies.need_all(&[&format!("first refused {number}"), &format!("second refused {number}")], 100);
     }

@@ -11,26 +11,26 @@
 
 mod common;
 
-use common::{file_of, stream};
+use common::{file_of, met, missed, stream};
 use livnakesh::{Answer, Refused};
-use plain::{self, Plan, Timing};
+use plain::{self, Plan, Timing, ROW};
 
 /// The answers of a plan, by both planners.
 fn answers(plan: &Plan) -> Vec<Answer> {
     let file = file_of(plan);
-    let (mut proved, mut ours) = ([0; 20], [0; 20]);
+    let (mut proved, mut ours) = ([0; ROW * 10], [0; ROW * 10]);
     assert_eq!(livnakesh::answer_words(&file, &mut proved), Ok(()));
     assert_eq!(plain::answers(&file, &mut ours), Ok(()));
     assert_eq!(proved, ours);
     livnakesh::answers(&file).expect("a plan that is not refused")
 }
 
-/// The bounds of a plan in which all is met.
+/// The bounds of a plan in which all is met, each by its first instance, as in the papers.
 fn bounds(plan: &Plan) -> [u64; 10] {
     let answers = answers(plan);
     std::array::from_fn(|row| match answers[row] {
-        Answer::Met(bound) => bound,
-        other => panic!("{other:?} where the paper meets all deadlines"),
+        Answer::Met { bound, instance: 0 } => bound,
+        other => panic!("{other:?} where the paper meets all deadlines, latest at the first instance"),
     })
 }
 
@@ -116,7 +116,7 @@ fn example_1_with_the_constants_of_001() {
     let (v, sent) = (plain::before(&timing), plain::overhead(&timing) + 2_093);
     assert_eq!((v, sent, v + sent), (23_713, SENT - 1_145 + 555, COST + 555 + 486 - 192));
     let found = answers(&example_1(timing));
-    assert_eq!(found[..4], [Answer::Missed(64_068), Answer::Met(195_741), Answer::Met(459_087), Answer::Missed(1_029_670)]);
+    assert_eq!(found[..4], [missed(64_068), met(195_741), met(459_087), missed(1_029_670)]);
     assert_eq!(found[4..], [Answer::None; 6]);
     assert_eq!(above(&MEASURED, &[64_068, 195_741, 459_087, 1_029_670]), []);
     // What streams ask of the 32,768,000 ticks in which all their periods end.
@@ -351,7 +351,7 @@ fn slots_with_the_constants_of_000() {
 fn the_shortest_slot() {
     let says = |pulse| {
         let file = file_of(&slotted(&Kit { pulse, ..CLASSICAL }, UNNAMED, 2));
-        (livnakesh::answer_words(&file, &mut [0; 20]), plain::answers(&file, &mut [0; 20]))
+        (livnakesh::answer_words(&file, &mut [0; ROW * 10]), plain::answers(&file, &mut [0; ROW * 10]))
     };
     let refused = Err(Refused { number: 10, place: 0 });
     assert_eq!(says(9_157), (refused, refused));

@@ -3,9 +3,9 @@
 
 mod common;
 
-use common::{edition_2_of, file_of, stream, values_of, BASE, LONGEST_SLOT};
+use common::{edition_2_of, file_of, met, met_at, missed, missed_at, stream, terms, values_of, BASE, LONGEST_SLOT};
 use livnakesh::{Answer, Compared, Outcome, Phase, Priority, Reason, Refused, Row};
-use plain::{self, Analysis, Level, Plan, Tournament, NB, P};
+use plain::{self, Analysis, Level, Plan, Tournament, NB, P, ROW};
 
 /// 10.1, 10.10 and 11.2.
 const LABELS: [u32; 3] = [0xa_0001, 0xa_000a, 0xb_0002];
@@ -62,26 +62,37 @@ fn p7() -> Plan {
     Plan { timing: [0, 0, 0, 0, 0, 0, 0, 0, 4, 0], streams, gaps: vec![] }
 }
 
-/// A row's two words.
-fn as_words(answer: Answer) -> [u64; 2] {
+/// With other periods of its second and its last stream.
+fn p7_with(second: u32, last: u32) -> Plan {
+    let mut plan = p7();
+    plan.streams[1].period = second;
+    plan.streams[2].period = last;
+    plan
+}
+
+/// A row's three words.
+fn as_words(answer: Answer) -> [u64; ROW] {
     match answer {
-        Answer::Met(bound) => [0, bound],
-        Answer::Missed(bound) => [1, bound],
-        Answer::None => [2, 0],
+        Answer::Met { bound, instance } => [0, bound, instance],
+        Answer::Missed { bound, instance } => [1, bound, instance],
+        Answer::None => [2, 0, 0],
     }
 }
 
 fn answers(file: &[u8]) -> Result<Vec<Answer>, Refused> {
-    let mut words = [77; 2 * 64];
+    let mut words = [77; ROW * 64];
     let proved = livnakesh::answer_words(file, &mut words);
-    let mut plain_words = [77; 2 * 64];
+    let mut plain_words = [77; ROW * 64];
     assert_eq!(plain::answers(file, &mut plain_words), proved);
     assert_eq!(plain_words, words);
     let n = plain::read(file).map_or(0, |plan| plan.streams.len());
-    assert!(words[2 * n..].iter().all(|&word| word == 77));
+    assert!(words[ROW * n..].iter().all(|&word| word == 77));
     let rows = livnakesh::answers(file);
     assert_eq!(rows.clone().map(|rows| rows.len()), proved.map(|()| n), "rows that exist, and no more");
-    assert_eq!(rows.clone().map(|rows| rows.into_iter().flat_map(as_words).collect()), proved.map(|()| words[..2 * n].to_vec()));
+    assert_eq!(
+        rows.clone().map(|rows| rows.into_iter().flat_map(as_words).collect()),
+        proved.map(|()| words[..ROW * n].to_vec())
+    );
     rows
 }
 
@@ -104,12 +115,12 @@ fn written(plan: &Plan) -> Result<Vec<u8>, Refused> {
 
 /// What the screen gets for a plan's values.
 fn screened(plan: &Plan) -> Result<Vec<Answer>, Refused> {
-    let mut words = [77; 2 * 64];
+    let mut words = [77; ROW * 64];
     livnakesh::screen_words(&plan.streams, &plan.timing, &plan.gaps, &mut words)?;
     let n = plan.streams.len();
-    assert!(words[2 * n..].iter().all(|&word| word == 77));
+    assert!(words[ROW * n..].iter().all(|&word| word == 77));
     let rows = livnakesh::screen(&plan.streams, &plan.timing, &plan.gaps)?;
-    assert_eq!(rows.iter().copied().flat_map(as_words).collect::<Vec<u64>>(), words[..2 * n]);
+    assert_eq!(rows.iter().copied().flat_map(as_words).collect::<Vec<u64>>(), words[..ROW * n]);
     Ok(rows)
 }
 
@@ -152,7 +163,7 @@ fn p1_is_its_152_bytes_and_all_is_met() {
     assert_eq!(plain::write(&p1(), &mut buffer), Ok(152));
     assert_eq!(buffer, P1);
     assert_eq!(written(&p1()), Ok(P1.to_vec()));
-    gives(&p1(), &[Answer::Met(43), Answer::Met(75), Answer::Met(74)]);
+    gives(&p1(), &[met(43), met(75), met(74)]);
     assert_eq!((plain::before(&BASE), plain::overhead(&BASE)), (8, 12));
     assert_eq!([0, 1, 2].map(|row| at_level(&p1(), row, |level| level.own.cost)), [25, 27, 22]);
 }
@@ -160,12 +171,12 @@ fn p1_is_its_152_bytes_and_all_is_met() {
 #[test]
 fn p2_has_one_noise_source() {
     let plan = Plan { gaps: vec![1_000], ..p1() };
-    gives(&plan, &[Answer::Missed(68), Answer::Met(102), Answer::Met(101)]);
+    gives(&plan, &[missed(68), met(102), met(101)]);
 }
 
 #[test]
 fn p3_takes_no_busy_period_of_0() {
-    gives(&single(25, 0), &[Answer::Met(25)]);
+    gives(&single(25, 0), &[met(25)]);
     assert_eq!(at_level(&single(25, 0), 0, |level| level.busy_period()), Some(25));
 }
 
@@ -189,16 +200,42 @@ fn p3_to_p5_with_the_periods_of_document_01_have_none() {
 
 #[test]
 fn p6_has_six_instances() {
-    gives(&single(30, 30), &[Answer::Met(55)]);
+    gives(&single(30, 30), &[met(55)]);
     let busy_period = |level: &Level| level.busy_period().map(|length| (length, level.instances(length)));
     assert_eq!(at_level(&single(30, 30), 0, busy_period), Some((150, 6)));
 }
 
+/// Alone on the channel each instance is earlier than the one before it, however much jitter there is.
+#[test]
+fn a_stream_alone_is_latest_at_its_first_instance() {
+    gives(&single(30, 90), &[missed(115)]);
+    assert_eq!(at_level(&single(30, 90), 0, terms).map(|terms| terms[..4].to_vec()), Some(vec![115, 110, 105, 100]));
+}
+
 #[test]
 fn p7_is_latest_at_its_second_instance() {
-    gives(&p7(), &[Answer::Met(19), Answer::Met(29), Answer::Met(35)]);
+    gives(&p7(), &[met(19), met(29), met_at(35, 1)]);
     assert_eq!(at_level(&p7(), 2, |level| level.busy_period()), Some(70));
     assert_eq!(at_level(&p7(), 2, |level| (level.wait(0, 0), level.wait(1, 0))), (20, 60));
+}
+
+/// The last stream's two instances wait 20 and 60, so that the terms are 30 and 70 - T: with a T of 40 they are equally late.
+/// With 30 for the second stream the waits are 20, 70 and 110, and the terms 30, 40 and 40.
+#[test]
+fn of_equally_late_instances_the_first_is_told() {
+    gives(&p7_with(35, 39), &[met(19), met(29), met_at(31, 1)]);
+    gives(&p7_with(35, 40), &[met(19), met(29), met(30)]);
+    gives(&p7_with(35, 41), &[met(19), met(29), met(30)]);
+    assert_eq!(at_level(&p7_with(35, 40), 2, terms), Some(vec![30, 30]));
+    gives(&p7_with(30, 40), &[met(19), met(29), missed_at(40, 1)]);
+    assert_eq!(at_level(&p7_with(30, 40), 2, terms), Some(vec![30, 40, 40]));
+}
+
+/// The waits are 20, 70, 110 and 140: less 39 for each period, the third instance is the latest.
+#[test]
+fn an_instance_after_the_second_is_the_latest() {
+    gives(&p7_with(30, 39), &[met(19), met(29), missed_at(42, 2)]);
+    assert_eq!(at_level(&p7_with(30, 39), 2, terms), Some(vec![30, 41, 42, 33]));
 }
 
 #[test]
@@ -235,7 +272,7 @@ fn p1_in_slots() {
     assert_eq!(file_of(&plan), SLOTS);
     assert_eq!(include_bytes!("../../../examples/slots.plan"), &SLOTS);
     assert_eq!(written(&plan), Ok(SLOTS.to_vec()));
-    gives(&plan, &[Answer::Met(47), Answer::Met(89), Answer::Met(104)]);
+    gives(&plan, &[met(47), met(89), met(104)]);
     let level = |row: usize| at_level(&plan, row, |level| (level.own.last, level.own.cost, level.wait(0, 0)));
     assert_eq!([0, 1, 2].map(level), [(18, 30, 29), (20, 30, 59), (15, 30, 89)]);
 }
@@ -243,7 +280,7 @@ fn p1_in_slots() {
 #[test]
 fn p2_in_slots() {
     let plan = Plan { gaps: vec![1_000], ..in_slots(p1(), 40) };
-    gives(&plan, &[Answer::Missed(97), Answer::Missed(189), Answer::Missed(294)]);
+    gives(&plan, &[missed(97), missed(189), missed(294)]);
 }
 
 /// The urgent stream's second message is released a tick after the pulse at 59, and then at that pulse. By V both would join.
@@ -253,16 +290,16 @@ fn a_release_after_the_pulse_is_too_late() {
         let streams = vec![stream(1, 1, period, 0, 5, 1_000), stream(2, 2, 1_000, 0, 5, 1_000)];
         in_slots(Plan { timing: BASE, streams, gaps: vec![] }, 30)
     };
-    gives(&pair(60), &[Answer::Met(47), Answer::Met(77)]);
-    gives(&pair(59), &[Answer::Met(47), Answer::Met(107)]);
+    gives(&pair(60), &[met(47), met(77)]);
+    gives(&pair(59), &[met(47), met(107)]);
 }
 
 /// A hit anywhere in the own slot costs a slot: w = 59, and the slot ends at 89.
 #[test]
 fn a_hit_may_come_until_the_slot_ends() {
     let hit = |gap: u32| in_slots(Plan { gaps: vec![gap], ..single(1_000, 0) }, 30);
-    gives(&hit(89), &[Answer::Missed(77)]);
-    gives(&hit(88), &[Answer::Missed(107)]);
+    gives(&hit(89), &[missed(77)]);
+    gives(&hit(88), &[missed(107)]);
 }
 
 /// The second instance waits for the first's slot and two more urgent ones: 39 + 8 - 18 = 29, where the first has 19 + 8.
@@ -270,21 +307,44 @@ fn a_hit_may_come_until_the_slot_ends() {
 fn a_later_instance_in_slots() {
     let streams = vec![stream(1, 1, 25, 0, 8, 25), stream(2, 2, 18, 0, 8, 28)];
     let plan = in_slots(Plan { streams, ..p7() }, 10);
-    gives(&plan, &[Answer::Met(17), Answer::Missed(29)]);
+    gives(&plan, &[met(17), missed_at(29, 1)]);
     assert_eq!(at_level(&plan, 1, |level| level.busy_period()), Some(249));
     assert_eq!(at_level(&plan, 1, |level| (level.wait(0, 0), level.wait(1, 0))), (19, 39));
+}
+
+/// Two streams take turns: an instance of the second waits two slots, 20 ticks, more than the one before it, as long as the first
+/// stream, 4 ticks slower, has not fallen back by a slot: for q = 0 to 2. With a T of 20 these are equally late, with 19 each is
+/// later than the one before it.
+#[test]
+fn equally_late_instances_in_slots() {
+    let plan = |period: u32| {
+        let streams = vec![stream(1, 1, 24, 0, 8, 25), stream(2, 2, period, 0, 8, 28)];
+        in_slots(Plan { streams, ..p7() }, 10)
+    };
+    gives(&plan(20), &[met(17), met(27)]);
+    assert_eq!(at_level(&plan(20), 1, terms), Some(vec![27, 27, 27, 17, 17, 17]));
+    gives(&plan(19), &[met(17), missed_at(29, 2)]);
+    assert_eq!(at_level(&plan(19), 1, terms).map(|terms| terms[..4].to_vec()), Some(vec![27, 28, 29, 20]));
+}
+
+/// As above, with slots of 1,000: w(q) is 1,999 + 2,000 q as long as 2 q is below a slot, and the term is 2,007 + q.
+#[test]
+fn the_500th_instance_is_the_latest() {
+    let streams = vec![stream(1, 1, 2_002, 0, 8, 2_000), stream(2, 2, 1_999, 0, 8, 2_506)];
+    let plan = in_slots(Plan { streams, ..p7() }, 1_000);
+    gives(&plan, &[met(1_007), met_at(2_506, 499)]);
 }
 
 /// With a slot of one tick nothing is waited for at all, and one stream may fill the channel.
 #[test]
 fn the_shortest_slot() {
     let timing = [0, 0, 0, 0, 0, 0, 0, 0, 1, 1];
-    gives(&Plan { timing, streams: vec![stream(1, 0, 1, 0, 1, 1)], gaps: vec![] }, &[Answer::Met(1)]);
+    gives(&Plan { timing, streams: vec![stream(1, 0, 1, 0, 1, 1)], gaps: vec![] }, &[met(1)]);
 }
 
 #[test]
 fn a_slot_as_long_as_the_longest_message() {
-    gives(&in_slots(p1(), 20), &[Answer::Met(37), Answer::Met(69), Answer::Met(74)]);
+    gives(&in_slots(p1(), 20), &[met(37), met(69), met(74)]);
     values_are_refused(&in_slots(p1(), 19), 10, 1);
     values_are_refused(&in_slots(p1(), 18), 10, 1);
     values_are_refused(&in_slots(p1(), 17), 10, 0);
@@ -317,7 +377,7 @@ fn the_lowest_wrong_field_in_slots() {
 #[test]
 fn the_stated_order_decides() {
     let mut plan = in_slots(p1(), 15);
-    let (mut bytes, mut words) = ([77; 155], [77; 5]);
+    let (mut bytes, mut words) = ([77; 155], [77; 3 * ROW - 1]);
     for refused in [
         livnakesh::write(3, 0, &values_of(&plan), &mut bytes).map(|_| ()),
         livnakesh::rewrite(&file_of(&plan), &mut bytes).map(|_| ()),
@@ -326,7 +386,7 @@ fn the_stated_order_decides() {
     ] {
         assert_eq!(refused, Err(Refused { number: 10, place: 0 }));
     }
-    assert_eq!((bytes, words), ([77; 155], [77; 5]));
+    assert_eq!((bytes, words), ([77; 155], [77; 3 * ROW - 1]));
     plan.streams[2].label = plan.streams[0].label;
     values_are_refused(&plan, 5, 2);
     plan.streams[1].priority = plan.streams[0].priority;
@@ -339,16 +399,17 @@ fn the_stated_order_decides() {
 #[test]
 fn no_slot_is_too_short_without_a_master_node() {
     let streams = vec![stream(1, 1, 1_000_000, 0, 65_535, 1_000_000)];
-    gives(&Plan { streams, ..p1() }, &[Answer::Met(65_555)]);
+    gives(&Plan { streams, ..p1() }, &[met(65_555)]);
 }
 
 #[test]
 fn nine_timing_words_are_no_master_node() {
     let plan = in_slots(p1(), 30);
-    let (mut nine, mut none) = ([77; 6], [77; 6]);
+    let (mut nine, mut none) = ([77; 9], [77; 9]);
     assert_eq!(livnakesh::screen_words(&plan.streams, &plan.timing[..P], &[], &mut nine), Ok(()));
     assert_eq!(livnakesh::screen_words(&plan.streams, &p1().timing, &[], &mut none), Ok(()));
-    assert_eq!((nine, none), ([0, 43, 0, 75, 0, 74], [0, 43, 0, 75, 0, 74]));
+    let wanted = [0, 43, 0, 0, 75, 0, 0, 74, 0];
+    assert_eq!((nine, none), (wanted, wanted));
 }
 
 /// The largest of either edition, and a few bytes more or less.

@@ -6,9 +6,9 @@
 
 mod common;
 
-use common::{file_of, work, Rng, MOST_WORK};
+use common::{file_of, terms, work, Rng, MOST_WORK};
 use livnakesh::{Compared, Label, Phase, Priority, Reason, Refused};
-use plain::{self, Tournament};
+use plain::{self, Analysis, Tournament, ROW};
 use std::io::Write;
 use std::path::{Path, PathBuf};
 use std::process::{Command, Stdio};
@@ -78,21 +78,22 @@ fn label(label: Label) -> String {
 
 /// The listing of a file, with the answer words that `answer` gives for it.
 fn listing_by(file: &[u8], answer: impl Fn(&[u8], &mut [u64]) -> Result<(), Refused>) -> String {
-    let mut words = [0; 128];
+    let mut words = [0; ROW * 64];
     if let Err(refused) = answer(file, &mut words) {
         return refusal(refused);
     }
     let plan = plain::read(file).expect("a plan that is answered");
     let row = |(stream, words): (&livnakesh::Stream, &[u64])| {
-        let (bound, verdict) = match words[0] {
-            0 => (words[1].to_string(), "met"),
-            1 => (words[1].to_string(), "missed"),
-            _ => ("-".into(), "none"),
+        let worst = || format!("{} {}", words[1], words[2]);
+        let (worst, verdict) = match words[0] {
+            0 => (worst(), "met"),
+            1 => (worst(), "missed"),
+            _ => ("- -".into(), "none"),
         };
-        format!("{} {} {bound} {} {verdict}\n", label(stream.label), stream.priority.0, stream.deadline)
+        format!("{} {} {worst} {} {verdict}\n", label(stream.label), stream.priority.0, stream.deadline)
     };
-    let rows: String = plan.streams.iter().zip(words.chunks(2)).map(row).collect();
-    format!("label priority bound deadline verdict\n{rows}")
+    let rows: String = plan.streams.iter().zip(words.chunks(ROW)).map(row).collect();
+    format!("label priority bound instance deadline verdict\n{rows}")
 }
 
 fn listing(file: &[u8]) -> String {
@@ -186,7 +187,7 @@ fn cases() -> Vec<Case> {
         std::fs::read_dir(folder).expect("the cases").map(|entry| entry.expect("a case").path()).collect();
     plans.retain(|path| path.extension().is_some_and(|kind| kind == "plan"));
     plans.sort();
-    assert!(plans.len() >= 399, "only {} cases", plans.len());
+    assert!(plans.len() >= 401, "only {} cases", plans.len());
     let case = |path: PathBuf| Case {
         name: path.file_stem().expect("a name").to_string_lossy().into_owned(),
         plan: std::fs::read(&path).expect("a plan file"),
@@ -412,10 +413,29 @@ fn sham_programs_are_seen() {
     let first_bound = |file: &[u8], words: &mut [u64]| {
         plain::answers(file, words)?;
         let bound = words[1];
-        words.chunks_mut(2).for_each(|row| row[1] = bound);
+        words.chunks_mut(ROW).for_each(|row| row[1] = bound);
         Ok(())
     };
     assert!(seen(&|case| listing_by(&case.plan, first_bound).into_bytes()));
+    // of ours: names the first instance, whichever is the latest
+    let first_instance = |file: &[u8], words: &mut [u64]| {
+        plain::answers(file, words)?;
+        words.chunks_mut(ROW).for_each(|row| row[2] = 0);
+        Ok(())
+    };
+    assert!(seen(&|case| listing_by(&case.plan, first_instance).into_bytes()));
+    // of ours: names the last of those that are equally late
+    let last_instance = |file: &[u8], words: &mut [u64]| {
+        plain::answers(file, words)?;
+        for level in Analysis::new(&plain::read(file)?).levels() {
+            let Some(terms) = terms(&level) else { continue };
+            let largest = terms.iter().max();
+            let last = (0..terms.len()).rev().find(|&q| terms.get(q) == largest).expect("the largest is one of them");
+            words[ROW * level.row + 2] = last as u64;
+        }
+        Ok(())
+    };
+    assert!(seen(&|case| listing_by(&case.plan, last_instance).into_bytes()));
     // writes no answers
     assert!(seen(&|case| listing_by(&case.plan, |file, _| plain::read(file).map(|_| ())).into_bytes()));
     // prints the same listing, whatever it reads, and copies its input, whatever that is

@@ -4,11 +4,11 @@
 mod common;
 
 use common::{
-    bytes, drawn, edge_plan, file_of, lent, need_all, other_slot, plan, plan_in, plan_of, repeat, stream, tally_refusal,
-    tally_rows, values_of, words, work, ByEdition, Counts, Rng, Tally, LARGEST, MOST_WORK,
+    bytes, drawn, edge_plan, file_of, lent, lent_words, need_all, other_slot, plan, plan_in, plan_of, repeat, stream,
+    tally_no_room, tally_refusal, tally_rows, values_of, words, work, ByEdition, Counts, Rng, Tally, LARGEST, MOST_WORK,
 };
 use livnakesh::Refused;
-use plain::{self, Edition, Plan, P};
+use plain::{self, Edition, Plan, P, ROW};
 
 /// Counts that no plan has, among them some that a cut to fewer bits or a product that wraps would take for a plan's.
 const WRONG_COUNTS: [usize; 10] =
@@ -268,17 +268,17 @@ fn screen_into(found: &[u64], plan: &Plan, timing: &[u32], tallies: &mut ByEditi
     assert_eq!(proved, ours, "{}", case());
     assert_eq!(said, as_values(&file, livnakesh::answer_words(&file, &mut by_file)), "{}", case());
     assert_eq!(proved, by_file, "{}", case());
-    let kept = if said.is_ok() { 2 * n } else { 0 };
+    let kept = if said.is_ok() { ROW * n } else { 0 };
     assert_eq!(proved[kept..], found[kept..], "words after the answers: {}", case());
     tally_rows(tally, &proved[..kept]);
     tally_said(tally, plan, said);
+    tally_no_room(tally, n, found.len(), said);
     tally_counts(tally, n, plan.gaps.len());
     said
 }
 
 fn screen_alike(rng: &mut Rng, plan: &Plan, timing: &[u32], tallies: &mut ByEdition) -> Result<(), Refused> {
-    let needed = (2 * plan.streams.len()).max(1);
-    let found = words(rng.next(), lent(rng, needed, tallies.of(plan)));
+    let found = lent_words(rng, plan.streams.len(), tallies.of(plan));
     screen_into(&found, plan, timing, tallies)
 }
 
@@ -294,6 +294,8 @@ fn screens_of_drawn_plans() {
     tallies.print("screens of drawn plans");
     tallies.need_all(&["answered", "row: met", "row: missed", "row: none"], 10_000);
     tallies.need_all(&["refusal 6", "lent: too short", "lent: exact", "lent: longer"], 5_000);
+    tallies.need_all(&["refusal 6: room but for the instances"], 1_000);
+    tallies.need_all(&["worst: the second instance", "worst: a later instance"], 300);
 }
 
 #[test]
@@ -306,14 +308,14 @@ fn words_one_short() {
                 break plan;
             }
         };
-        for length in [0, 2 * n - 1, 2 * n, 2 * n + 1] {
+        for length in [0, 2 * n, ROW * n - 1, ROW * n, ROW * n + 1] {
             let said = screen_into(&words(rng.next(), length), &plan, &plan.timing, &mut tallies);
-            let wanted = if length < 2 * n { Err(Refused { number: 6, place: 0 }) } else { Ok(()) };
+            let wanted = if length < ROW * n { Err(Refused { number: 6, place: 0 }) } else { Ok(()) };
             assert_eq!(said, wanted, "{edition:?}, {n} streams, {length} words");
         }
     }
-    tallies.print("answer words one short, exact and one more");
-    tallies.need_all(&["answered", "refusal 6"], 128);
+    tallies.print("answer words two a row, one short, exact and one more");
+    tallies.need_all(&["answered", "refusal 6: room but for the instances"], 128);
 }
 
 #[test]
@@ -386,7 +388,7 @@ fn timings_of_other_lengths() {
         for count in 0..=timing.len() {
             let lent = &timing[..count];
             let plan = Plan { timing: std::array::from_fn(|k| lent.get(k).copied().unwrap_or(0)), ..plan.clone() };
-            let said = screen_into(&words(rng.next(), 128), &plan, lent, &mut tallies);
+            let said = screen_into(&words(rng.next(), ROW * 64), &plan, lent, &mut tallies);
             let wanted = if count < 9 { Err(Refused { number: 3, place: 76 }) } else { Ok(()) };
             assert_eq!(said, wanted, "{count} timing words: {plan:?}");
         }

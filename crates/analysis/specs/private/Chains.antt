@@ -1,7 +1,9 @@
 -- The chains for L and for w: what each keeps from turn to turn, and where it stands still.
 use mathlib.Core.Path.{_≡_}
+use mathlib.Core.Bool.{cond}
 use mathlib.Core.List.{List, []}
 use Prim.Native.Nat.{ℕ, _+_, _-_, _*_, _≤_, _<_}
+use lib.Signed.{ltZ}
 use Rattle.names.specs.Limits.{ticks}
 use Rattle.laws.specs.Lists.{ceil}
 use Rattle.laws.specs.Search.{Least}
@@ -10,6 +12,7 @@ use Rattle.bound.specs.Bound.{demand, E}
 use Rattle.analysis.specs.declared.Gathered.{Gathered}
 use Rattle.analysis.specs.Gathered.{termsWith}
 use Rattle.analysis.specs.declared.searches.Own.{Own}
+use Rattle.analysis.specs.declared.searches.Reached.{Reached}
 use Rattle.analysis.specs.private.Stairs.{height, start, far, Stairs, Edges}
 
 -- i's own part of L's right side
@@ -56,6 +59,10 @@ pub record Settled (costs periods edges next : List ℕ) (n base sum from r : �
   pub least : Least (side costs periods edges n base sum) from r
   pub small : r ≤ ticks
   pub kept : RestKept costs periods next n (λ x. sum + height costs periods edges n (x + start)) r (r - base)
+
+-- the larger of two terms, of equal ones the first
+abbrev pub largerOf : Reached → Reached → Reached
+largerOf best next = cond (ltZ (best .term) (next .term)) next best
 
 -- the terms of a row with nobody else on the channel
 abbrev pub aloneTerms : Gathered → Terms

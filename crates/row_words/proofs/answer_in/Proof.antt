@@ -17,12 +17,12 @@ returns c = simp (le-ltb _ _ (c .if1 .taken))
 returns-2 : tie.Need-returns-2
 unfolding answerAt
 returns-2 c =
-    let a = c .before .before .before .before .before .before .before .args in
+    let a = c .before .before .before .before .before .before .before .before .args in
     let h : a .row .0 < length (now (a .words)) / wordsPerRow = omega arith in
-    rw (lt-ltb _ _ h, c .before .verdict .ensures) refl
+    rw (lt-ltb _ _ h, c .before .before .verdict .ensures) refl
 
 pub answer-in-spec : {M : Type 1} → statement M
 answer-in-spec =
     tie.close
     (tie.spec returns (λ c. search needs) (λ c. search needs) (λ c. search needs) (λ c κs. search needs) (λ c. search needs)
-    (λ c. search needs) (λ c. search needs) returns-2)
+    (λ c. search needs) (λ c. search needs) (λ c. search needs) (λ c. search needs) (λ c. search needs) returns-2)

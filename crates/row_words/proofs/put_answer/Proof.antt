@@ -1,4 +1,4 @@
--- There is room or there is not; the two stores are those of the row's words.
+-- There is room or there is not; the three stores are those of the row's words.
 use mathlib.Core.Path.{refl, sym}
 use Prim.Native.Nat.{_/_, _<_}
 use native.Mathlib.Omega.{arith}
@@ -18,6 +18,9 @@ returns c = simp (le-ltb _ _ (c .if1 .taken)) (refl, refl)
 slice-write-words-2 : tie.Need-slice-write-words-2
 slice-write-words-2 c = simp length-set (omega arith)
 
+slice-write-words-3 : tie.Need-slice-write-words-3
+slice-write-words-3 c = simp length-set (omega arith)
+
 returns-2 : tie.Need-returns-2
 returns-2 c =
     let a = c .before .before .before .before .before .args in
@@ -28,4 +31,4 @@ pub put-answer-spec : {M : Type 1} → statement M
 put-answer-spec =
     tie.close
     (tie.spec returns (λ c. search needs) (λ c κs. search needs) (λ c. search needs) (λ c. search needs) (λ c. search needs)
-    (λ c. search needs) slice-write-words-2 (λ c. search needs) returns-2)
+    (λ c. search needs) slice-write-words-2 (λ c. search needs) (λ c. search needs) slice-write-words-3 (λ c. search needs) returns-2)

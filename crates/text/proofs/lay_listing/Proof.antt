@@ -45,7 +45,7 @@ loop-again c =
     let s = n .before .before .before in
     let ss = s .args .t3 .streams in
     let answers = answersIn (s .args .t3 .count) (now (s .args .answers)) in
-    let nobody : Answer = record { verdict = None; bound = 0 } in
+    let nobody : Answer = record { verdict = None; bound = 0; instance = 0 } in
     let few : l .k < s .args .t3 .count = omega (arith, d .loop-test .taken, n .smaller .ensures) in
     let given : a .answer-in .result ≡ getD answers (l .k) nobody = a .answer-in .ensures ∙ sym (rows-at _ _ nobody (l .k) few) in (
       omega arith,

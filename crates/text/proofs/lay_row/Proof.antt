@@ -20,22 +20,26 @@ returns c =
     let v = e .before .before .before .before in
     let t = v .before .before .before .before in
     let n = t .before .before .before .before in
-    let r = n .before .before .before .before .before in
+    let i = n .before .before .before .before .before in
+    let q = i .before .before .before .before in
+    let r = q .before .before .before .before in
     let b = r .before .before .before .before in
     let s = b .before .before .before .before in
     let p = s .before .before .before .before in
-    let q = p .before .before .before .before .before in
-    let l = q .before .before .before .before in
+    let g = p .before .before .before .before .before in
+    let l = g .before .before .before .before in
     then (l .lay-label .ensures)
-    (then (q .lay .ensures)
+    (then (g .lay .ensures)
     (then (p .lay-number .ensures)
     (then (s .lay2 .ensures)
-    (then (b .lay-bound .ensures)
+    (then (b .lay-bounded .ensures)
     (then (r .lay3 .ensures)
+    (then (q .lay-bounded2 .ensures)
+    (then (i .lay4 .ensures)
     (then (n .lay-number2 .ensures)
-    (then (t .lay4 .ensures)
+    (then (t .lay5 .ensures)
     (then (v .lay-verdict .ensures)
-    (last (e .lay5 .ensures)))))))))) (room (l .before .before .before .before))
+    (last (e .lay6 .ensures)))))))))))) (room (l .before .before .before .before))
 
 same-length : tie.Need-same-length
 same-length c = same (returns c)
@@ -44,5 +48,5 @@ pub lay-row-spec : {M : Type 1} → statement M
 lay-row-spec =
     tie.close
     (tie.spec (λ c κs. search needs) (λ c κs. search needs) (λ c. search needs) (λ c κs. search needs) (λ c κs. search needs)
-    (λ c κs. search needs) (λ c κs. search needs) (λ c. search needs) (λ c κs. search needs) (λ c κs. search needs) (λ c κs. search needs)
-    (λ c κs. search needs) same-length returns)
+    (λ c κs. search needs) (λ c κs. search needs) (λ c κs. search needs) (λ c κs. search needs) (λ c. search needs) (λ c κs. search needs)
+    (λ c κs. search needs) (λ c κs. search needs) (λ c κs. search needs) same-length returns)

@@ -5,7 +5,7 @@
 //! tournament every step is a call of its own, in which both sides check the whole state again.
 
 use livnakesh::{Label, Outcome, Phase, Priority, Row, Stream};
-use plain::{self, Edition, Plan, Timing, Tournament};
+use plain::{self, Edition, Plan, Timing, Tournament, ROW};
 use std::hint::black_box;
 use std::time::{Duration, Instant};
 
@@ -108,7 +108,7 @@ fn row(name: &str, rounds: u32, proved: &mut dyn FnMut(), plain: &mut dyn FnMut(
 
 fn answers_row(name: &str, rounds: u32, plan: &Plan) {
     let file = file(plan);
-    let (mut proved, mut ours) = ([0; 128], [0; 128]);
+    let (mut proved, mut ours) = ([0; ROW * 64], [0; ROW * 64]);
     assert_eq!(livnakesh::answer_words(&file, &mut proved), plain::answers(&file, &mut ours));
     assert_eq!(proved, ours);
     let file = &file[..];
@@ -189,7 +189,7 @@ fn main() {
     let noisy = full(BASE_6, 9_000, gaps);
     answers_row("64 streams, 90 % load, 8 noise sources", ROUNDS, &noisy);
     let slots = full(SLOTS_6, 9_000, vec![]);
-    assert!(plain::Analysis::new(&slots).levels().all(|level| level.bound().is_some()));
+    assert!(plain::Analysis::new(&slots).levels().all(|level| level.worst().is_some()));
     answers_row("64 streams in slots, 90 % load", ROUNDS, &slots);
     let long = single(26, 40_000);
     assert_eq!(longest_busy_period(&long), Some(1_000_000));

@@ -1,8 +1,8 @@
 //! What the tests share: plans by hand, a generator, and counts of what was seen.
 #![allow(dead_code)]
 
-use livnakesh::{Label, Priority, Refused, Stream};
-use plain::{self, Analysis, Edition, Level, Plan};
+use livnakesh::{Answer, Label, Priority, Refused, Stream};
+use plain::{self, Analysis, Edition, Level, Plan, ROW};
 use std::cmp::Ordering;
 use std::collections::BTreeMap;
 use std::io::Write;
@@ -23,6 +23,24 @@ pub const MOST_WORK: u64 = 60_000;
 
 pub fn stream(label: u32, priority: u32, period: u32, jitter: u32, payload: u32, deadline: u32) -> Stream {
     Stream { label: Label(label), priority: Priority(priority), period, jitter, payload, deadline }
+}
+
+/// Met, with a bound that the first instance gives.
+pub fn met(bound: u64) -> Answer {
+    met_at(bound, 0)
+}
+
+pub fn met_at(bound: u64, instance: u64) -> Answer {
+    Answer::Met { bound, instance }
+}
+
+/// Missed, with a bound that the first instance gives.
+pub fn missed(bound: u64) -> Answer {
+    missed_at(bound, 0)
+}
+
+pub fn missed_at(bound: u64, instance: u64) -> Answer {
+    Answer::Missed { bound, instance }
 }
 
 /// A plan's values as plain words, P among them whether there is a master node or not.
@@ -334,6 +352,28 @@ fn work_at(level: &Level, terms: u64, most: u64) -> Option<u64> {
     Some(spent)
 }
 
+/// The terms of a stream's instances, in their order, or nothing if it has no bound.
+pub fn terms(level: &Level) -> Option<Vec<i64>> {
+    let instances = level.instances(level.busy_period()?);
+    let mut wait = 0;
+    let term = |q| {
+        wait = level.wait(q, wait);
+        level.term(q, wait)
+    };
+    Some((0..instances).map(term).collect())
+}
+
+/// Whether several instances share the largest term: only then does it matter that the first of them is told.
+pub fn tally_tie(tally: &mut Tally, terms: &[i64]) {
+    let largest = terms.iter().max();
+    let mut latest = (0..terms.len()).filter(|&q| terms.get(q) == largest);
+    match (latest.next(), latest.next()) {
+        (Some(0), Some(_)) => tally.count("tie: the first instance and a later one"),
+        (Some(_), Some(_)) => tally.count("tie: two later instances"),
+        _ => {}
+    }
+}
+
 pub fn drawn(rng: &mut Rng, draw: fn(&mut Rng) -> Plan, counts: &mut impl Counts) -> Plan {
     loop {
         let plan = draw(rng);
@@ -445,6 +485,18 @@ pub fn lent(rng: &mut Rng, needed: usize, tally: &mut Tally) -> usize {
     }
 }
 
+/// Lent words for the answers of so many streams.
+pub fn lent_words(rng: &mut Rng, streams: usize, tally: &mut Tally) -> Vec<u64> {
+    words(rng.next(), lent(rng, (ROW * streams).max(1), tally))
+}
+
+/// A rule that asks for no room for the instances would have answered.
+pub fn tally_no_room<T>(tally: &mut Tally, streams: usize, lent: usize, said: Result<T, Refused>) {
+    if matches!(said, Err(Refused { number: 6, .. })) && lent >= (ROW - 1) * streams {
+        tally.count("refusal 6: room but for the instances");
+    }
+}
+
 pub fn words(seed: u64, count: usize) -> Vec<u64> {
     (1..=count as u64).map(|k| seed.wrapping_mul(2 * k + 1)).collect()
 }
@@ -454,9 +506,20 @@ pub fn bytes(seed: u64, count: usize) -> Vec<u8> {
 }
 
 pub fn tally_rows(tally: &mut Tally, rows: &[u64]) {
-    for row in rows.chunks_exact(2) {
+    for row in rows.chunks_exact(ROW) {
         tally.count(["row: met", "row: missed", "row: none"][row[0] as usize]);
+        if row[0] != 2 {
+            tally_instance(tally, row[2]);
+        }
     }
+}
+
+pub fn tally_instance(tally: &mut Tally, instance: u64) {
+    tally.count(match instance {
+        0 => "worst: the first instance",
+        1 => "worst: the second instance",
+        _ => "worst: a later instance",
+    });
 }
 
 pub fn tally_refusal<T>(tally: &mut Tally, said: Result<T, Refused>) {

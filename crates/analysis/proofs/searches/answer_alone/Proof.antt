@@ -1,16 +1,17 @@
--- The search finds what the rule says, and alone on the channel the largest term is the first, from which nothing is subtracted: it is not below zero, and
--- the cast back keeps it.
+-- The search finds what the rule says, and alone on the channel the first instance is the worst. From its term nothing is subtracted: it is not below zero,
+-- and the cast back keeps it.
 use borrow.Author.Needs.{needs}
-use mathlib.Core.Path.{_≡_, sym, ap, _∙_}
+use mathlib.Core.Path.{_≡_, refl, sym, ap, _∙_}
 use Prim.Native.Nat.{_+_}
 use native.Mathlib.Nat.{add-zero}
 use lib.IntN.{pos, natAbs}
 use mir.Syntax.{w64}
 use mir.Val.{toZ, ofZ, SFits}
 use mir.Facts.{toZ-ofZ, fits-natAbs}
+use Rattle.bound.proofs.Alone.{alone-bound, alone-worst}
 use Rattle.bound.proofs.Answers.{answer-none, answer-bound}
 use Rattle.analysis.specs.declared.Gathered.{Gathered}
-use Rattle.analysis.proofs.Waits.{alone-bound}
+use Rattle.analysis.proofs.Fit.{fit-sound}
 use Rattle.analysis.proofs.searches.answer_alone.Statement.{statement}
 use Rattle.analysis.proofs.searches.answer_alone.Tie as tie
 
@@ -39,7 +40,9 @@ returns-2 c =
     let t = c .before .before .before .before in
     let b = t .before .before in
     let found = sym (b .busy-alone .ensures) ∙ t .enum-told .given .1 in
-    c .judged .ensures ∙ answer-bound _ _ _ _ found (ap natAbs (first (c .before)) ∙ alone-bound (b .before .args .g) (b .before .pre) _ found)
+    let sound = fit-sound _ _ _ (b .before .pre) in
+    c .judged .ensures
+    ∙ answer-bound _ _ _ _ _ found (ap natAbs (first (c .before)) ∙ alone-bound _ sound _ found refl refl) (sym (alone-worst _ sound _ found refl refl))
 
 pub answer-alone-spec : {M : Type 1} → statement M
 answer-alone-spec =

@@ -34,7 +34,8 @@ largest-term-requires c κs =
 returns-2 : tie.Need-returns-2
 returns-2 c =
     let t = c .before in
-    c .judged .ensures ∙ answer-bound _ _ _ _ (found (t .before .before .before)) (t .largest-term .ensures)
+    let e = t .largest-term .ensures in
+    c .judged .ensures ∙ answer-bound _ _ _ _ _ (found (t .before .before .before)) (e .0) (e .1)
 
 pub answer-among-spec : {M : Type 1} → statement M
 answer-among-spec =

@@ -1,7 +1,7 @@
--- After the turn of q, `wait` is w(q), the edges have come there, and `best` is the largest term up to q. The next search starts at w(q) + C'', since w(q + 1)
+-- After the turn of q, `wait` is w(q), the edges have come there, and `best` is the largest term up to q with the first instance that has it. The next search starts at w(q) + C'', since w(q + 1)
 -- is no lower. The first term is above zero, so the largest is, and the cast back keeps it.
 use borrow.Author.Needs.{needs}
-use mathlib.Core.Path.{_≡_, sym, ap, ap₂, _∙_}
+use mathlib.Core.Path.{_≡_, sym, ap, _∙_, subst}
 use Prim.Native.Nat.{_+_, _-_, _*_, _^_, _≤_, _<_}
 use native.Mathlib.Nat.{zero-mul, add-assoc}
 use native.Mathlib.Omega.{arith}
@@ -11,8 +11,8 @@ use mir.Val.{toZ, Fits, SFits}
 use mir.Facts.{toZ-ofZ, fits-ofZ, fits-natAbs, sfits-toZ}
 use Rattle.names.specs.Limits.{ticks}
 use Rattle.laws.proofs.Round.{ceil-le}
-use Rattle.laws.specs.Signed.{maxZ, largestTo}
-use Rattle.laws.proofs.Signed.{largest-start, largest-more}
+use Rattle.laws.specs.Signed.{largestTo, FirstLargest}
+use Rattle.laws.proofs.Signed.{finds-first-largest}
 use Rattle.bound.specs.Terms.{Terms}
 use Rattle.bound.specs.Bound as rule
 use Rattle.bound.specs.Claims.{Sound}
@@ -24,17 +24,17 @@ use Rattle.analysis.specs.private.Chains.{restW, MakesUp, RestKept}
 use Rattle.analysis.proofs.Climbing.{near-start}
 use Rattle.analysis.proofs.Fit.{fit-sound}
 use Rattle.analysis.proofs.Starts.{laid}
-use Rattle.analysis.proofs.Waits.{WaitSearch, search-first, search-next, above-base, w-small, bounded, is-w, goes-on, gone-small, term-is}
+use Rattle.analysis.proofs.Waits.{WaitSearch, search-first, search-next, above-base, w-small, bounded, is-w, goes-on, gone-small, term-is, WorstTo, worst-start, worst-more}
 use Rattle.analysis.proofs.searches.largest_term.Statement.{statement}
 use Rattle.analysis.proofs.searches.largest_term.Tie as tie
 
 abbrev Inv-loop : tie.InvT-loop
-Inv-loop g l costs periods jitters edges₀ n count ends cost base₀ nearest₀ wait₀ best₀ q₀ edges base nearest wait best q =
+Inv-loop g l costs periods jitters edges₀ n count ends cost base₀ nearest₀ wait₀ q₀ first best₀ edges base nearest wait q best =
     (q < count) × (base ≡ g .blocking + q * g .cost) × (wait ≡ rule.w (termsOf (lent g costs periods jitters)) q) × RestKept costs periods edges n (restW (termsOf (lent g costs periods jitters))) wait (wait - base)
-    × (toZ w64 best ≡ largestTo (rule.term (termsOf (lent g costs periods jitters))) q) × Fits w64 best × Near edges nearest n
+    × WorstTo (rule.term (termsOf (lent g costs periods jitters))) q best × Near edges nearest n
 
 abbrev μ-loop : tie.MeasureT-loop
-μ-loop g l costs periods jitters edges₀ n count ends cost base₀ nearest₀ wait₀ best₀ q₀ edges base nearest wait best q = count - q
+μ-loop g l costs periods jitters edges₀ n count ends cost base₀ nearest₀ wait₀ q₀ first best₀ edges base nearest wait q best = count - q
 
 -- what is lent to the function, its terms, and that the theory's conditions hold
 abbrev given : tie.Start Inv-loop μ-loop → Lent
@@ -128,8 +128,7 @@ loop-holds c =
       f .based,
       w,
       goes-on (sound s) b f (d .settled .ensures .0),
-      toZ-ofZ t ∙ c .term .ensures ∙ ap (λ z. pos (g .jitter + g .last + d .settled .result) -ℤ pos z) (sym (zero-mul (g .period))) ∙ term-is r 0 _ w ∙ sym (largest-start (rule.term r)),
-      fits-ofZ t,
+      worst-start (rule.term r) _ (toZ-ofZ t ∙ c .term .ensures ∙ ap (λ z. pos (g .jitter + g .last + d .settled .result) -ℤ pos z) (sym (zero-mul (g .period))) ∙ term-is r 0 _ w),
       d .settled .ensures .1,
     )
 
@@ -187,7 +186,7 @@ settled-requires-2 c κs =
     let d = c .before .before in
     let s = begun (d .before) in
     let i = d .before .loop .inv in
-    (record { stairs = started (edged (d .before .before .before)) .stairs; known = i .3 .known; near = i .6 }, bounded (sound s) (s .pre .1 .0) (again d))
+    (record { stairs = started (edged (d .before .before .before)) .stairs; known = i .3 .known; near = i .5 }, bounded (sound s) (s .pre .1 .0) (again d))
 
 add-q : tie.Need-add-q Inv-loop μ-loop
 add-q c = omega (arith, few (c .before .before .before .before))
@@ -227,33 +226,39 @@ loop-again c =
     let f = again d in
     let w = is-w (sound s) b f t in
     let u : SFits w64 (c .before .term2 .result) = record { sfits = c .before .term2 .ok } in
-    let v : SFits w64 (c .larger .result) = record { sfits = c .larger .ok } in (
+    let more = worst-more (rule.term r) (l .q) (l .best) _ (i .4) (toZ-ofZ u ∙ c .before .term2 .ensures ∙ term-is r (l .q + 1) _ w) in (
       d .loop-test .taken,
       f .based,
       w,
       goes-on (sound s) b f t,
-      toZ-ofZ v ∙ c .larger .ensures ∙ ap₂ maxZ (i .4) (toZ-ofZ u ∙ c .before .term2 .ensures ∙ term-is r (l .q + 1) _ w) ∙ largest-more (rule.term r) (l .q),
-      fits-ofZ v,
+      subst (WorstTo (rule.term r) (l .q + 1)) (sym (c .larger .ensures)) more,
       c .before .before .before .settled2 .ensures .1,
     )
 
-cast-result : tie.Need-cast-result Inv-loop μ-loop
-cast-result c =
-    let s = begun (c .before) in
-    let i = c .before .loop .inv in
-    (rw (i .4) (largest-pos _ (sound s) _ .0), fits-natAbs tt (sfits-toZ (i .5)))
+-- the loop's end, seen from the cast, and that the largest term fits
+abbrev ended : tie.After-struct-told Inv-loop μ-loop → tie.At-loop Inv-loop μ-loop
+ended c = c .before .before .before
+
+fits : (c : tie.After-struct-told Inv-loop μ-loop) → SFits w64 (ended c .loop .best .term)
+fits c = record { sfits = c .struct-told .given .0 .1 }
+
+cast-t20 : tie.Need-cast-t20 Inv-loop μ-loop
+cast-t20 c = (rw (toZ-ofZ (fits c), ended c .loop .inv .4 .term) (largest-pos _ (sound (begun (ended c))) _ .0), rw (toZ-ofZ (fits c)) (fits-natAbs tt (fits c)))
 
 returns : tie.Need-returns Inv-loop μ-loop
-unfolding rule.bound
+unfolding rule.bound rule.worst
 returns c =
-    let s = begun (c .before) in
-    let i = c .before .loop .inv in
-    let e : c .before .loop .q ≡ rule.Q (terms s) (s .args .l) - 1 = omega (arith, i .0, c .loop-test .left, counted (c .before)) in
-    ap natAbs (i .4 ∙ ap (largestTo (rule.term (terms s))) e)
+    let l = ended c .loop in
+    let s = begun (ended c) in
+    let f = rule.term (terms s) in
+    let e : l .q ≡ rule.Q (terms s) (s .args .l) - 1 = omega (arith, l .inv .0, c .before .before .loop-test .left, counted (ended c)) in (
+      ap natAbs (toZ-ofZ (fits c) ∙ l .inv .4 .term ∙ ap (largestTo f) e),
+      sym (finds-first-largest f _ (l .best .instance) .1 (subst (λ n. FirstLargest f n (l .best .instance)) e (l .inv .4 .first))),
+    )
 
 pub largest-term-spec : {M : Type 1} → statement M
 largest-term-spec =
     tie.close
     (tie.spec Inv-loop μ-loop add-n add-start-edges start-edges-requires instances-requires add-ends settled-requires add-term term-requires
     loop-holds add-loop sub-sum add-base add-settled settled-requires-2 add-q add-term-2 mul-term term-requires-2 (λ c κs. search needs)
-    loop-less loop-again cast-result returns)
+    loop-less loop-again cast-t20 returns)
