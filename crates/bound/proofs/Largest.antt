@@ -8,7 +8,7 @@ use lib.IntN.{pos, natAbs, _-ℤ_}
 use lib.Signed.{leZ, nonNeg, pos-natAbs}
 use Rattle.laws.specs.Signed.{largestTo}
 use Rattle.laws.proofs.Round.{ceil-pos}
-use Rattle.laws.proofs.Signed.{largest-ge, first-exists, above-pos, diff-le, finds-first-largest}
+use Rattle.laws.proofs.Signed.{largest-ge, largest-is, above-pos, diff-le, finds-first-largest}
 use Rattle.bound.specs.Terms.{Terms}
 use Rattle.bound.specs.Bound.{Q, w, term, bound, worst}
 use Rattle.bound.specs.Claims.{Sound, BoundIsLargest, BoundWithin, WorstIsFirst, WorstWithin}
@@ -37,9 +37,9 @@ pub bound-is-largest : BoundIsLargest
 unfolding bound
 bound-is-largest r s L b =
     let n = some-instance r s L (busy-is-least r L .0 b .1 .above) in
-    let (q, f) = first-exists (term r) (Q r L - 1) in (
+    let (q, h, e) = largest-is (term r) (Q r L - 1) in (
       λ q h. subst (λ z. T (leZ (term r q) z)) (sym (bound-is r s L)) (largest-ge (term r) (Q r L - 1) q (omega arith)),
-      (q, omega (arith, f .among), bound-is r s L ∙ sym (f .largest)),
+      (q, omega arith, bound-is r s L ∙ e),
       largest-pos r s (Q r L - 1) .1,
     )
 

@@ -48,14 +48,14 @@ BoundIsLargest =
     × (1 ≤ bound r L)
 
 -- q is the worst instance: it is one of the instances, its term is the bound, and no earlier one reaches it
-pub record Worst (r : Terms) (L q : ℕ) : Type 0 where
+pub record IsWorst (r : Terms) (L q : ℕ) : Type 0 where
   pub counts : q < Q r L
   pub gives : term r q ≡ pos (bound r L)
   pub earlier : (e : ℕ) → e < q → T (ltZ (term r e) (pos (bound r L)))
 
 -- the one that is named is that one, and no other
 abbrev pub WorstIsFirst : Type 0
-WorstIsFirst = (r : Terms) → Sound r → (L q : ℕ) → busy r ≡ At L → (worst r L ≡ q) ↔ Worst r L q
+WorstIsFirst = (r : Terms) → Sound r → (L q : ℕ) → busy r ≡ At L → (worst r L ≡ q) ↔ IsWorst r L q
 
 -- a stream alone on the channel, with nobody more urgent and no noise, has its first instance as the worst, however many there are
 abbrev pub AloneIsFirst : Type 0

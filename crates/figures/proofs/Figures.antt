@@ -34,7 +34,7 @@ use Rattle.tournament.specs.Answers.{startOf, runOf}
 use Rattle.figures.specs.Load.{load, delayed}
 use Rattle.figures.specs.Figures.{Entry, ofTiming, ofPlan, ofRow, ofListing, ofBytes, ofTournament}
 use Rattle.plan.specs.Plan.{at}
-use Rattle.figures.specs.Figures.{values, file, refusal, instances, instance, states, Holds, table, All, Figures}
+use Rattle.figures.specs.Figures.{values, file, refusal, instances, ofInstance, states, Holds, table, All, Figures}
 use Rattle.figures.proofs.Load.{full-is-none}
 
 -- ---- a stream: where its own period is full there is no busy period, and elsewhere it is searched for
@@ -66,7 +66,7 @@ again (ofPlan p c d) = ofPlan p (values p) (file (fileOf p))
 again (ofRow p k c L q is a) =
     let r = terms p (at p k) in
     let f = sought r (full r (r .own .T)) in
-    ofRow p k (C″ (p .timing) (at p k)) f (instances r f) (rows (instances r f) (instance r)) (answerFor r (at p k .deadline) f)
+    ofRow p k (C″ (p .timing) (at p k)) f (instances r f) (rows (instances r f) (ofInstance r)) (answerFor r (at p k .deadline) f)
 again (ofListing p size text) = ofListing p (length (fileOf p)) (listingOf p (answers p))
 again (ofBytes bs size number) = ofBytes bs (length bs) (bySize (sizeRight bs) number)
 again (ofTournament NB n places a b ss) =

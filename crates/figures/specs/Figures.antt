@@ -61,8 +61,8 @@ abbrev pub instances : Terms → Found → ℕ
 instances r (At L) = Q r L
 instances r Nothing = 0
 
-abbrev pub instance : Terms → ℕ → ℕ × ℤ
-instance r q = (w r q, term r q)
+abbrev pub ofInstance : Terms → ℕ → ℕ × ℤ
+ofInstance r q = (w r q, term r q)
 
 -- a tournament's phase, and the marks of its contenders in row order: true is in
 abbrev pub state : Tournament → Phase × List Bool
@@ -77,7 +77,7 @@ Holds (ofTiming t v u) = («V» t ≡ v) × (U t ≡ u)
 Holds (ofPlan p c d) = (values p ≡ c) × (file (fileOf p) ≡ d)
 Holds (ofRow p k c L q is a) =
     let r = terms p (at p k) in
-    (C″ (p .timing) (at p k) ≡ c) × (busy r ≡ L) × (instances r L ≡ q) × (rows q (instance r) ≡ is) × (rowAnswer p (at p k) ≡ a)
+    (C″ (p .timing) (at p k) ≡ c) × (busy r ≡ L) × (instances r L ≡ q) × (rows q (ofInstance r) ≡ is) × (rowAnswer p (at p k) ≡ a)
 Holds (ofListing p size text) = (length (fileOf p) ≡ size) × (listingOf p (answers p) ≡ text)
 Holds (ofBytes bs size number) = (length bs ≡ size) × ((any : List ℕ) → length any ≡ size → file any ≡ refusal number 0)
 Holds (ofTournament NB n places a b ss) =

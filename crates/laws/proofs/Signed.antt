@@ -2,13 +2,13 @@
 -- and what the machine's 64 bits keep of them. Assumes nothing.
 use mathlib.Core.Path.{_≡_, refl, sym, ap, _∙_, subst}
 use mathlib.Core.Bool.{Bool, true, false, cond}
-use mathlib.Core.Logic.{_⊎_, inl, inr, ⊎-elim}
+use mathlib.Core.Logic.{⊎-elim}
 use Prim.Native.Nat.{ℕ, zero, suc, _+_, _-_, _^_, _≤_, _<_}
 use native.Mathlib.Nat.{le-refl, eq-or-lt-of-le}
 use native.Mathlib.Numerals.{add-one}
 use native.Mathlib.Omega.{arith}
 use borrow.Author.Tests.{ltb-true, ltb-false}
-use lib.Dec.{T, ltb, leb, le→leb, leb→le, lt→ltb, ltb→lt}
+use lib.Dec.{T, ltb, leb, le→leb, leb→le}
 use lib.IntN.{ℤ, pos, negsuc, natAbs, _-ℤ_}
 use lib.Signed.{mag, ltZ, leZ, nonNeg, leZ-yes, ltZ-yes, ≤ℤ-refl, clashℤ}
 use mir.Syntax.{w64}
@@ -28,15 +28,6 @@ le-trans-Z (negsuc a) (pos b) (negsuc c) h k = absurd k
 le-trans-Z (negsuc a) (negsuc b) (pos c) h k = tt
 le-trans-Z (negsuc a) (negsuc b) (negsuc c) h k = le→leb c a (omega (arith, leb→le b a h, leb→le c b k))
 
-le-lt-Z : (a b c : ℤ) → T (leZ a b) → T (ltZ b c) → T (ltZ a c)
-le-lt-Z (pos a) (pos b) (pos c) h k = lt→ltb a c (omega (arith, leb→le a b h, ltb→lt b c k))
-le-lt-Z (pos a) (pos b) (negsuc c) h k = k
-le-lt-Z (pos a) (negsuc b) c h k = absurd h
-le-lt-Z (negsuc a) (pos b) (pos c) h k = tt
-le-lt-Z (negsuc a) (pos b) (negsuc c) h k = absurd k
-le-lt-Z (negsuc a) (negsuc b) (pos c) h k = tt
-le-lt-Z (negsuc a) (negsuc b) (negsuc c) h k = lt→ltb c a (omega (arith, leb→le b a h, ltb→lt c b k))
-
 lt-le : (a b : ℤ) → ltZ a b ≡ true → T (leZ a b)
 lt-le (pos a) (pos b) h = le→leb a b (omega (arith, ltb-true a b h))
 lt-le (pos a) (negsuc b) h = absurd (subst T (sym h) tt)
@@ -48,6 +39,13 @@ not-lt (pos a) (pos b) h = le→leb b a (ltb-false a b h)
 not-lt (pos a) (negsuc b) h = tt
 not-lt (negsuc a) (pos b) h = absurd (subst T h tt)
 not-lt (negsuc a) (negsuc b) h = le→leb a b (ltb-false b a h)
+
+le-lt-Z : (a b c : ℤ) → T (leZ a b) → T (ltZ b c) → T (ltZ a c)
+le-lt-Z a b c h k = go (ltZ a c) refl
+  where
+    go : (t : Bool) → ltZ a c ≡ t → T t
+    go true e = tt
+    go false e = clashℤ {a = b} {b = c} (ltZ-yes k) (leZ-yes (le-trans-Z c a b (not-lt a c e) h))
 
 -- what is equal reaches it
 reaches : (a b : ℤ) → b ≡ a → leZ a b ≡ true
@@ -106,9 +104,13 @@ next f n q h = go (ltZ (largestTo f n) (f (suc n))) refl
 pub first-more : (f : ℕ → ℤ) (n q : ℕ) → FirstLargest f n q → FirstLargest f (n + 1) (cond (ltZ (largestTo f n) (f (n + 1))) (n + 1) q)
 first-more f n q h = rw add-one (next f n q h)
 
-pub first-exists : (f : ℕ → ℤ) (n : ℕ) → (q : ℕ) × FirstLargest f n q
+first-exists : (f : ℕ → ℤ) (n : ℕ) → (q : ℕ) × FirstLargest f n q
 first-exists f zero = (0, first-start f)
 first-exists f (suc n) = let (q, h) = first-exists f n in (cond (ltZ (largestTo f n) (f (suc n))) (suc n) q, next f n q h)
+
+-- so the largest is one of them
+pub largest-is : (f : ℕ → ℤ) (n : ℕ) → (q : ℕ) × (q ≤ n) × (largestTo f n ≡ f q)
+largest-is f n = let (q, h) = first-exists f n in (q, h .among, sym (h .largest))
 
 pub finds-first-largest : FindsFirstLargest
 unfolding firstLargest

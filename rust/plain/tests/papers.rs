@@ -25,12 +25,12 @@ fn answers(plan: &Plan) -> Vec<Answer> {
     livnakesh::answers(&file).expect("a plan that is not refused")
 }
 
-/// The bounds of a plan in which all is met, each by its first instance, as in the papers.
+/// The bounds of a plan in which all is met, each by its first instance.
 fn bounds(plan: &Plan) -> [u64; 10] {
     let answers = answers(plan);
     std::array::from_fn(|row| match answers[row] {
         Answer::Met { bound, instance: 0 } => bound,
-        other => panic!("{other:?} where the paper meets all deadlines, latest at the first instance"),
+        other => panic!("{other:?} where the paper meets all deadlines, and the first instance is the latest"),
     })
 }
 

@@ -7,8 +7,8 @@ use native.Mathlib.Nat.{zero-mul, add-assoc}
 use native.Mathlib.Omega.{arith}
 use lib.IntN.{pos, natAbs, _-ℤ_}
 use mir.Syntax.{w64}
-use mir.Val.{toZ, Fits, SFits}
-use mir.Facts.{toZ-ofZ, fits-ofZ, fits-natAbs, sfits-toZ}
+use mir.Val.{SFits}
+use mir.Facts.{toZ-ofZ, fits-natAbs}
 use Rattle.names.specs.Limits.{ticks}
 use Rattle.laws.proofs.Round.{ceil-le}
 use Rattle.laws.specs.Signed.{largestTo, FirstLargest}
