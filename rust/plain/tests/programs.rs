@@ -6,9 +6,9 @@
 
 mod common;
 
-use common::{file_of, terms, work, Rng, MOST_WORK};
+use common::{file_of, stream, terms, work, Rng, BASE, MOST_WORK};
 use livnakesh::{Compared, Label, Phase, Priority, Reason, Refused};
-use plain::{self, Analysis, Tournament, ROW};
+use plain::{self, Analysis, Plan, Tournament, NB, ROW};
 use std::io::Write;
 use std::path::{Path, PathBuf};
 use std::process::{Command, Stdio};
@@ -272,6 +272,17 @@ fn input_that_comes_byte_by_byte() {
     on_file(&largest.plan[..1_651], 1);
     let one_more = [&largest.plan[..], &[0]].concat();
     on_file(&one_more, 1);
+}
+
+/// Every field but the instance has as many digits as it gets: more bytes than any listing had before it had that column.
+#[test]
+fn the_longest_rows() {
+    let row = |k: u32| stream(u32::MAX - k, u32::MAX - k, u32::MAX, u32::MAX, 1, 1_000_000_000);
+    let mut timing = BASE;
+    timing[NB] = 32;
+    let file = file_of(&Plan { timing, streams: (0..64).map(row).collect(), gaps: vec![] });
+    assert_eq!(listing(&file).len(), 47 + 64 * (11 + 10 + 10 + 1 + 10 + 6 + 6));
+    on_file(&file, usize::MAX);
 }
 
 #[test]
