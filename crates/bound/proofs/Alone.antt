@@ -73,7 +73,7 @@ module _ (r : Terms) (s : Sound r) (L : ℕ) (b : busy r ≡ At L) (nobody : r .
       )
 
   -- .. and that is the first which is as large
-  pub alone-worst : worst r L ≡ 0
+  alone-worst : worst r L ≡ 0
   alone-worst =
       let same : r .own .J + w r 0 + r .last ≡ bound r L = omega (arith, alone-bound, alone-w 0 some, zero-mul (r .own .C″)) in
       worst-is-first r s L 0 b .1 (record { counts = some; gives = first-term r ∙ ap pos same; earlier = λ e h. absurd (omega arith) })

@@ -8,7 +8,7 @@ use lib.IntN.{pos, natAbs}
 use mir.Syntax.{w64}
 use mir.Val.{toZ, ofZ, SFits}
 use mir.Facts.{toZ-ofZ, fits-natAbs}
-use Rattle.bound.proofs.Alone.{alone-bound, alone-worst}
+use Rattle.bound.proofs.Alone.{alone-bound, alone-is-first}
 use Rattle.bound.proofs.Answers.{answer-none, answer-bound}
 use Rattle.analysis.specs.declared.Gathered.{Gathered}
 use Rattle.analysis.proofs.Fit.{fit-sound}
@@ -42,7 +42,7 @@ returns-2 c =
     let found = sym (b .busy-alone .ensures) ∙ t .enum-told .given .1 in
     let sound = fit-sound _ _ _ (b .before .pre) in
     c .judged .ensures
-    ∙ answer-bound _ _ _ _ _ found (ap natAbs (first (c .before)) ∙ alone-bound _ sound _ found refl refl) (sym (alone-worst _ sound _ found refl refl))
+    ∙ answer-bound _ _ _ _ _ found (ap natAbs (first (c .before)) ∙ alone-bound _ sound _ found refl refl) (sym (alone-is-first _ sound _ found refl refl))
 
 pub answer-alone-spec : {M : Type 1} → statement M
 answer-alone-spec =
