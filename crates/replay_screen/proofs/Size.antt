@@ -58,22 +58,22 @@ carrier-size : (h : Bool) → length (carrierText h) ≤ length (ascii "carrier 
 carrier-size true = omega arith
 carrier-size false = omega arith
 
-bit-size : (k : ℕ) (h : Bool) (before after : List Bool) → k < 10 ^ 2 → length (bitLine k h before after) ≤ mostOfBit
+bit-size : (k : ℕ) (h : Bool) (silent still : List Bool) → k < 10 ^ 2 → length (bitLine k h silent still) ≤ mostOfBit
 unfolding bitLine
-bit-size k h before after l =
-    simp length-append
-    (omega (arith, few-digits 2 k (omega arith) l, carrier-size h, rows-size (gone before after), rows-size after))
+bit-size k h silent still l =
+    simp length-append (omega (arith, few-digits 2 k (omega arith) l, carrier-size h, rows-size silent, rows-size still))
 
 bits-size : (t : Tournament) (k : ℕ) → k ≤ bits → length (bitLines t k) ≤ k * mostOfBit
 unfolding bitLines
 bits-size t zero h = omega arith
 bits-size t (suc k) h =
-    let line = bitLine (suc k) (heardAt (steps k t) (suc k)) (steps k t .marks) (steps (suc k) t .marks) in
+    let silent = gone (steps k t .marks) (steps (suc k) t .marks) in
+    let still = steps (suc k) t .marks in
     omega (
       arith,
-      length-append (bitLines t k) line,
+      length-append (bitLines t k) (bitLine (suc k) (heardAt (steps k t) (suc k)) silent still),
       suc-mul k mostOfBit,
-      bit-size (suc k) (heardAt (steps k t) (suc k)) (steps k t .marks) (steps (suc k) t .marks) (omega arith),
+      bit-size (suc k) (heardAt (steps k t) (suc k)) silent still (omega arith),
       bits-size t k (omega arith),
     )
 

@@ -1,19 +1,22 @@
--- What is proved of a replay: that its last line names the smallest priority, in proofs/Winner.antt, and how long it is at most, in
--- proofs/Size.antt.
+-- What is proved of a replay: that its last line names the smallest priority, in proofs/Winner.antt, that it can be checked by hand, in
+-- proofs/Silent.antt, and how long it is at most, in proofs/Size.antt.
 use mathlib.Core.Path.{_≡_}
+use mathlib.Core.Bool.{true, false}
 use mathlib.Core.List.{List, _++_}
-use Prim.Native.Nat.{ℕ, _+_, _*_, _≤_}
+use mathlib.Core.Logic.{_↔_}
+use Prim.Native.Nat.{ℕ, suc, _+_, _*_, _≤_, _<_}
 use lib.ListN.{length, getD}
 use Rattle.names.specs.declared.Priority.{Priority}
 use Rattle.names.specs.Limits.{contenders, bits, ticks}
 use Rattle.laws.specs.Lists.{rows}
 use Rattle.judge.specs.declared.Checked.the-variants.{Fine}
 use Rattle.tournament_state.specs.Refusals.{none, numberAt}
+use Rattle.tournament.specs.declared.Parting.the-variants.{At as Parting·At}
 use Rattle.tournament.specs.Rule.{begunOf}
-use Rattle.tournament.specs.Answers.{startOf}
-use Rattle.tournament_laws.specs.Facts.{Smallest}
+use Rattle.tournament.specs.Answers.{startOf, partingOf}
+use Rattle.tournament_laws.specs.Facts.{after, Smallest}
 use Rattle.ascii.specs.Ascii.{ascii}
-use Rattle.replay_screen.specs.Shown.{spaced, bitLines, winsLine, shownOf}
+use Rattle.replay_screen.specs.Shown.{gone, spaced, bitLines, winsLine, shownOf}
 
 -- a start that is not refused: a line for each of the NB bits, and the row and the priority of the smallest
 abbrev pub SmallestShown : Type 0
@@ -21,6 +24,14 @@ SmallestShown =
     (NB n : ℕ) (places : List Priority) → length places ≡ contenders → startOf NB n places .checked ≡ Fine
     → (w : ℕ) × Smallest n places w
     × (shownOf NB n places ≡ bitLines (begunOf NB n places) NB ++ winsLine (record { 0 = w }) (getD places w none))
+
+-- so what is shown can be checked by hand: a contender goes silent at a bit exactly if its priority and the smallest part there
+abbrev pub SilentWhereTheyPart : Type 0
+SilentWhereTheyPart =
+    (NB n : ℕ) (places : List Priority) → length places ≡ contenders → startOf NB n places .checked ≡ Fine
+    → (w : ℕ) → Smallest n places w → (k : ℕ) → k < NB → (i : ℕ) → i < n
+    → (getD (gone (after NB n places k .marks) (after NB n places (suc k) .marks)) i false ≡ true)
+    ↔ (partingOf NB (getD places i none) (getD places w none) ≡ Parting·At (suc k))
 
 -- every row after its space
 abbrev pub mostRows : ℕ

@@ -44,25 +44,27 @@ abbrev pub carrierText : Bool → List ℕ
 carrierText true = ascii "carrier heard"
 carrierText false = ascii "no carrier"
 
--- "bit 2: carrier heard; goes silent: 0 2; still in: 1", from the marks before the bit and after it
+-- "bit 2: carrier heard; goes silent: 0 2; still in: 1", from the marks of those that go silent and of those that are still in
 unfoldable pub bitLine : ℕ → Bool → List Bool → List Bool → List ℕ
-bitLine k heard before after =
+bitLine k heard silent still =
     joined
     (ascii "bit "
     ∷ digits k
     ∷ ascii ": "
     ∷ carrierText heard
     ∷ ascii "; goes silent:"
-    ∷ rowsText (marked (gone before after))
+    ∷ rowsText (marked silent)
     ∷ ascii "; still in:"
-    ∷ rowsText (marked after)
+    ∷ rowsText (marked still)
     ∷ ascii "\n"
     ∷ [])
 
 -- the lines of the first k bits; bit k + 1 is handled by the step from the state after k steps
 unfoldable pub bitLines : Tournament → ℕ → List ℕ
 bitLines t zero = []
-bitLines t (suc k) = bitLines t k ++ bitLine (suc k) (heardAt (steps k t) (suc k)) (steps k t .marks) (steps (suc k) t .marks)
+bitLines t (suc k) =
+    bitLines t k
+    ++ bitLine (suc k) (heardAt (steps k t) (suc k)) (gone (steps k t .marks) (steps (suc k) t .marks)) (steps (suc k) t .marks)
 
 -- "row 1 wins with priority 3", ..
 unfoldable pub winsLine : Row → Priority → List ℕ

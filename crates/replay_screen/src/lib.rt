@@ -3,17 +3,19 @@
 // The one public function answers for every input, and its contract fixes each byte of the lent buffer. Nothing is assumed.
 // This crate must not know the rule of the tournament, nor of input and output.
 ghost use mathlib.Core.Path.{_≡_};
-ghost use mathlib.Core.Bool.{_||_, _&&_, not, cond};
+ghost use mathlib.Core.Bool.{_||_, cond};
 ghost use mathlib.Core.List.{[], _++_};
+ghost use Prim.Native.Nat.{_≤_};
 ghost use lib.ListN.{getD};
+ghost use Rattle.names.specs.Limits.{contenders as Limits·contenders};
 ghost use Rattle.text.specs.Put.{Lays};
 ghost use Rattle.decimal.specs.Decimal.{digits};
 ghost use Rattle.tournament_state.specs.Refusals.{none as Refusals·none};
 ghost use Rattle.tournament.specs.Answers.{carrierOf};
 ghost use Rattle.ascii.specs.Ascii.{ascii};
-ghost use Rattle.replay_screen.specs.Shown.{marked, gone as Shown·gone, rowsText, carrierText};
+ghost use Rattle.replay_screen.specs.Shown.{marked, rowsText, carrierText};
 ghost use Rattle.replay_screen.specs.Shown.{bitLine, winsLine, winnerLine, playedOf, shownOf};
-ghost use Rattle.replay_screen.specs.private.Begun.{Begun, isHeard};
+ghost use Rattle.replay_screen.specs.private.Begun.{Begun, isHeard, wonWith, silentBit, silentAt};
 use judge::Checked;
 use names::BITS;
 use names::CONTENDERS;
@@ -23,7 +25,10 @@ use text::lay_number;
 use text::lay_refusal;
 use text::lay_text;
 use tournament::Carrier;
+use tournament::Parting;
 use tournament::listen;
+use tournament::parting_bit;
+use tournament::run;
 use tournament::start;
 use tournament::step;
 use tournament_state::Phase;
@@ -82,23 +87,6 @@ fn lay_rows(out: &mut [u8], at: usize, marks: [bool; CONTENDERS]) -> usize
     lay_none(out, next, some)
 }
 
-fn in_and_out(was: bool, is: bool) -> bool
-    ensures { λ r. ⌜ r ≡ was && not is ⌝ }
-{
-    if was { !is } else { false }
-}
-
-// Marks for those that were in and are out.
-fn gone(before: [bool; CONTENDERS], after: [bool; CONTENDERS]) -> [bool; CONTENDERS]
-    ensures { λ r. ⌜ r ≡ Shown·gone before after ⌝ }
-{
-    let mut marks = [false; CONTENDERS];
-    for i in 0..CONTENDERS {
-        marks[i] = in_and_out(before[i], after[i]);
-    }
-    marks
-}
-
 fn heard(t: Tournament) -> bool
     ensures { λ r. ⌜ r ≡ isHeard (carrierOf t) ⌝ }
 {
@@ -118,18 +106,17 @@ fn lay_carrier(out: &mut [u8], at: usize, heard: bool) -> usize
     lay_text(out, at, b"no carrier")
 }
 
-// The line of a bit, between the marks before it and the marks after it.
+// The line of a bit, from the marks of those that go silent and of those that are still in.
 fn lay_bit(
     out: &mut [u8],
     at: usize,
     k: u64,
     heard: bool,
-    before: [bool; CONTENDERS],
-    after: [bool; CONTENDERS],
+    silent: [bool; CONTENDERS],
+    still: [bool; CONTENDERS],
 ) -> usize
-    ensures { λ r. ⌜ Lays (now (out .entry)) at (bitLine k heard before after) r (now (out .exit)) ⌝ }
+    ensures { λ r. ⌜ Lays (now (out .entry)) at (bitLine k heard silent still) r (now (out .exit)) ⌝ }
 {
-    let silent = gone(before, after);
     let at = lay_text(out, at, b"bit ");
     let at = lay_number(out, at, k);
     let at = lay_text(out, at, b": ");
@@ -137,7 +124,7 @@ fn lay_bit(
     let at = lay_text(out, at, b"; goes silent:");
     let at = lay_rows(out, at, silent);
     let at = lay_text(out, at, b"; still in:");
-    let at = lay_rows(out, at, after);
+    let at = lay_rows(out, at, still);
     lay_text(out, at, b"\n")
 }
 
@@ -171,24 +158,63 @@ fn lay_winner(out: &mut [u8], at: usize, priorities: [Priority; CONTENDERS], pha
     }
 }
 
+// The winner's priority; 0 where there is no winner.
+fn winning(priorities: [Priority; CONTENDERS], phase: Phase) -> Priority
+    ensures { λ r. ⌜ r ≡ wonWith priorities phase ⌝ }
+{
+    match phase {
+        Phase::Finished(row) => priority_at(priorities, row),
+        Phase::AtBit(_) => Priority(0),
+        Phase::NoWinner => Priority(0),
+    }
+}
+
+// The bit at which a contender goes silent: where its priority parts from the winner's. The winner's own is no bit's number.
+fn silent_bit(bits: u32, p: Priority, won: Priority) -> u32
+    ensures { λ r. ⌜ r ≡ silentBit bits p won ⌝ }
+{
+    match parting_bit(bits, p, won) {
+        Parting::At(k) => k,
+        Parting::Refused(_) => 0,
+    }
+}
+
+// Marks for those that go silent at bit k.
+fn silent_at(t: Tournament, won: Priority, k: u32) -> [bool; CONTENDERS]
+    requires { ⌜ t .count ≤ Limits·contenders ⌝ }
+    ensures { λ r. ⌜ r ≡ silentAt t won k ⌝ }
+{
+    let bits = t.bits;
+    let count = t.count;
+    let mut marks = [false; CONTENDERS];
+    for i in 0..count {
+        let p = t.priorities[i];
+        marks[i] = silent_bit(bits, p, won) == k;
+    }
+    marks
+}
+
 // All lines of a tournament that is at its first bit.
 fn lay_played(out: &mut [u8], at: usize, t: Tournament) -> usize
     requires { ⌜ Begun t ⌝ }
     ensures { λ r. ⌜ Lays (now (out .entry)) at (playedOf t) r (now (out .exit)) ⌝ }
 {
     let bits = t.bits;
+    let end = run(t).tournament;
+    let priorities = end.priorities;
+    let phase = end.phase;
+    let won = winning(priorities, phase);
     let mut next = at;
     let mut now = t;
     for k in 0..bits {
+        let bit = k + 1;
         let after = step(now).tournament;
         let carrier = heard(now);
-        let were = now.marks;
-        let are = after.marks;
-        next = lay_bit(out, next, k as u64 + 1, carrier, were, are);
+        let silent = silent_at(t, won, bit);
+        let still = after.marks;
+        next = lay_bit(out, next, bit as u64, carrier, silent, still);
         now = after;
     }
-    let priorities = now.priorities;
-    let phase = now.phase;
     lay_winner(out, next, priorities, phase)
 }
 

@@ -1,11 +1,12 @@
--- The top bits of a number: what one bit more adds, and that numbers with the same bits are the same.
--- Assumes nothing.
+-- The top bits of a number: what one bit more adds, and how many two numbers have in common. Assumes nothing.
 use mathlib.Core.Path.{_≡_, sym, ap, _∙_}
 use mathlib.Core.Logic.{⊎-elim}
-use Prim.Native.Nat.{ℕ, zero, suc, _+_, _-_, _/_, _%_, _^_, _≤_, _<_}
-use native.Mathlib.Nat.{div-eq-of-lt, eq-or-lt-of-le}
+use Prim.Native.Nat.{ℕ, zero, suc, _+_, _-_, _*_, _/_, _%_, _^_, _≤_, _<_}
+use native.Mathlib.Nat.{div-eq-of-lt, eq-or-lt-of-le, eq-zero-or-pos, one-mul}
 use native.Mathlib.Omega.{arith}
-use lib.Pow.{shr-shr}
+use lib.Bits.{bitXor, xor-add-and, and-le-l, and-le-r, xor-lt, xor-self, xor-shr}
+use lib.Count.{leadingZeros, leading-top}
+use lib.Pow.{shl-shr, shr-mono, shr-shr}
 
 -- the number that the top k of NB bits make, and bit k
 abbrev pub top : ℕ → ℕ → ℕ → ℕ
@@ -50,6 +51,29 @@ same-top NB (suc k) x y a b h s =
     let e : suc k ≡ k + 1 = omega arith in
     rw e (top-more NB k x y (omega arith) (same-top NB k x y a b (omega arith) (λ j p q. s j p (omega arith))) (rw e at (s (suc k) (omega arith) (omega arith))))
 
--- numbers with the same bits are the same
-pub same-number : (NB x y : ℕ) → x < 2 ^ NB → y < 2 ^ NB → Same NB NB x y → x ≡ y
-same-number NB x y a b s = sym (top-all NB x) ∙ same-top NB NB x y a b (omega arith) s ∙ top-all NB y
+-- ---- the highest place at which two numbers of w bits differ: so many zeros stand above it in their exclusive-or
+xor-none : (x y : ℕ) → bitXor x y ≡ 0 → x ≡ y
+xor-none x y e = omega (arith, xor-add-and x y, and-le-l x y, and-le-r x y)
+
+xor-some : (x y : ℕ) → (x ≡ y → ⊥) → 0 < bitXor x y
+xor-some x y d = ⊎-elim (λ e. absurd (d (xor-none x y e))) (λ h. h) (eq-zero-or-pos (bitXor x y))
+
+pub record HighestDifference (w x y j : ℕ) : Type 0 where
+  pub zeros : leadingZeros w (bitXor x y) + suc j ≡ w
+  pub above : x / 2 ^ suc j ≡ y / 2 ^ suc j
+  pub differ : x / 2 ^ j ≡ y / 2 ^ j → ⊥
+
+pub highest-difference : (w x y : ℕ) → x < 2 ^ w → y < 2 ^ w → (x ≡ y → ⊥) → (j : ℕ) × HighestDifference w x y j
+highest-difference w x y a b d =
+    let (j, zeros, low, high) = leading-top w (bitXor x y) (xor-some x y d) (xor-lt w x y a b) in (
+      j,
+      record {
+        zeros = zeros;
+        above = xor-none (x / 2 ^ suc j) (y / 2 ^ suc j) (sym (xor-shr x y (suc j)) ∙ div-eq-of-lt high);
+        differ =
+            λ e.
+            let none : bitXor x y / 2 ^ j ≡ 0 = xor-shr x y j ∙ ap (λ z. bitXor z (y / 2 ^ j)) e ∙ xor-self (y / 2 ^ j) in
+            let some : 1 * 2 ^ j / 2 ^ j ≤ bitXor x y / 2 ^ j = shr-mono j (rw one-mul low) in
+            omega (arith, shl-shr 1 j);
+      },
+    )

@@ -1,7 +1,11 @@
 -- What each call answers: the refusal of document 01 and the state as it was, or the state by the rule.
+use mathlib.Core.Path.{_≡_}
 use mathlib.Core.Bool.{true, false, not}
 use mathlib.Core.List.{List}
-use Prim.Native.Nat.{ℕ}
+use mathlib.Core.Logic.{_↔_}
+use Prim.Native.Nat.{ℕ, _+_, _-_, _^_, _≤_, _<_}
+use lib.Bits.{bitXor}
+use lib.Count.{leadingZeros}
 use lib.Dec.{eqb}
 use lib.ListN.{replicate}
 use Rattle.names.specs.declared.Priority.{Priority}
@@ -10,7 +14,7 @@ use Rattle.laws.specs.Search.{first, orZero}
 use Rattle.judge.specs.declared.Checked.{Checked, the-variants.Fine, the-variants.Refused}
 use Rattle.tournament_state.specs.declared.Phase.{Phase, the-variants.AtBit, the-variants.Finished, the-variants.NoWinner}
 use Rattle.tournament_state.specs.declared.Tournament.{Tournament}
-use Rattle.tournament_state.specs.Refusals.{none, verdictOf, pairVerdictOf}
+use Rattle.tournament_state.specs.Refusals.{number, none, verdictOf, pairVerdictOf, PlayablePair}
 use Rattle.tournament.specs.declared.Outcome.{Outcome}
 use Rattle.tournament.specs.declared.Carrier.{Carrier}
 use Rattle.tournament.specs.declared.Carrier.the-variants.{Heard, NotHeard, Refused as Carrier·Refused}
@@ -65,3 +69,33 @@ partUnless (Refused refusal) k = Parting·Refused refusal
 
 unfoldable pub partingOf : ℕ → Priority → Priority → Parting
 partingOf NB a b = partUnless (pairVerdictOf NB a b) (partingBit NB a b)
+
+-- ---- What is proved of it in proofs/Parts.antt, for every bit count at once.
+
+-- d is the first bit from the top, counted from 1, at which they differ
+pub record FirstDifference (NB : ℕ) (a b : Priority) (d : ℕ) : Type 0 where
+  pub from : 1 ≤ d
+  pub to : d ≤ NB
+  pub differ : bitAt NB d a ≡ bitAt NB d b → ⊥
+  pub first : (j : ℕ) → 1 ≤ j → j < d → bitAt NB j a ≡ bitAt NB j b
+
+-- the parting bit of two priorities that fit and differ is d exactly if d is that bit
+abbrev pub PartingIsFirst : Type 0
+PartingIsFirst =
+    (NB : ℕ) (a b : Priority) → number a < 2 ^ NB → number b < 2 ^ NB → (number a ≡ number b → ⊥)
+    → (d : ℕ) → (partingBit NB a b ≡ d) ↔ FirstDifference NB a b d
+
+-- so a call answers d exactly if both fit in 1 to 32 bits, they differ, and d is that bit
+abbrev pub PartingAnswer : Type 0
+PartingAnswer = (NB : ℕ) (a b : Priority) (d : ℕ) → (partingOf NB a b ≡ Parting·At d) ↔ (PlayablePair NB a b × FirstDifference NB a b d)
+
+-- The workshop's rule: it writes the two under each other and counts the equal bits at the top. In w bits, NB or more, they are the
+-- leading zeros of the exclusive-or; ..
+abbrev pub equalAtTop : ℕ → Priority → Priority → ℕ
+equalAtTop w a b = leadingZeros w (bitXor (number a) (number b))
+
+-- .. less w - NB, as many as stand above bit 1, plus 1, they give the bit
+abbrev pub PartingByLeadingZeros : Type 0
+PartingByLeadingZeros =
+    (w NB : ℕ) (a b : Priority) → NB ≤ w → number a < 2 ^ NB → number b < 2 ^ NB → (number a ≡ number b → ⊥)
+    → (w - NB ≤ equalAtTop w a b) × (partingBit NB a b ≡ equalAtTop w a b - (w - NB) + 1)

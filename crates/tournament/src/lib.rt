@@ -245,17 +245,15 @@ pub fn listen(t: Tournament) -> Carrier
     }
 }
 
-// The first bit from the top at which a and b differ. Where no earlier bit does, it is the last.
+// As it is counted by hand: of the equal bits at the top of a and b, written under each other in 32 bits, 32 - bits stand
+// above bit 1, and the bit after them is the first at which the two differ (`PartingByLeadingZeros`, specs/Answers.antt).
 fn first_difference(bits: u32, a: Priority, b: Priority) -> u32
     requires { ⌜ PlayablePair bits a b ⌝ }
     ensures { λ r. ⌜ r ≡ partingBit bits a b ⌝ }
 {
-    for k in 1..bits {
-        if bit(a, bits, k) != bit(b, bits, k) {
-            return k;
-        }
-    }
-    bits
+    let difference = a.0 ^ b.0;
+    let equal = u32::leading_zeros(difference);
+    equal - (32 - bits) + 1
 }
 
 // At which bit two priorities part, in rows 0 and 1.

@@ -90,8 +90,12 @@ fn partings() {
     parting(4, Priority(5), Priority(3));
     parting(4, Priority(3), Priority(5));
     parting(1, Priority(0), Priority(1));
+    parting(1, Priority(1), Priority(0));
     parting(32, Priority(0), Priority(2147483648));
+    parting(32, Priority(0), Priority(4294967295));
+    parting(32, Priority(0), Priority(1));
     parting(32, Priority(4294967295), Priority(4294967294));
+    parting(31, Priority(0), Priority(4294967295));
     parting(0, Priority(3), Priority(4));
     parting(33, Priority(3), Priority(4));
     parting(2, Priority(4), Priority(4));

@@ -39,7 +39,7 @@ not-refused-later t long e =
 pub outcome-of : (a : Checked) (before after : Tournament) → a ≡ Fine → outcome a before after .tournament ≡ after
 outcome-of a before after e = rw e refl
 
-run-is-steps : (t : Tournament) → judgedOf t ≡ Fine → runOf t .tournament ≡ steps (t .bits) t
+pub run-is-steps : (t : Tournament) → judgedOf t ≡ Fine → runOf t .tournament ≡ steps (t .bits) t
 unfolding runOf
 run-is-steps t e = outcome-of (judgedOf t) t (steps (t .bits) t) e
 

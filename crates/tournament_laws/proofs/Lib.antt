@@ -1,6 +1,5 @@
 pub mod Places
 pub mod Steps
 pub mod Start
-pub mod Parting
 pub mod Winner
 pub mod Calls

@@ -16,10 +16,11 @@ use Rattle.names.specs.declared.Priority.{Priority}
 use Rattle.tournament_state.specs.declared.Phase.the-variants.{AtBit, Finished}
 use Rattle.tournament_state.specs.Refusals.{none, numberAt, Fair}
 use Rattle.tournament.specs.Rule.{bitAt, begunOf, isIn, heardAt, next, steps}
+use Rattle.tournament.specs.Answers.{FirstDifference}
 use Rattle.tournament.proofs.Bits.{top, bit, top-none, top-all, top-less, top-more, top-fewer, same-top}
-use Rattle.tournament_laws.specs.Facts.{Start, after, Smallest, Won, SmallestWins, LoserGoesSilent, WinnerStaysIn, FirstDifference, Handled}
+use Rattle.tournament.proofs.Parts.{first-difference}
+use Rattle.tournament_laws.specs.Facts.{Start, after, Smallest, Won, SmallestWins, LoserGoesSilent, WinnerStaysIn, Handled}
 use Rattle.tournament_laws.proofs.Steps.{step-handles-one-bit, lowest-marked-wins}
-use Rattle.tournament_laws.proofs.Parting.{first-difference}
 use Rattle.tournament_laws.proofs.Start.{start-priority, start-in, kept, start-bits, start-count, bit-after-bit}
 
 -- two Bools are equal where each is true when the other is

@@ -4,7 +4,7 @@ use mathlib.Core.Path.{_≡_}
 use mathlib.Core.Bool.{true, false}
 use mathlib.Core.List.{List}
 use mathlib.Core.Logic.{_↔_}
-use Prim.Native.Nat.{ℕ, zero, suc, _+_, _^_, _≤_, _<_}
+use Prim.Native.Nat.{ℕ, zero, suc, _+_, _≤_, _<_}
 use lib.Dec.{eqb, ltb}
 use lib.ListN.{length, getD}
 use Rattle.names.specs.declared.Priority.{Priority}
@@ -12,10 +12,9 @@ use Rattle.names.specs.Limits.{contenders}
 use Rattle.tournament_state.specs.declared.Phase.the-variants.{AtBit, Finished, NoWinner}
 use Rattle.tournament_state.specs.declared.Tournament.{Tournament}
 use Rattle.judge.specs.declared.Checked.the-variants.{Fine}
-use Rattle.tournament_state.specs.Refusals.{number, none, numberAt, Fair, PlayablePair}
-use Rattle.tournament.specs.declared.Parting.the-variants.{At as Parting·At}
+use Rattle.tournament_state.specs.Refusals.{none, numberAt, Fair}
 use Rattle.tournament.specs.Rule.{bitAt, begunOf, isIn, heardAt, winnerOf, next, steps}
-use Rattle.tournament.specs.Answers.{judgedOf, partingBit, partingOf, startOf, stepOf, runOf}
+use Rattle.tournament.specs.Answers.{judgedOf, partingBit, startOf, stepOf, runOf}
 
 -- ---- from a start with 1 to 128 contenders with distinct priorities that fit
 pub record Start (NB n : ℕ) (places : List Priority) : Type 0 where
@@ -53,23 +52,6 @@ abbrev pub WinnerStaysIn : Type 0
 WinnerStaysIn =
     (NB n : ℕ) (places : List Priority) → Start NB n places → (w : ℕ) → Smallest n places w → (k : ℕ) → k ≤ NB
     → isIn (after NB n places k) w ≡ true
-
--- the parting bit of two priorities that fit and differ is d exactly if d is the first bit from the top, counted from 1, at which
--- they differ
-pub record FirstDifference (NB : ℕ) (a b : Priority) (d : ℕ) : Type 0 where
-  pub from : 1 ≤ d
-  pub to : d ≤ NB
-  pub differ : bitAt NB d a ≡ bitAt NB d b → ⊥
-  pub first : (j : ℕ) → 1 ≤ j → j < d → bitAt NB j a ≡ bitAt NB j b
-
-abbrev pub PartingIsFirst : Type 0
-PartingIsFirst =
-    (NB : ℕ) (a b : Priority) → number a < 2 ^ NB → number b < 2 ^ NB → (number a ≡ number b → ⊥)
-    → (d : ℕ) → (partingBit NB a b ≡ d) ↔ FirstDifference NB a b d
-
--- so a call answers d exactly if both fit in 1 to 32 bits, they differ, and d is that bit
-abbrev pub PartingAnswer : Type 0
-PartingAnswer = (NB : ℕ) (a b : Priority) (d : ℕ) → (partingOf NB a b ≡ Parting·At d) ↔ (PlayablePair NB a b × FirstDifference NB a b d)
 
 -- bit after bit: after k steps, k below NB, it is at bit k + 1
 abbrev pub BitAfterBit : Type 0

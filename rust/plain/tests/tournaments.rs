@@ -8,10 +8,23 @@ use plain::{Tournament, PLACES};
 
 // ---- the parting bit ----
 
+/// The first bit from the top, counted from 1, at which two priorities differ, looked for bit by bit.
+fn first_difference(bits: u32, first: Priority, second: Priority) -> Option<u32> {
+    (1..=bits).find(|bit| first.0 >> (bits - bit) & 1 != second.0 >> (bits - bit) & 1)
+}
+
 fn parting_alike(bits: u32, first: u32, second: u32, tally: &mut Tally) {
     let (first, second) = (Priority(first), Priority(second));
     let said = livnakesh::parting(bits, first, second);
     assert_eq!(said, plain::parting(bits, first, second), "parting: {bits} bits, {first:?} and {second:?}");
+    if let Ok(bit) = said {
+        assert_eq!(Some(bit), first_difference(bits, first, second), "parting: {bits} bits, {first:?} and {second:?}");
+        tally.count(match bit {
+            1 => "at the first bit",
+            _ if bit == bits => "at the last bit",
+            _ => "between",
+        });
+    }
     tally_refusal(tally, said);
 }
 
@@ -36,7 +49,7 @@ fn parting_bits() {
         parting_alike(rng.within(1, 32) as u32, first & 15, first & 15 ^ rng.below(16) as u32, &mut tally);
     }
     tally.print("parting bits");
-    need_all(&tally, &["answered", "refusal 8", "refusal 9"], 10_000);
+    need_all(&tally, &["answered", "refusal 8", "refusal 9", "at the first bit", "at the last bit", "between"], 10_000);
 }
 
 // ---- states of any making ----
