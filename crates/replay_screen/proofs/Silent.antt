@@ -10,22 +10,21 @@ use native.Mathlib.Numerals.{add-one}
 use native.Mathlib.Omega.{arith}
 use borrow.Author.Tests.{eqb-true, eqb-false, eq-eqb, ne-eqb, lt-ltb, le-ltb}
 use lib.Dec.{eqb, ltb}
-use lib.ListN.{length, getD, replicate, length-append, length-replicate}
-use lib.Seq.{take-all}
+use lib.ListN.{getD, replicate}
 use Rattle.names.specs.declared.Priority.{Priority}
 use Rattle.names.specs.Limits.{contenders, bits}
 use Rattle.laws.specs.Lists.{rows}
-use Rattle.laws.proofs.Lists.{length-rows, rows-at, rows-front, rows-same, rows-take}
-use Rattle.judge.specs.declared.Checked.{Checked, the-variants.Fine, the-variants.Refused}
+use Rattle.laws.proofs.Lists.{rows-at}
 use Rattle.tournament_state.specs.declared.Phase.the-variants.{AtBit, Finished}
 use Rattle.tournament_state.specs.declared.Tournament.{Tournament}
-use Rattle.tournament_state.specs.Refusals.{none, pairVerdictOf, PlayablePair}
-use Rattle.tournament_state.proofs.Meaning.{fine-if-playable, fine-if-playable-pair}
+use Rattle.tournament_state.specs.Refusals.{none, PlayablePair}
+use Rattle.tournament_state.proofs.Meaning.{fine-if-playable}
 use Rattle.tournament.specs.declared.Parting.{Parting, the-variants.At as Parting·At, the-variants.Refused as Parting·Refused}
 use Rattle.tournament.specs.Rule.{isIn, steps}
-use Rattle.tournament.specs.Answers.{partingBit, partUnless, partingOf, runOf}
+use Rattle.tournament.specs.Answers.{partingBit, partingOf, runOf}
+use Rattle.tournament.proofs.Parts.{first-difference, parting-answer}
 use Rattle.tournament_laws.specs.Facts.{Start, after, Smallest}
-use Rattle.tournament_laws.proofs.Places.{past, one-value}
+use Rattle.tournament_laws.proofs.Places.{rows-laid}
 use Rattle.tournament_laws.proofs.Start.{kept, unused-at-start}
 use Rattle.tournament_laws.proofs.Winner.{smallest-wins, winner-stays-in, loser-goes-silent}
 use Rattle.tournament_laws.proofs.Calls.{run-is-steps, start-fine}
@@ -45,18 +44,6 @@ goes-at k d =
     by-test true e h = ap not (le-ltb (suc k) d (omega (arith, eqb-true d (suc k) e)))
     by-test false e h = let f = eqb-false d (suc k) e in ap not (lt-ltb (suc k) d (omega (arith, f)))
 
--- n values laid over places that all have one are the values of one function
-rows-laid : {A : Type 0} (m n : ℕ) (g f : ℕ → A) (y : A) → n ≤ m → ((i : ℕ) → i < n → g i ≡ f i) → ((i : ℕ) → n ≤ i → y ≡ f i)
-    → rows n g ++ replicate (m - n) y ≡ rows m f
-rows-laid m n g f y h front back =
-    let l = rows n g ++ replicate (m - n) y in
-    let long : length l ≡ m = omega (arith, length-append (rows n g) (replicate (m - n) y), length-rows n g, length-replicate (m - n) y) in
-    sym (rows-take l y m (omega arith) ∙ take-all m l (omega arith))
-    ∙ rows-same m (λ i. getD l i y) f (λ i b. elim (decLe n i) [
-      | yes q ↦ past (rows n g) (replicate (m - n) y) y n i (length-rows n g) q ∙ one-value (m - n) (i - n) y ∙ back i q
-      | no q ↦ rows-front g (replicate (m - n) y) y n i (lt-of-not-le q) ∙ front i (lt-of-not-le q)
-    ])
-
 -- ---- from a start that the row w wins
 module _ (NB n : ℕ) (places : List Priority) (s : Start NB n places) (narrow : NB ≤ bits) (w : ℕ) (m : Smallest n places w) where
   abbrev own : ℕ → Priority
@@ -67,22 +54,24 @@ module _ (NB n : ℕ) (places : List Priority) (s : Start NB n places) (narrow :
   goes k i = isIn (after NB n places k) i && not (isIn (after NB n places (suc k)) i)
 
   loser : (i : ℕ) → i < n → (i ≡ w → ⊥) → (k : ℕ) → k < NB → goes k i ≡ eqb (silentBit NB (own i) (own w)) (suc k)
-  unfolding silentBit partingOf
+  unfolding silentBit
   loser i l d k h =
-      let pair : PlayablePair NB (own i) (own w) =
+      let p : PlayablePair NB (own i) (own w) =
       record { from = s .bits; to = narrow; first-fits = s .fair .fit i l; second-fits = s .fair .fit w (m .among); differ = λ e. d (s .fair .distinct i w l (m .among) e) } in
+      let bit = partingBit NB (own i) (own w) in
+      let answer = parting-answer NB (own i) (own w) bit .1 (p, first-difference NB (own i) (own w) (p .first-fits) (p .second-fits) (p .differ)) in
       ap₂ (λ x y. x && not y) (loser-goes-silent NB n places s w i m l d k (omega arith)) (loser-goes-silent NB n places s w i m l d (suc k) (omega arith))
-      ∙ goes-at k (partingBit NB (own i) (own w))
-      ∙ sym (ap (λ c. eqb (bitOf (partUnless c (partingBit NB (own i) (own w)))) (suc k)) (fine-if-playable-pair NB (own i) (own w) .1 pair))
+      ∙ goes-at k bit
+      ∙ sym (ap (λ r. eqb (bitOf r) (suc k)) answer)
 
   -- two equal priorities part at no bit
   nowhere : (p : Priority) (k : ℕ) → eqb (silentBit NB p p) (suc k) ≡ false
-  unfolding silentBit partingOf
-  nowhere p k = by-verdict (pairVerdictOf NB p p) refl
+  unfolding silentBit
+  nowhere p k = by-answer (partingOf NB p p) refl
     where
-      by-verdict : (c : Checked) → pairVerdictOf NB p p ≡ c → eqb (bitOf (partUnless c (partingBit NB p p))) (suc k) ≡ false
-      by-verdict Fine e = absurd (fine-if-playable-pair NB p p .0 e .differ refl)
-      by-verdict (Refused r) e = ne-eqb 0 (suc k) (λ z. omega arith)
+      by-answer : (r : Parting) → partingOf NB p p ≡ r → eqb (bitOf r) (suc k) ≡ false
+      by-answer (Parting·At d) e = absurd (parting-answer NB p p d .0 e .0 .differ refl)
+      by-answer (Parting·Refused r) e = ne-eqb 0 (suc k) (λ z. omega arith)
 
   winner : (k : ℕ) → k < NB → goes k w ≡ eqb (silentBit NB (own w) (own w)) (suc k)
   winner k h =
