@@ -1,4 +1,5 @@
 // What the replay screen shows of a tournament: a line for each bit, and the winner in the last line, or the line of a refusal.
+// Who goes silent at a bit is found as it is checked by hand, by where a priority and the winner's part.
 //
 // The one public function answers for every input, and its contract fixes each byte of the lent buffer. Nothing is assumed.
 // This crate must not know the rule of the tournament, nor of input and output.

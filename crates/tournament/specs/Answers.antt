@@ -70,7 +70,7 @@ partUnless (Refused refusal) k = Parting·Refused refusal
 unfoldable pub partingOf : ℕ → Priority → Priority → Parting
 partingOf NB a b = partUnless (pairVerdictOf NB a b) (partingBit NB a b)
 
--- ---- What is proved of it in proofs/Parts.antt, for every bit count at once.
+-- ---- What is proved of the parting bit in proofs/Parts.antt, for every bit count at once.
 
 -- d is the first bit from the top, counted from 1, at which they differ
 pub record FirstDifference (NB : ℕ) (a b : Priority) (d : ℕ) : Type 0 where
