@@ -143,6 +143,7 @@ extern "C" {
     ) -> Stepped;
 }
 
+#[inline]
 fn said(said: Said) -> Result<u64, Refused> {
     match said.refusal {
         0 => Ok(said.value),
@@ -230,12 +231,14 @@ pub fn screen_words(streams: &[Stream], timing: &[u32], gaps: &[u32], words: &mu
 }
 
 /// The bit, counted from 1 at the top, at which two priorities part.
+#[inline]
 pub fn parting(bits: u32, first: Priority, second: Priority) -> Result<u32, Refused> {
     // SAFETY: numbers alone go in and out, and a priority is laid out as its number.
     said(unsafe { livnakesh_parting(bits, first, second) }).map(word)
 }
 
 /// A number that the contract has within 32 bits.
+#[inline]
 fn word(value: u64) -> u32 {
     u32::try_from(value).expect("the library's contract has 32 bits here")
 }

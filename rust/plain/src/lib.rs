@@ -624,6 +624,8 @@ fn check_bits(bits: u32, priorities: &[Priority]) -> Result<(), Refused> {
     }
 }
 
+/// As a call of its own it makes every step of a tournament slower.
+#[inline(always)]
 fn check_distinct(priorities: &[Priority]) -> Result<(), Refused> {
     match repeat(priorities.iter().map(|p| p.0)) {
         Some(row) => refused(9, row),
@@ -633,9 +635,10 @@ fn check_distinct(priorities: &[Priority]) -> Result<(), Refused> {
 
 /// The bit, counted from 1 at the top, at which two priorities part.
 pub fn parting(bits: u32, first: Priority, second: Priority) -> Result<u32, Refused> {
-    let both = [first, second];
-    check_bits(bits, &both)?;
-    check_distinct(&both)?;
+    check_bits(bits, &[first, second])?;
+    if first == second {
+        return refused(9, 1);
+    }
     Ok((first.0 ^ second.0).leading_zeros() - (32 - bits) + 1)
 }
 

@@ -6,7 +6,7 @@
 
 mod common;
 
-use common::{file_of, stream, terms, work, Rng, BASE, MOST_WORK};
+use common::{file_of, need_all, stream, terms, work, Rng, Tally, BASE, MOST_WORK};
 use livnakesh::{Compared, Label, Phase, Priority, Reason, Refused};
 use plain::{self, Analysis, Plan, Tournament, NB, ROW};
 use std::io::Write;
@@ -389,13 +389,16 @@ fn a_list_that_is_too_long_or_wrong() {
 
 #[test]
 fn replays() {
-    let mut rng = Rng(0x3e91a);
+    let (mut rng, mut tally) = (Rng(0x3e91a), Tally::default());
     let (mut list, mut wanted) = (Vec::new(), Vec::new());
     for _ in 0..60 {
         let bits = rng.within(0, 33) as u32;
         let most = if rng.one_in(8) { u32::MAX } else { u32::MAX.checked_shr(32 - bits.min(32)).unwrap_or(0) };
-        let count = rng.pick(&[0, 1, 2, 3, 5, 20, 128, 129]).min(u64::from(most) + 1) as usize;
-        let mut priorities = rng.distinct(count, most);
+        // priorities that have all but their lowest bits in common part late
+        let lowest = if rng.one_in(2) { most.min(rng.pick(&[1, 7, 255])) } else { most };
+        let common = rng.wide() & most & !lowest;
+        let count = rng.pick(&[0, 1, 2, 3, 5, 20, 128, 129]).min(u64::from(lowest) + 1) as usize;
+        let mut priorities: Vec<u32> = rng.distinct(count, lowest).into_iter().map(|low| common | low).collect();
         if rng.one_in(6) && count > 1 {
             priorities[count - 1] = priorities[0];
         }
@@ -404,11 +407,22 @@ fn replays() {
         let ended = if text.starts_with("refused ") { REFUSED } else { ANSWERED };
         let words: Vec<&str> = words.iter().map(String::as_str).collect();
         assert_eq!(run("replay", &words, b""), (text.clone().into_bytes(), ended), "{words:?}");
+        for (bit, line) in (1..=bits).zip(text.lines()) {
+            if line.contains("goes silent:") && !line.contains("goes silent: none") {
+                tally.count(match bit {
+                    1 => "silent at the first bit",
+                    _ if bit == bits => "silent at the last bit",
+                    _ => "silent between",
+                });
+            }
+        }
         list.push(words.join(" "));
         wanted.push(text);
     }
     let (printed, _) = run_in(&top(), "replay", &[], list.join("\n\n").as_bytes(), 3);
     assert_eq!(lines(&printed), wanted.join("\n"));
+    tally.print("replays");
+    need_all(&tally, &["silent at the first bit", "silent at the last bit", "silent between"], 10);
 }
 
 // ---- the sham programs of document 01 ----
