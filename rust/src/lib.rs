@@ -231,6 +231,7 @@ pub fn screen_words(streams: &[Stream], timing: &[u32], gaps: &[u32], words: &mu
 }
 
 /// The bit, counted from 1 at the top, at which two priorities part.
+// Numbers alone go over the boundary: inlined, it is one call and not two.
 #[inline]
 pub fn parting(bits: u32, first: Priority, second: Priority) -> Result<u32, Refused> {
     // SAFETY: numbers alone go in and out, and a priority is laid out as its number.
