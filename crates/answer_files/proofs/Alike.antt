@@ -4,7 +4,8 @@ use lib.ListN.{length}
 use Rattle.judge.specs.declared.Checked.{Checked, the-variants.Fine, the-variants.Refused}
 use Rattle.judge.specs.Table.{judge}
 use Rattle.checks.specs.Checks.{lines}
-use Rattle.carried.specs.Carried.{editionOf, sheetOf}
+use Rattle.carried.specs.declared.Edition.the-variants.{Three}
+use Rattle.carried.specs.Carried.{sheetOf}
 use Rattle.carried.proofs.Plans.{one-sheet}
 use Rattle.file.specs.File.{readAs}
 use Rattle.file.proofs.RoundTrip.{reads-as-its-values}
@@ -15,11 +16,11 @@ use Rattle.answer_files.specs.AnswerFiles.{answerRead, answerFileOf, Fil
 pub file-alike : FileAlike
 unfolding answerFileOf
 file-alike p few quiet fits s e out =
-    ap (λ r. answerRead (r .answer) (r .sheet) out) (reads-as-its-values p few quiet fits) ∙ go (judge (lines (editionOf p) (length (p .streams)) (length (p .gaps)) p)) refl
+    ap (λ r. answerRead (r .answer) (r .sheet) out) (reads-as-its-values p few quiet fits) ∙ go (judge (lines Three (length (p .streams)) (length (p .gaps)) p)) refl
   where
     own : SheetOf (sheetOf p) p
     own = record { plan = one-sheet p few quiet; count = refl; sources = refl }
 
-    go : (c : Checked) → judge (lines (editionOf p) (length (p .streams)) (length (p .gaps)) p) ≡ c → answerRead (readAs c p .answer) (readAs c p .sheet) out ≡ answerOf s out
+    go : (c : Checked) → judge (lines Three (length (p .streams)) (length (p .gaps)) p) ≡ c → answerRead (readAs c p .answer) (readAs c p .sheet) out ≡ answerOf s out
     go Fine d = sheets-alike p (sheetOf p) s own e out
     go (Refused r) d = sym (sheet-refused s out r (checked-by-plan p s e ∙ d))

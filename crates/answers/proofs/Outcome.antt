@@ -1,5 +1,5 @@
 -- The outcome of answering: a plan that is refused, memory that is too small, the rows' words; and the same of a sheet, by its words. Assumes nothing.
-use mathlib.Core.Path.{_≡_, refl, ap, _∙_}
+use mathlib.Core.Path.{_≡_, refl, sym, ap, _∙_}
 use mathlib.Core.List.{List, [], _++_}
 use Prim.Native.Nat.{ℕ, _*_, _≤_, _<_}
 use borrow.Author.Tests.{le-leb, lt-leb}
@@ -10,9 +10,10 @@ use Rattle.plan.specs.declared.Sheet.{Sheet}
 use Rattle.plan.specs.Plan.{Plan, planOf}
 use Rattle.judge.specs.declared.Checked.{Checked, the-variants.Fine, the-variants.Refused}
 use Rattle.judge.specs.Table.{judge, unless}
-use Rattle.carried.specs.declared.Edition.{Edition}
+use Rattle.carried.specs.declared.Edition.{Edition, the-variants.Three}
 use Rattle.checks.specs.Checks.{lines}
 use Rattle.judge.proofs.Table.{given, passed, nothing-given, fine-then, refused-then}
+use Rattle.checks.proofs.Fine.{fine-in-three}
 use Rattle.checks.proofs.Words.{planInWords, same-lines, same-plan-if-fine}
 use Rattle.plan.proofs.Places.{Owned}
 use Rattle.answers.specs.Answers.{answerWords, tooFew, answerAs, answerWith}
@@ -32,6 +33,13 @@ module _ (edition : Edition) (n m : ℕ) (p : Plan) (out : List ℕ) where
     unfolding answerWith
     words-are h =
         ap (λ k. answerAs k n p out) (fine-then (lines edition n m p) (tooFew n out) e ∙ passed _ [] (ap unless (le-leb _ _ h)) ∙ nothing-given)
+
+-- what is fine is answered alike, in whatever edition it was read
+pub answered-alike : (out : List ℕ) (edition : Edition) (n m : ℕ) (p : Plan) → judge (lines edition n m p) ≡ Fine
+    → answerWith Three n m p out ≡ answerWith edition n m p out
+unfolding answerWith
+answered-alike out edition n m p e =
+    ap (λ k. answerAs k n p out) (fine-then (lines Three n m p) (tooFew n out) (fine-in-three edition n m p e) ∙ sym (fine-then (lines edition n m p) (tooFew n out) e))
 
 -- ---- a sheet, by its words
 module _ (s : Sheet) (o : Owned s) (edition : Edition) (out : List ℕ) where

@@ -27,7 +27,7 @@ use Rattle.carried.specs.Carried.{timingIn, planIn}
 use Rattle.costs.specs.declared.Overheads.{Overheads}
 use Rattle.costs.specs.Costs.{Overhead}
 use Rattle.answers.specs.declared.Others.{Others}
-use Rattle.answers.specs.private.Gather.{PlacesWithin, Gathers, Extremes, Slotted, After, RowTerms, blocks, shareOf, lentShare, rowStream}
+use Rattle.answers.specs.private.Gather.{PlacesWithin, Gathers, Extremes, Slotted, After, RowTerms, sent, blocks, shareOf, lentShare, rowStream}
 use Rattle.answers.proofs.Gather.{fits-here, either-within, fits-either}
 
 module _ (ws : List ℕ) (n m k : ℕ) (c : Overheads) (slot : ℕ) (fine : PlacesWithin ws n m) (framed : Overhead (timingIn ws) c)
@@ -51,14 +51,14 @@ module _ (ws : List ℕ) (n m k : ℕ) (c : Overheads) (slot : ℕ) (fine : Plac
   blocking-is : largestOf (blocks (c .u) (i .priority)) (rows n (rowStream ws)) ≡ largestOf (λ j. rule.C′ t j - 1) (rule.lp p i)
   unfolding planIn
   blocking-is =
-      largest-those (λ j. j .payload + c .u - 1) (λ j. ltb (i .priority .0) (j .priority .0)) (rows n (rowStream ws))
-      ∙ ap (λ u. largestOf (λ j. j .payload + u - 1) (rule.lp p i)) (framed .u-is)
+      largest-those (λ j. sent j + c .u - 1) (λ j. ltb (i .priority .0) (j .priority .0)) (rows n (rowStream ws))
+      ∙ ap (λ u. largestOf (λ j. sent j + u - 1) (rule.lp p i)) (framed .u-is)
 
-  whole-is : (j : Stream) → c .lead + c .u + j .payload ≡ rule.C″ t j
+  whole-is : (j : Stream) → c .lead + c .u + sent j ≡ rule.C″ t j
   whole-is j = omega (arith, framed .lead-is, framed .u-is)
 
-  whole-within : c .lead + c .u + i .payload ≤ cost
-  whole-within = omega (arith, framed .little, framed .small, fine .rows .stream k among .payload)
+  whole-within : c .lead + c .u + sent i ≤ cost
+  whole-within = omega (arith, framed .little, framed .small, fine .rows .stream k among .payload, fine .rows .stream k among .acknowledgement)
 
   -- a share once its cost is the airtime
   abbrev aired : bound.Share → bound.Share
@@ -70,9 +70,9 @@ module _ (ws : List ℕ) (n m k : ℕ) (c : Overheads) (slot : ℕ) (fine : Plac
       ∙ ap (λ f. map f (rule.hp p i)) (λ x j. record { C″ = either-is (whole-is j) slot-is x; T = j .period; J = j .jitter })
 
   module _ (costs₀ periods₀ jitters costs₁ costs periods : List ℕ) (found o : Others) (whole own period jitter : ℕ)
-      (ew : whole ≡ c .lead + c .u + i .payload) (eo : own ≡ rule.selfOrSlotted slot whole slot)
+      (ew : whole ≡ c .lead + c .u + sent i) (eo : own ≡ rule.selfOrSlotted slot whole slot)
       (eg : Gathers ws n (i .priority) (c .lead + c .u) costs₀ periods₀ jitters (found .urgent))
-      (ex : Extremes ws n (i .priority) (c .u) (c .lead + c .u + i .payload) costs₀ found) (es : Slotted slot found costs₀ costs₁ o)
+      (ex : Extremes ws n (i .priority) (c .u) (c .lead + c .u + sent i) costs₀ found) (es : Slotted slot found costs₀ costs₁ o)
       (ec : After (λ j. o .hit) m (o .urgent) costs₁ costs) (ep : After (λ j. getD ws (layout.streamAt n + j) 0) m (o .urgent) periods₀ periods)
       (et : (period ≡ i .period) × (period < 2 ^ 32)) (ej : (jitter ≡ i .jitter) × (jitter < 2 ^ 32)) where
     abbrev row : Gathered

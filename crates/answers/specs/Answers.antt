@@ -10,8 +10,7 @@ use Rattle.row_words.specs.RowWords.{rowWords, wordsPerRow, answersIn}
 use Rattle.plan.specs.declared.Sheet.{Sheet}
 use Rattle.plan.specs.Plan.{Plan, planOf}
 use Rattle.plan.specs.Rules.{answers}
-use Rattle.carried.specs.declared.Edition.{Edition}
-use Rattle.carried.specs.Carried.{editionOf}
+use Rattle.carried.specs.declared.Edition.{Edition, the-variants.Three}
 use Rattle.checks.specs.Checks.{lines, checkedOf}
 
 -- the words of a plan's rows, in file order
@@ -27,13 +26,13 @@ abbrev pub answerAs : Checked → ℕ → Plan → List ℕ → Checked × List 
 answerAs Fine n p out = (Fine, answerWords p ++ drop (wordsPerRow * n) out)
 answerAs (Refused r) n p out = (Refused r, out)
 
--- of a plan in an edition that is said to have n streams and m gaps: the lines of its values, then 6
+-- of a plan in a file of an edition that is said to have n streams and m gaps: the lines of its values, then 6
 unfoldable pub answerWith : Edition → ℕ → ℕ → Plan → List ℕ → Checked × List ℕ
 answerWith edition n m p out = answerAs (judge (lines edition n m p ++ tooFew n out)) n p out
 
--- of a sheet: by its counts and its plan, in the edition that P asks for
+-- of a sheet: by its counts and its plan, with the places of edition 3
 unfoldable pub answerOf : Sheet → List ℕ → Checked × List ℕ
-answerOf s out = answerWith (editionOf (planOf s)) (s .count) (s .sources) (planOf s) out
+answerOf s out = answerWith Three (s .count) (s .sources) (planOf s) out
 
 -- ---- What is proved of the answers of values; the proofs are in proofs/Values.antt.
 

@@ -19,8 +19,8 @@ use Rattle.plan.specs.Plan.{Plan, blank}
 use Rattle.carried.specs.Layout as layout
 use Rattle.carried.specs.Carried.{timingIn, streamIn, planIn, timingWords, streamWords, valuesOf, inPlaces, sheetOf, noSheet, PlanInValues, ValuesBack, OneSheet}
 
-pub six : (s : Stream) → length (streamWords s) ≡ layout.streamLength
-six s = refl
+seven : (s : Stream) → length (streamWords s) ≡ layout.streamLength
+seven s = refl
 
 -- the words after those of the timing
 abbrev tail : Plan → List ℕ
@@ -28,7 +28,7 @@ tail p = flatMap streamWords (p .streams) ++ p .gaps
 
 pub length-values : (p : Plan) → length (valuesOf p) ≡ layout.gapAt (length (p .streams)) (length (p .gaps))
 length-values p =
-    omega (arith, length-append (flatMap streamWords (p .streams)) (p .gaps), length-flat layout.streamLength streamWords six (p .streams))
+    omega (arith, length-append (flatMap streamWords (p .streams)) (p .gaps), length-flat layout.streamLength streamWords seven (p .streams))
 
 -- ---- from a plan to its words and back
 module _ (p : Plan) (after : List ℕ) where
@@ -38,20 +38,20 @@ module _ (p : Plan) (after : List ℕ) where
   past-timing : (i : ℕ) → getD among (layout.timingLength + i) 0 ≡ getD (tail p ++ after) i 0
   past-timing i = sym (getD-drop layout.timingLength among i 0)
 
-  stream-word : (r j : ℕ) → r < length (p .streams) → j < layout.streamLength → getD among (layout.streamAt r + j) 0 ≡ getD (streamWords (getD (p .streams) r blank)) j 0
+  pub stream-word : (r j : ℕ) → r < length (p .streams) → j < layout.streamLength → getD among (layout.streamAt r + j) 0 ≡ getD (streamWords (getD (p .streams) r blank)) j 0
   stream-word r j h k =
       let flat = flatMap streamWords (p .streams) in
-      let i : layout.streamLength * r + j < length flat = omega (arith, length-flat layout.streamLength streamWords six (p .streams)) in
+      let i : layout.streamLength * r + j < length flat = omega (arith, length-flat layout.streamLength streamWords seven (p .streams)) in
       ap (λ n. getD among n 0) (add-assoc layout.timingLength (layout.streamLength * r) j)
       ∙ past-timing (layout.streamLength * r + j)
       ∙ List·getD-append (tail p) after 0 (layout.streamLength * r + j) (omega (arith, length-append flat (p .gaps)))
       ∙ List·getD-append flat (p .gaps) 0 (layout.streamLength * r + j) i
-      ∙ in-piece layout.streamLength streamWords six (p .streams) r j blank 0 h k
+      ∙ in-piece layout.streamLength streamWords seven (p .streams) r j blank 0 h k
 
-  gap-word : (k : ℕ) → k < length (p .gaps) → getD among (layout.gapAt (length (p .streams)) k) 0 ≡ getD (p .gaps) k 0
+  pub gap-word : (k : ℕ) → k < length (p .gaps) → getD among (layout.gapAt (length (p .streams)) k) 0 ≡ getD (p .gaps) k 0
   gap-word k h =
       let flat = flatMap streamWords (p .streams) in
-      let n : layout.streamLength * length (p .streams) + k ≡ length flat + k = omega (arith, length-flat layout.streamLength streamWords six (p .streams)) in
+      let n : layout.streamLength * length (p .streams) + k ≡ length flat + k = omega (arith, length-flat layout.streamLength streamWords seven (p .streams)) in
       ap (λ n. getD among n 0) (add-assoc layout.timingLength (layout.streamLength * length (p .streams)) k)
       ∙ past-timing (layout.streamLength * length (p .streams) + k)
       ∙ ap (λ i. getD (tail p ++ after) i 0) n
@@ -62,7 +62,7 @@ module _ (p : Plan) (after : List ℕ) where
   stream-is r h =
       let first : getD among (layout.streamAt r) 0 ≡ getD (streamWords (getD (p .streams) r blank)) 0 0 =
       ap (λ n. getD among n 0) (sym (add-zero (layout.streamAt r))) ∙ stream-word r 0 h (omega arith) in
-      rw (first, stream-word r 1 h (omega arith), stream-word r 2 h (omega arith), stream-word r 3 h (omega arith), stream-word r 4 h (omega arith), stream-word r 5 h (omega arith)) refl
+      rw (first, stream-word r 1 h (omega arith), stream-word r 2 h (omega arith), stream-word r 3 h (omega arith), stream-word r 4 h (omega arith), stream-word r 5 h (omega arith), stream-word r 6 h (omega arith)) refl
 
 pub plan-in-values : PlanInValues
 unfolding planIn
@@ -80,10 +80,10 @@ module _ (ws : List ℕ) where
   unfolding rows
   timing-back h = rows-part 0 layout.timingLength ws 0 h
 
-  -- six words from word k on
-  pub six-back : (k : ℕ) → k + layout.streamLength ≤ length ws → streamWords (streamIn ws k) ≡ take layout.streamLength (drop k ws)
+  -- seven words from word k on
+  pub seven-back : (k : ℕ) → k + layout.streamLength ≤ length ws → streamWords (streamIn ws k) ≡ take layout.streamLength (drop k ws)
   unfolding rows
-  six-back k h = rw (add-zero k) at (rows-part k layout.streamLength ws 0 h)
+  seven-back k h = rw (add-zero k) at (rows-part k layout.streamLength ws 0 h)
 
   streams-back : (j : ℕ) → layout.streamAt j ≤ length ws → flatMap streamWords (rows j (λ r. streamIn ws (layout.streamAt r))) ≡ take (layout.streamLength * j) (drop layout.timingLength ws)
   unfolding rows flatMap
@@ -93,14 +93,14 @@ module _ (ws : List ℕ) where
       let last : drop (layout.streamAt j) ws ≡ drop (layout.streamLength * j) part = sym (drop-drop (layout.streamLength * j) layout.timingLength ws) in
       let n : layout.streamLength * suc j ≡ layout.streamLength * j + layout.streamLength = omega arith in
       flat-append streamWords (rows j (λ r. streamIn ws (layout.streamAt r))) (streamIn ws (layout.streamAt j) ∷ [])
-      ∙ ap₂ _++_ (streams-back j (omega arith)) (append-nil (streamWords (streamIn ws (layout.streamAt j))) ∙ six-back (layout.streamAt j) (omega arith) ∙ ap (take layout.streamLength) last)
+      ∙ ap₂ _++_ (streams-back j (omega arith)) (append-nil (streamWords (streamIn ws (layout.streamAt j))) ∙ seven-back (layout.streamAt j) (omega arith) ∙ ap (take layout.streamLength) last)
       ∙ rw n (sym (take-add (layout.streamLength * j) layout.streamLength part))
 
   pub gaps-back : (n m : ℕ) → layout.gapAt n m ≤ length ws → rows m (λ k. getD ws (layout.gapAt n k) 0) ≡ take m (drop (layout.streamAt n) ws)
   gaps-back n m long = rows-part (layout.streamAt n) m ws 0 long
 
   -- all words after the timing's
-  pub tail-back : (n m : ℕ) → layout.gapAt n m ≤ length ws
+  tail-back : (n m : ℕ) → layout.gapAt n m ≤ length ws
       → flatMap streamWords (rows n (λ r. streamIn ws (layout.streamAt r))) ++ rows m (λ k. getD ws (layout.gapAt n k) 0)
       ≡ take (layout.streamLength * n + m) (drop layout.timingLength ws)
   tail-back n m long =
@@ -124,7 +124,7 @@ plan-reads n m vs ws e =
     let stream : (r : ℕ) → r < n → streamIn vs (layout.streamAt r) ≡ streamIn ws (layout.streamAt r) =
     (λ r h.
     let s : (j : ℕ) → j < layout.streamLength → getD vs (layout.streamAt r + j) 0 ≡ getD ws (layout.streamAt r + j) 0 = λ j g. e (layout.streamAt r + j) (omega arith) in
-    rw (e (layout.streamAt r) (omega arith), s 1 (omega arith), s 2 (omega arith), s 3 (omega arith), s 4 (omega arith), s 5 (omega arith)) refl) in
+    rw (e (layout.streamAt r) (omega arith), s 1 (omega arith), s 2 (omega arith), s 3 (omega arith), s 4 (omega arith), s 5 (omega arith), s 6 (omega arith)) refl) in
     let gaps : rows m (λ k. getD vs (layout.gapAt n k) 0) ≡ rows m (λ k. getD ws (layout.gapAt n k) 0) = rows-same m _ _ (λ k h. e (layout.gapAt n k) (omega arith)) in
     rw (t 0 (omega arith), t 1 (omega arith), t 2 (omega arith), t 3 (omega arith), t 4 (omega arith), t 5 (omega arith), t 6 (omega arith), t 7 (omega arith), t 8 (omega arith), t 9 (omega arith), rows-same n _ _ stream, gaps) refl
 
@@ -164,7 +164,7 @@ module _ (t : Timing) (streams : List Stream) (r : ℕ) where
   first-laid = timingWords t ++ flatMap streamWords (take r streams)
 
   first-long : r ≤ length streams → length first-laid ≡ layout.streamAt r
-  first-long h = omega (arith, length-flat layout.streamLength streamWords six (take r streams), length-take-le r streams h)
+  first-long h = omega (arith, length-flat layout.streamLength streamWords seven (take r streams), length-take-le r streams h)
 
   pub lay-stream : {ws o : List ℕ} → r < length streams → o ≡ padded first-laid → ws ≡ streamWords (getD streams r blank)
       → paste o (layout.streamAt r) ws (length ws) ≡ padded (timingWords t ++ flatMap streamWords (take (r + 1) streams))

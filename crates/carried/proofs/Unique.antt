@@ -1,10 +1,16 @@
 -- The contracts determine the outcomes: each equates the result with one value. Assumes nothing.
 use mathlib.Core.Path.{refl, sym, _∙_}
 use Rattle.laws.specs.Determined.{OneOutcome}
-use Rattle.carried.proofs.edition_for.Kinds as edition-for-kinds
-use Rattle.carried.proofs.edition_for.Reads as edition-for
 use Rattle.carried.proofs.timing_body.Kinds as timing-body-kinds
 use Rattle.carried.proofs.timing_body.Reads as timing-body
+use Rattle.carried.proofs.stream_body.Kinds as stream-body-kinds
+use Rattle.carried.proofs.stream_body.Reads as stream-body
+use Rattle.carried.proofs.record_at.Kinds as record-at-kinds
+use Rattle.carried.proofs.record_at.Reads as record-at
+use Rattle.carried.proofs.has_word.Kinds as has-word-kinds
+use Rattle.carried.proofs.has_word.Reads as has-word
+use Rattle.carried.proofs.in_bodies.Kinds as in-bodies-kinds
+use Rattle.carried.proofs.in_bodies.Reads as in-bodies
 use Rattle.carried.proofs.timing_words.Kinds as timing-words-kinds
 use Rattle.carried.proofs.timing_words.Reads as timing-words
 use Rattle.carried.proofs.words_of.Kinds as words-of-kinds
@@ -20,11 +26,20 @@ use Rattle.carried.proofs.no_streams.Reads as no-streams
 use Rattle.carried.proofs.sheet_in.Kinds as sheet-in-kinds
 use Rattle.carried.proofs.sheet_in.Reads as sheet-in
 
-pub edition-for-one : OneOutcome 0 edition-for-kinds.ps edition-for-kinds.r edition-for.Post
-edition-for-one κs a x y ws us p q = (p ∙ sym q, refl)
-
 pub timing-body-one : OneOutcome 0 timing-body-kinds.ps timing-body-kinds.r timing-body.Post
 timing-body-one κs a x y ws us p q = (p .0 ∙ sym (q .0), refl)
+
+pub stream-body-one : OneOutcome 0 stream-body-kinds.ps stream-body-kinds.r stream-body.Post
+stream-body-one κs a x y ws us p q = (p .0 ∙ sym (q .0), refl)
+
+pub record-at-one : OneOutcome 0 record-at-kinds.ps record-at-kinds.r record-at.Post
+record-at-one κs a x y ws us p q = (p .0 ∙ sym (q .0), refl)
+
+pub has-word-one : OneOutcome 0 has-word-kinds.ps has-word-kinds.r has-word.Post
+has-word-one κs a x y ws us p q = (p ∙ sym q, refl)
+
+pub in-bodies-one : OneOutcome 0 in-bodies-kinds.ps in-bodies-kinds.r in-bodies.Post
+in-bodies-one κs a x y ws us p q = (p .0 ∙ sym (q .0), refl)
 
 pub timing-words-one : OneOutcome 0 timing-words-kinds.ps timing-words-kinds.r timing-words.Post
 timing-words-one κs a x y ws us p q = (p ∙ sym q, refl)

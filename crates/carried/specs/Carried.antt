@@ -9,7 +9,6 @@ use Rattle.plan.specs.declared.Timing.{Timing}
 use Rattle.plan.specs.declared.Stream.{Stream}
 use Rattle.plan.specs.declared.Sheet.{Sheet}
 use Rattle.plan.specs.Plan.{Plan, blank, planOf}
-use Rattle.carried.specs.declared.Edition.{Edition}
 use Rattle.carried.specs.Layout as layout
 
 -- ---- from words to a plan; a word past the end is 0
@@ -30,7 +29,7 @@ timingIn ws =
       p = getD ws 9 0;
     }
 
--- label, priority, T, J, C, D from word k on
+-- label, priority, T, J, C, D, K from word k on
 abbrev pub streamIn : List ℕ → ℕ → Stream
 streamIn ws k =
     record {
@@ -40,6 +39,7 @@ streamIn ws k =
       jitter = getD ws (k + 3) 0;
       payload = getD ws (k + 4) 0;
       deadline = getD ws (k + 5) 0;
+      acknowledgement = getD ws (k + 6) 0;
     }
 
 -- n streams, and m gaps after them
@@ -59,11 +59,7 @@ abbrev pub timingWords : Timing → List ℕ
 timingWords t = t .f ∷ t .e ∷ t .tfcs ∷ t .swx ∷ t .h ∷ t .g ∷ t .etg ∷ t .lag ∷ t .nb ∷ t .p ∷ []
 
 abbrev pub streamWords : Stream → List ℕ
-streamWords s = s .label .0 ∷ s .priority .0 ∷ s .period ∷ s .jitter ∷ s .payload ∷ s .deadline ∷ []
-
--- the edition that a plan is written in
-abbrev pub editionOf : Plan → Edition
-editionOf p = layout.editionFor (p .timing .p)
+streamWords s = s .label .0 ∷ s .priority .0 ∷ s .period ∷ s .jitter ∷ s .payload ∷ s .deadline ∷ s .acknowledgement ∷ []
 
 abbrev pub valuesOf : Plan → List ℕ
 valuesOf p = timingWords (p .timing) ++ (flatMap streamWords (p .streams) ++ p .gaps)

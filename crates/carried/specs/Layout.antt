@@ -1,28 +1,28 @@
 -- Where a plan's values stand: among the words that are carried, and in the bytes of its file (document 01, "The plan file", and document
--- 02, request 01).
-use mathlib.Core.Bool.{cond}
-use Prim.Native.Nat.{ℕ, _+_, _-_, _*_}
-use lib.Dec.{ltb, eqb}
+-- 02, requests 01 and 05).
+use mathlib.Core.Bool.{Bool, true, not, cond, _&&_}
+use Prim.Native.Nat.{ℕ, _+_, _-_, _*_, _/_, _%_, min}
+use lib.Dec.{leb, ltb, eqb}
 use Rattle.names.specs.Limits.{streams, sources}
-use Rattle.carried.specs.declared.Edition.{Edition, the-variants.One, the-variants.Two}
+use Rattle.carried.specs.declared.Edition.{Edition, the-variants.One, the-variants.Two, the-variants.Three}
 
 -- ---- among the words that are carried, counted from 0: the timing, the streams, the noise gaps, with nothing between
 
--- the timing has 10 words, the last of them P, which is word 9; a stream has 6, a noise gap is one
+-- the timing has 10 words, the last of them P, which is word 9; a stream has 7, the last of them K; a noise gap is one
 abbrev pub timingLength : ℕ
 timingLength = 10
 
 abbrev pub streamLength : ℕ
-streamLength = 6
+streamLength = 7
 
 abbrev pub slotAt : ℕ
 slotAt = 9
 
--- the stream of row r starts at word 10 + 6r, ..
+-- the stream of row r starts at word 10 + 7r, ..
 abbrev pub streamAt : ℕ → ℕ
 streamAt r = timingLength + streamLength * r
 
--- .. and gap k after n streams is word 10 + 6n + k
+-- .. and gap k after n streams is word 10 + 7n + k
 abbrev pub gapAt : ℕ → ℕ → ℕ
 gapAt n k = streamAt n + k
 
@@ -30,20 +30,24 @@ gapAt n k = streamAt n + k
 abbrev pub largest : ℕ
 largest = gapAt streams sources
 
--- ---- the editions of the plan file
+-- ---- the editions of the plan file: 1 has a plan without a master node, 2 a plan with one, and 3 either
 
 abbrev pub editionNumber : Edition → ℕ
 editionNumber One = 1
 editionNumber Two = 2
+editionNumber Three = 3
 
--- a plan without a master node, P = 0, has edition 1, and a plan with one has edition 2
-unfoldable pub editionFor : ℕ → Edition
-editionFor P = cond (eqb P 0) One Two
-
--- the timing body of edition 1 has no P, and so 9 words
+-- the timing body of edition 1 has no P, and so 9 words, ..
 abbrev pub timingBody : Edition → ℕ
-timingBody One = slotAt
-timingBody Two = timingLength
+timingBody One = 9
+timingBody Two = 10
+timingBody Three = 10
+
+-- .. and a stream record of editions 1 and 2 has no K, and so 6
+abbrev pub streamBody : Edition → ℕ
+streamBody One = 6
+streamBody Two = 6
+streamBody Three = 7
 
 -- ---- in a plan file, in bytes
 
@@ -58,15 +62,37 @@ contentsLength = 11
 abbrev pub byteOf : ℕ → ℕ
 byteOf k = word * (contentsLength + k)
 
--- the word of the bodies that has word k of those that are carried: in edition 1 what comes after P is a word earlier
-abbrev pub inBodies : Edition → ℕ → ℕ
-inBodies One k = cond (ltb k timingLength) k (k - 1)
-inBodies Two k = k
+-- the record of row r, and after n of them the noise body, starts at this word of the bodies
+abbrev pub recordAt : Edition → ℕ → ℕ
+recordAt edition r = timingBody edition + streamBody edition * r
 
--- a file of n streams and m gaps has 80 + 24n + 4m bytes, and in edition 2 4 more
+-- a file of n streams and m gaps has 80 + 24n + 4m bytes, in edition 2 84 + 24n + 4m, and in edition 3 84 + 28n + 4m
 abbrev pub size : Edition → ℕ → ℕ → ℕ
-size edition n m = byteOf (timingBody edition + (streamLength * n + m))
+size edition n m = byteOf (recordAt edition n + m)
 
 -- no file is larger
 abbrev pub largestFile : ℕ
-largestFile = size Two streams sources
+largestFile = size Three streams sources
+
+-- ---- from word k of those that are carried of n streams to the word of the bodies that it stands in
+
+-- it is the K of a stream: the last word of one of the n records, ..
+abbrev pub isAcknowledgement : ℕ → ℕ → Bool
+isAcknowledgement n k =
+    leb timingLength k && ltb ((k - timingLength) / streamLength) n && eqb ((k - timingLength) % streamLength) 6
+
+-- .. and so many K come before it
+abbrev pub acknowledgementsBefore : ℕ → ℕ → ℕ
+acknowledgementsBefore n k = min n ((k - timingLength) / streamLength)
+
+-- whether an edition has a word for it: edition 1 has none for P, and editions 1 and 2 have none for K
+abbrev pub hasWord : Edition → ℕ → ℕ → Bool
+hasWord One n k = not (eqb k slotAt) && not (isAcknowledgement n k)
+hasWord Two n k = not (isAcknowledgement n k)
+hasWord Three n k = true
+
+-- the word of the bodies: it is as many words earlier as come before it that the edition does not have
+abbrev pub inBodies : Edition → ℕ → ℕ → ℕ
+inBodies One n k = cond (ltb k timingLength) k (k - 1) - acknowledgementsBefore n k
+inBodies Two n k = k - acknowledgementsBefore n k
+inBodies Three n k = k

@@ -24,10 +24,12 @@ ghost use Rattle.carried.specs.Layout as layout;
 ghost use Rattle.carried.specs.Carried.{timingIn, streamIn, streamsIn, gapsIn, planIn};
 ghost use Rattle.carried.specs.Carried.{timingWords, streamWords, valuesOf, inPlaces, sheetOf};
 
-// A file of edition 1 has a plan without a master node, and no word for P; one of edition 2 has a plan with one.
+// A file of edition 1 has a plan without a master node, and no word for P; one of edition 2 has a plan with one; neither has a word for K.
+// One of edition 3 has either, with both words. It is the one that is written, and the one whose places lent values have.
 pub enum Edition {
     One,
     Two,
+    Three,
 }
 
 // A word's bytes, and the words of a file's contents, of the timing and of a stream. A noise gap is one word.
@@ -37,17 +39,13 @@ pub const CONTENTS: usize = 11;
 
 pub const TIMING: usize = 10;
 
-pub const STREAM: usize = 6;
+pub const STREAM: usize = 7;
+
+// The timing's word that has P.
+pub const SLOT: usize = TIMING - 1;
 
 // The words of the largest plan.
 pub const CARRIED: usize = TIMING + STREAM * STREAMS + SOURCES;
-
-// The edition that a plan is written in: P decides.
-pub fn edition_for(p: u32) -> Edition
-    ensures { λ r. ⌜ r ≡ layout.editionFor p ⌝ }
-{
-    if p == 0 { Edition::One } else { Edition::Two }
-}
 
 // How many timing words a file has.
 pub fn timing_body(edition: Edition) -> usize
@@ -57,6 +55,88 @@ pub fn timing_body(edition: Edition) -> usize
     match edition {
         Edition::One => TIMING - 1,
         Edition::Two => TIMING,
+        Edition::Three => TIMING,
+    }
+}
+
+// How many words a stream's record has in a file.
+pub fn stream_body(edition: Edition) -> usize
+    ensures { λ r. ⌜ r ≡ layout.streamBody edition ⌝ }
+    ensures { λ r. ⌜ 1 ≤ r ⌝ }
+    ensures { λ r. ⌜ r ≤ layout.streamLength ⌝ }
+{
+    match edition {
+        Edition::One => STREAM - 1,
+        Edition::Two => STREAM - 1,
+        Edition::Three => STREAM,
+    }
+}
+
+// The word of the bodies at which the record of row r starts, and after the last of them the noise body.
+pub fn record_at(edition: Edition, r: u16) -> usize
+    ensures { λ x. ⌜ x ≡ layout.recordAt edition r ⌝ }
+    ensures { λ x. ⌜ x ≤ layout.streamAt r ⌝ }
+{
+    match edition {
+        Edition::One => TIMING - 1 + (STREAM - 1) * r as usize,
+        Edition::Two => TIMING + (STREAM - 1) * r as usize,
+        Edition::Three => TIMING + STREAM * r as usize,
+    }
+}
+
+// Whether word k of those that are carried of n streams is the K of one of them.
+fn is_acknowledgement(n: usize, k: usize) -> bool
+    ensures { λ r. ⌜ r ≡ layout.isAcknowledgement n k ⌝ }
+{
+    if k < TIMING {
+        return false;
+    }
+    if n <= (k - TIMING) / STREAM {
+        return false;
+    }
+    (k - TIMING) % STREAM == STREAM - 1
+}
+
+// How many K come before it.
+fn acknowledgements_before(n: usize, k: usize) -> usize
+    ensures { λ r. ⌜ r ≡ layout.acknowledgementsBefore n k ⌝ }
+{
+    if k < TIMING {
+        return 0;
+    }
+    smaller(n, (k - TIMING) / STREAM)
+}
+
+// Whether a file of n streams has word k of those that are carried: edition 1 has no P, and editions 1 and 2 have no K.
+pub fn has_word(edition: Edition, n: usize, k: usize) -> bool
+    ensures { λ r. ⌜ r ≡ layout.hasWord edition n k ⌝ }
+{
+    match edition {
+        Edition::One => {
+            if k == SLOT {
+                return false;
+            }
+            !is_acknowledgement(n, k)
+        }
+        Edition::Two => !is_acknowledgement(n, k),
+        Edition::Three => true,
+    }
+}
+
+// The word of the bodies in which it stands.
+pub fn in_bodies(edition: Edition, n: usize, k: usize) -> usize
+    ensures { λ r. ⌜ r ≡ layout.inBodies edition n k ⌝ }
+    ensures { λ r. ⌜ r ≤ k ⌝ }
+{
+    match edition {
+        Edition::One => {
+            if k < TIMING {
+                return k;
+            }
+            k - 1 - acknowledgements_before(n, k)
+        }
+        Edition::Two => k - acknowledgements_before(n, k),
+        Edition::Three => k,
     }
 }
 
@@ -77,6 +157,7 @@ fn stream_words(s: Stream) -> [u32; STREAM]
         s.jitter,
         s.payload,
         s.deadline,
+        s.acknowledgement,
     ]
 }
 
@@ -159,6 +240,7 @@ fn stream_in(words: &[u32], k: usize) -> Stream
         jitter: words[k + 3],
         payload: words[k + 4],
         deadline: words[k + 5],
+        acknowledgement: words[k + 6],
     }
 }
 

@@ -1,8 +1,9 @@
 // Runs plan files and compares what the desk is shown of each with what it must be.
 //
 // Standard input has two names a line: a plan file, and a file with its listing or with the line of its refusal. Of a plan that is not
-// refused the desk must be shown that listing, `fine`, and the file's own bytes again; of a refused one the same line three
-// times. What differs is printed, and the last line counts. This program must not know of plans.
+// refused the desk must be shown that listing, `fine`, and a file of edition 3: the file's own bytes again, if it has that edition, and else
+// one of which it is shown the same listing and the same file; of a refused one the same line three times. What differs is printed, and the
+// last line counts. This program must not know of plans.
 mod list;
 
 use console::Input;
@@ -46,6 +47,24 @@ fn file_is(file: &[u8], must: &[u8]) -> bool {
     }
 }
 
+// Whether a file that was written again is the file itself, if that begins as one of edition 3 does, or else means the same and is written
+// again as it is.
+fn again_is(file: &[u8], again: &[u8], must: &[u8]) -> bool {
+    if first_are(file, 4, b"\x03\x00\x00\x00") {
+        return check::same(again, file);
+    }
+    let listing = listing_is(again, must);
+    file_is(again, again) & listing
+}
+
+fn file_again(file: &[u8], must: &[u8]) -> bool {
+    let mut out = desk::file_buffer();
+    match desk::show_file(file, &mut out) {
+        Put::At(k) => again_is(file, first(&out, k), must),
+        Put::Full => false,
+    }
+}
+
 // Prints what differs, and answers whether nothing does.
 fn same(holds: bool, what: &[u8], name: &[u8]) -> bool {
     if !holds {
@@ -64,7 +83,7 @@ fn beside(name: &[u8], file: &[u8], must: &[u8]) -> bool {
         return same(file_is(file, must), b"file", name) & refusal;
     }
     let refusal = same(refusal_is(file, b"fine\n"), b"refusal", name);
-    same(file_is(file, file), b"file", name) & refusal
+    same(file_again(file, must), b"file", name) & refusal
 }
 
 fn compared(name: &[u8], file: &[u8], must: &[u8]) -> bool {

@@ -18,7 +18,7 @@ use Rattle.carried.specs.declared.Edition.{Edition}
 use Rattle.carried.specs.Carried.{planIn}
 use Rattle.checks.specs.Checks.{inRange, rangeLines, counted, fieldLines, rowLines, slotLines, valueLines, lines}
 
-and-true : (t : Bool) → t && true ≡ t
+pub and-true : (t : Bool) → t && true ≡ t
 and-true true = refl
 and-true false = refl
 
@@ -66,23 +66,19 @@ module _ (n m : ℕ) where
     pub counted-so : counted n m p ≡ inRange n m
     counted-so = rw (eq-eqb (length (p .streams)) n n-is, eq-eqb (length (p .gaps)) m m-is) (and-true (inRange n m && true) ∙ and-true (inRange n m))
 
-  -- of the words that are carried as many streams and gaps are taken as are said
-  pub ranges-counted : (edition : Edition) (ws : List ℕ)
-      → let p = planIn n m ws in judge (rangeLines n m ++ valueLines edition p) ≡ judge (lines edition n m p)
-  unfolding planIn
-  ranges-counted edition ws =
-      let p = planIn n m ws in
-      ap (λ t. judge (record { number = 2; place = unless t } ∷ valueLines edition p)) (sym (counted-so p (length-rows n _) (length-rows m _)))
+    pub ranges-counted : (edition : Edition) → judge (rangeLines n m ++ valueLines edition p) ≡ judge (lines edition n m p)
+    ranges-counted edition = ap (λ t. judge (record { number = 2; place = unless t } ∷ valueLines edition p)) (sym counted-so)
 
-  -- so their table is judged part by part
+  -- of the words that are carried as many streams and gaps are taken as are said, so their table is judged part by part
   pub carried-in-parts : (edition : Edition) (ws : List ℕ)
       → let p = planIn n m ws in
       judge (lines edition n m p)
       ≡ judge (rangeLines n m) then judge (fieldLines edition p) then judge (rowLines (p .streams)) then judge (slotLines (p .timing) (p .streams))
+  unfolding planIn
   carried-in-parts edition ws =
       let p = planIn n m ws in
       let slots = slotLines (p .timing) (p .streams) in
-      sym (ranges-counted edition ws)
+      sym (ranges-counted p (length-rows n _) (length-rows m _) edition)
       ∙ judged-in-turn (rangeLines n m) (valueLines edition p)
       ∙ ap (λ c. judge (rangeLines n m) then c)
       (judged-in-turn (fieldLines edition p) (rowLines (p .streams) ++ slots)

@@ -16,11 +16,10 @@ use Rattle.plan.specs.declared.Timing.{Timing}
 use Rattle.plan.specs.declared.Stream.{Stream}
 use Rattle.plan.specs.Plan.{Plan, planOf, at}
 use Rattle.plan.specs.Rules.{C″, exceedsSlot, FitsSlot}
-use Rattle.carried.specs.declared.Edition.{Edition}
-use Rattle.carried.specs.Carried.{editionOf}
-use Rattle.fields.specs.Fields.{fields}
+use Rattle.carried.specs.declared.Edition.{Edition, the-variants.Three}
+use Rattle.fields.specs.Fields.{fields, SlotWithin}
 use Rattle.fields.proofs.Inside.{nothing-if-inside}
-use Rattle.fields.proofs.Limits.{inside-if-fields-within}
+use Rattle.fields.proofs.Limits.{inside-if-fields-within, slot-three}
 use Rattle.judge.specs.declared.Checked.the-variants.{Fine}
 use Rattle.judge.specs.Table.{judge, unless, rowIn}
 use Rattle.checks.specs.Checks.{inRange, counted, byteIn, priorities, labels, lines, checkedOf, Right, FineIfRight, FineWithin}
@@ -28,9 +27,9 @@ use Rattle.judge.proofs.Table.{passed, nothing-given, not-given, unless-not, ro
 use Rattle.checks.proofs.Counts.{range-within, within-range, counted-so}
 
 -- ---- a line that is not given
-pub byte-not : (edition : Edition) (f : Found) → byteIn edition f ≡ Nothing → f ≡ Nothing
-byte-not edition (At k) e = absurd (apart e)
-byte-not edition Nothing e = refl
+pub byte-not : (edition : Edition) (n : ℕ) (f : Found) → byteIn edition n f ≡ Nothing → f ≡ Nothing
+byte-not edition n (At k) e = absurd (apart e)
+byte-not edition n Nothing e = refl
 
 -- no stream exceeds its slot exactly if each fits it
 not-exceeding : (t : Timing) (j : Stream) → exceedsSlot t j ≡ false → FitsSlot t j
@@ -46,7 +45,7 @@ fitting t j fits =
 pub fine-if-right : FineIfRight
 fine-if-right edition n m p = (right, fine)
   where
-    right : judge (lines edition n m p) ≡ Fine → (edition ≡ editionOf p) × Right n m p
+    right : judge (lines edition n m p) ≡ Fine → SlotWithin edition (p .timing .p) × Right n m p
     right e =
         let (two, e₃) = not-given _ _ e in
         let (three, e₄) = not-given _ _ e₃ in
@@ -56,11 +55,11 @@ fine-if-right edition n m p = (right, fine)
         let (range-n, m-are) = both (inRange n m && eqb (length (p .streams)) n) (eqb (length (p .gaps)) m) (unless-not (counted n m p) two) in
         let (range, n-are) = both (inRange n m) (eqb (length (p .streams)) n) range-n in
         let (some, few, quiet) = range-within n m range in
-        let w = inside-if-fields-within edition p .0 (nothing-if-inside 0 (fields edition p) .0 (byte-not edition _ three)) in
+        let w = inside-if-fields-within edition p .0 (nothing-if-inside 0 (fields edition p) .0 (byte-not edition (length (p .streams)) _ three)) in
         let n-is : length (p .streams) ≡ n = eqb-true _ _ n-are in
         let m-is : length (p .gaps) ≡ m = eqb-true _ _ m-are in
         let short = finds-nothing (λ k. exceedsSlot (p .timing) (at p k)) 0 (length (p .streams)) .0 ten in (
-          w .edition-is,
+          w .slot,
           record {
             within =
                 record {
@@ -80,17 +79,23 @@ fine-if-right edition n m p = (right, fine)
           },
         )
 
-    fine : (edition ≡ editionOf p) × Right n m p → judge (lines edition n m p) ≡ Fine
+    fine : SlotWithin edition (p .timing .p) × Right n m p → judge (lines edition n m p) ≡ Fine
     fine (is, r) =
         let w = r .within in
         let range = within-range n m (omega (arith, w .some-stream, r .count)) (omega (arith, w .count, r .count)) (omega (arith, w .sources, r .sources)) in
-        let inside = inside-if-fields-within edition p .1 (record { edition-is = is; timing = w .timing; stream = w .stream; label = r .label; gap = w .gap }) in
+        let inside = inside-if-fields-within edition p .1 (record { slot = is; timing = w .timing; stream = w .stream; label = r .label; gap = w .gap }) in
         passed _ _ (ap unless (counted-so n m p (r .count) (r .sources) ∙ range))
-        ∙ passed _ _ (ap (byteIn edition) (nothing-if-inside 0 (fields edition p) .1 inside))
+        ∙ passed _ _ (ap (byteIn edition (length (p .streams))) (nothing-if-inside 0 (fields edition p) .1 inside))
         ∙ passed _ _ (ap rowIn (nothing-if-distinct (priorities (p .streams)) .1 (r .priorities)))
         ∙ passed _ _ (ap rowIn (nothing-if-distinct (labels (p .streams)) .1 (r .labels)))
         ∙ passed _ _ (finds-nothing (λ k. exceedsSlot (p .timing) (at p k)) 0 (length (p .streams)) .1 (λ k a h. fitting (p .timing) (at p k) (r .slots k (omega arith))))
         ∙ nothing-given
+
+-- what is fine in a file of any edition is fine in one of edition 3
+pub fine-in-three : (edition : Edition) (n m : ℕ) (p : Plan) → judge (lines edition n m p) ≡ Fine → judge (lines Three n m p) ≡ Fine
+fine-in-three edition n m p e =
+    let (is, r) = fine-if-right edition n m p .0 e in
+    fine-if-right Three n m p .1 (slot-three (p .timing .p) (r .within .timing .p), r)
 
 -- a right plan has as many streams and gaps as it has
 pub own-counts : (n m : ℕ) (p : Plan) → Right n m p → Right (length (p .streams)) (length (p .gaps)) p

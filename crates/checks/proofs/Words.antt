@@ -11,9 +11,9 @@ use lib.Seq.{length-take-le}
 use Rattle.names.specs.Limits.{streams, sources}
 use Rattle.plan.specs.declared.Sheet.{Sheet}
 use Rattle.plan.specs.Plan.{Plan, planOf}
-use Rattle.carried.specs.declared.Edition.{Edition}
+use Rattle.carried.specs.declared.Edition.{Edition, the-variants.Three}
 use Rattle.carried.specs.Layout as layout
-use Rattle.carried.specs.Carried.{planIn, editionOf, valuesOf, inPlaces}
+use Rattle.carried.specs.Carried.{planIn, valuesOf, inPlaces}
 use Rattle.plan.proofs.Places.{Owned, stream-places, gap-places}
 use Rattle.carried.proofs.Plans.{length-values, plan-in-values}
 use Rattle.laws.proofs.Placed.{placed-short}
@@ -60,6 +60,6 @@ module _ (s : Sheet) (o : Owned s) (edition : Edition) where
         let (is, r) = fine-if-right edition (s .count) (s .sources) (planOf s) .0 (fine-parts (lines edition (s .count) (s .sources) (planOf s)) more e .0) in
         same-plan (omega (arith, r .count, r .within .count)) (omega (arith, r .sources, r .within .sources))
 
-pub same-check : (s : Sheet) (o : Owned s) → let e = editionOf (planOf s) in judge (lines e (s .count) (s .sources) (planInWords s o e)) ≡ checkedOf s
+pub same-check : (s : Sheet) (o : Owned s) → judge (lines Three (s .count) (s .sources) (planInWords s o Three)) ≡ checkedOf s
 unfolding checkedOf
-same-check s o = same-lines s o (editionOf (planOf s)) []
+same-check s o = same-lines s o Three []

@@ -1,5 +1,5 @@
--- Document 01, "When the answer is no", and document 02, request 01: refusals 2, 3, 4, 5 and 10 of a plan's values, as the lines of their
--- table. The order of the lines decides, and not the size of a number.
+-- Document 01, "When the answer is no", and document 02, requests 01 and 05: refusals 2, 3, 4, 5 and 10 of a plan's values, as the lines of
+-- their table. The order of the lines decides, and not the size of a number.
 use mathlib.Core.Path.{_≡_}
 use mathlib.Core.Bool.{Bool, _&&_}
 use mathlib.Core.List.{List, [], _∷_, _++_, map}
@@ -18,10 +18,9 @@ use Rattle.plan.specs.declared.Stream.{Stream}
 use Rattle.plan.specs.declared.Sheet.{Sheet}
 use Rattle.plan.specs.Plan.{Plan, planOf, blank, at, Within}
 use Rattle.plan.specs.Rules.{exceedsSlot, FitsSlot}
-use Rattle.carried.specs.declared.Edition.{Edition}
+use Rattle.carried.specs.declared.Edition.{Edition, the-variants.Three}
 use Rattle.carried.specs.Layout as layout
-use Rattle.carried.specs.Carried.{editionOf}
-use Rattle.fields.specs.Fields.{fields, lowest}
+use Rattle.fields.specs.Fields.{fields, lowest, SlotWithin}
 
 -- ---- the counts
 
@@ -39,14 +38,14 @@ counted n m p = inRange n m && eqb (length (p .streams)) n && eqb (length (p .ga
 
 -- ---- the fields
 
--- the byte at which a field that was found stands in a plan file of an edition
-abbrev pub byteIn : Edition → Found → Found
-byteIn edition (At k) = At (layout.byteOf (layout.inBodies edition k))
-byteIn edition Nothing = Nothing
+-- the byte at which a field that was found stands in a plan file of an edition with n streams
+abbrev pub byteIn : Edition → ℕ → Found → Found
+byteIn edition n (At k) = At (layout.byteOf (layout.inBodies edition n k))
+byteIn edition n Nothing = Nothing
 
 -- 3: a field is outside its limits (the lowest)
 abbrev pub fieldLines : Edition → Plan → List Line
-fieldLines edition p = record { number = 3; place = byteIn edition (lowest 0 (fields edition p)) } ∷ []
+fieldLines edition p = record { number = 3; place = byteIn edition (length (p .streams)) (lowest 0 (fields edition p)) } ∷ []
 
 -- ---- the rows
 
@@ -76,9 +75,9 @@ valueLines edition p = fieldLines edition p ++ rowLines (p .streams) ++ slotLine
 abbrev pub lines : Edition → ℕ → ℕ → Plan → List Line
 lines edition n m p = record { number = 2; place = unless (counted n m p) } ∷ valueLines edition p
 
--- the answer to a sheet's values, with the places of the edition that P asks for
+-- the answer to a sheet's values, with the places of edition 3
 unfoldable pub checkedOf : Sheet → Checked
-checkedOf s = judge (lines (editionOf (planOf s)) (s .count) (s .sources) (planOf s))
+checkedOf s = judge (lines Three (s .count) (s .sources) (planOf s))
 
 -- ---- What is proved of the table of a plan's refusals; the proofs are in proofs/Fine.antt.
 
@@ -92,9 +91,10 @@ pub record Right (n m : ℕ) (p : Plan) : Type 0 where
   pub labels : Distinct (labels (p .streams))
   pub slots : (k : ℕ) → k < length (p .streams) → FitsSlot (p .timing) (at p k)
 
--- the values are fine exactly if they are a right plan, in the edition that P asks for
+-- the values are fine exactly if they are a right plan, with a P of the edition: none in edition 1, one in edition 2, either in edition 3
 abbrev pub FineIfRight : Type 0
-FineIfRight = (edition : Edition) (n m : ℕ) (p : Plan) → (judge (lines edition n m p) ≡ Fine) ↔ ((edition ≡ editionOf p) × Right n m p)
+FineIfRight =
+    (edition : Edition) (n m : ℕ) (p : Plan) → (judge (lines edition n m p) ≡ Fine) ↔ (SlotWithin edition (p .timing .p) × Right n m p)
 
 -- what a sheet that is fine promises
 abbrev pub FineWithin : Type 0

@@ -10,7 +10,7 @@ use carried::Edition;
 use carried::STREAM;
 use carried::TIMING;
 use carried::WORD;
-use carried::edition_for;
+use carried::in_bodies;
 use carried::timing_in;
 use carried::words_of;
 use costs::overheads_of;
@@ -37,12 +37,14 @@ ghost use Rattle.costs.specs.Costs.{mostV, mostU};
 ghost use Rattle.carried.specs.Carried.{timingIn, streamsIn, planIn};
 ghost use Rattle.checks.specs.Checks.{rangeLines, fieldLines, rowLines, slotLines, lines, checkedOf};
 
-// The words of a stream that have its label, its priority and its payload.
+// The words of a stream that have its label, its priority, its payload and its acknowledgement.
 const LABEL: usize = 0;
 
 const PRIORITY: usize = 1;
 
 const PAYLOAD: usize = 4;
+
+const ACKNOWLEDGEMENT: usize = 6;
 
 // Word k of each stream, in row order: a column of plain numbers, as it can be lent.
 fn column(words: &[u32], n: usize, k: usize) -> [u32; STREAMS]
@@ -74,21 +76,12 @@ pub fn check_counts(n: usize, m: usize) -> Checked
     Checked::Fine
 }
 
-// Where in a file word k of those that are carried stands: edition 1 has no P, and all that comes after is a word earlier.
-fn byte_of(edition: Edition, k: usize) -> usize
+// Where in a file of n streams word k of those that are carried stands.
+fn byte_of(edition: Edition, n: usize, k: usize) -> usize
     requires { ⌜ k < layout.largest ⌝ }
-    ensures { λ r. ⌜ r ≡ layout.byteOf (layout.inBodies edition k) ⌝ }
+    ensures { λ r. ⌜ r ≡ layout.byteOf (layout.inBodies edition n k) ⌝ }
 {
-    match edition {
-        Edition::One => {
-            if k < TIMING {
-                WORD * (CONTENTS + k)
-            } else {
-                WORD * (CONTENTS + (k - 1))
-            }
-        }
-        Edition::Two => WORD * (CONTENTS + k),
-    }
+    WORD * (CONTENTS + in_bodies(edition, n, k))
 }
 
 // 3: the byte of the lowest field outside its limits, of the plan of n streams and m gaps in the words. Of counts past the limits the
@@ -96,8 +89,9 @@ fn byte_of(edition: Edition, k: usize) -> usize
 pub fn check_fields(edition: Edition, words: &[u32; CARRIED], n: usize, m: usize) -> Checked
     ensures { λ r. ⌜ r ≡ judge (fieldLines edition (planIn (min n limit.streams) (min m limit.sources) (now (words .entry)))) ⌝ }
 {
+    let rows = smaller(n, STREAMS);
     match outside(edition, words, n, m) {
-        Found::At(k) => refused(3, byte_of(edition, k as usize)),
+        Found::At(k) => refused(3, byte_of(edition, rows, k as usize)),
         Found::Nothing => Checked::Fine,
     }
 }
@@ -119,12 +113,12 @@ pub fn check_rows(words: &[u32; CARRIED], n: usize) -> Checked
     }
 }
 
-// Whether a message does not fit its slot: what comes to its payload is given beside.
-fn too_long(slot: u32, beside: u64, payload: u32) -> bool
+// Whether a message does not fit its slot: what comes to its payload and its acknowledgement is given beside.
+fn too_long(slot: u32, beside: u64, payload: u32, acknowledgement: u32) -> bool
     requires { ⌜ beside ≤ mostV + mostU ⌝ }
-    ensures { λ r. ⌜ r ≡ ltb slot (beside + payload) ⌝ }
+    ensures { λ r. ⌜ r ≡ ltb slot (beside + payload + acknowledgement) ⌝ }
 {
-    (slot as u64) < beside + payload as u64
+    (slot as u64) < beside + payload as u64 + acknowledgement as u64
 }
 
 // 10: the lowest row whose C'' exceeds P, where there is a master node.
@@ -141,7 +135,13 @@ fn check_slots(words: &[u32; CARRIED], n: usize) -> Checked
     let c = overheads_of(timing);
     let beside = c.lead + c.u;
     for r in 0..n {
-        if too_long(slot, beside, words[TIMING + STREAM * r + PAYLOAD]) {
+        let at = TIMING + STREAM * r;
+        if too_long(
+            slot,
+            beside,
+            words[at + PAYLOAD],
+            words[at + ACKNOWLEDGEMENT],
+        ) {
             return refused(10, r);
         }
     }
@@ -167,15 +167,10 @@ pub fn check_words(edition: Edition, words: &[u32; CARRIED], n: usize, m: usize)
     check_slots(words, n)
 }
 
-// The same of a sheet's values, in the edition that P asks for.
+// The same of a sheet's values, with the places of edition 3.
 pub fn check(sheet: Sheet) -> Checked
     ensures { λ r. ⌜ r ≡ checkedOf sheet ⌝ }
 {
     let words = words_of(sheet);
-    check_words(
-        edition_for(sheet.timing.p),
-        &words,
-        sheet.count,
-        sheet.sources,
-    )
+    check_words(Edition::Three, &words, sheet.count, sheet.sources)
 }

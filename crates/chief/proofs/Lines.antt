@@ -19,6 +19,7 @@ use Rattle.compare.specs.declared.Reason.the-variants.{
   LongerJitter,
   LongerPayload,
   ShorterDeadline,
+  LongerAcknowledgement,
   LessUrgent,
   MoreNoise,
 }
@@ -81,6 +82,7 @@ reason-size (ShorterPeriod l) h = omega (arith, stream-size l (ascii " has a sho
 reason-size (LongerJitter l) h = omega (arith, stream-size l (ascii " has a longer jitter") h)
 reason-size (LongerPayload l) h = omega (arith, stream-size l (ascii " has a longer payload") h)
 reason-size (ShorterDeadline l) h = omega (arith, stream-size l (ascii " has a shorter deadline") h)
+reason-size (LongerAcknowledgement l) h = omega (arith, stream-size l (ascii " has a longer acknowledgement") h)
 reason-size (LessUrgent l) h = omega (arith, stream-size l (ascii " comes after a stream that it came before") h)
 reason-size (MoreNoise gap) h = simp length-append (omega (arith, few-digits 10 gap (omega arith) (omega arith)))
 

@@ -9,7 +9,7 @@ use Rattle.judge.specs.declared.Checked.the-variants.{Fine}
 use Rattle.promise.specs.Lighter.{Lighter}
 use Rattle.compare.specs.declared.Reason.{Reason}
 use Rattle.compare.specs.declared.Reason.the-variants.{MasterNode, GreaterConstant, NewLabel, ShorterPeriod, LongerJitter}
-use Rattle.compare.specs.declared.Reason.the-variants.{LongerPayload, ShorterDeadline, LessUrgent, MoreNoise}
+use Rattle.compare.specs.declared.Reason.the-variants.{LongerPayload, ShorterDeadline, LongerAcknowledgement, LessUrgent, MoreNoise}
 use Rattle.compare.specs.declared.Compared.{Compared}
 use Rattle.compare.specs.declared.Compared.the-variants.{FirstRefused, SecondRefused, Lighter as Compared·Lighter, RunAgain}
 use Rattle.file.specs.File.{readOf}
@@ -43,6 +43,7 @@ reasonText (ShorterPeriod l) = labelText l ++ ascii " has a shorter period"
 reasonText (LongerJitter l) = labelText l ++ ascii " has a longer jitter"
 reasonText (LongerPayload l) = labelText l ++ ascii " has a longer payload"
 reasonText (ShorterDeadline l) = labelText l ++ ascii " has a shorter deadline"
+reasonText (LongerAcknowledgement l) = labelText l ++ ascii " has a longer acknowledgement"
 reasonText (LessUrgent l) = labelText l ++ ascii " comes after a stream that it came before"
 reasonText (MoreNoise gap) = noiseText gap
 
@@ -77,6 +78,7 @@ named (ShorterPeriod l) = l .0
 named (LongerJitter l) = l .0
 named (LongerPayload l) = l .0
 named (ShorterDeadline l) = l .0
+named (LongerAcknowledgement l) = l .0
 named (LessUrgent l) = l .0
 named (MoreNoise gap) = gap
 

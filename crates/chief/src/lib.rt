@@ -72,6 +72,12 @@ fn lay_reason(out: &mut [u8], at: usize, why: Reason) -> usize
         Reason::LongerJitter(l) => lay_stream(out, at, l, b" has a longer jitter"),
         Reason::LongerPayload(l) => lay_stream(out, at, l, b" has a longer payload"),
         Reason::ShorterDeadline(l) => lay_stream(out, at, l, b" has a shorter deadline"),
+        Reason::LongerAcknowledgement(l) => lay_stream(
+            out,
+            at,
+            l,
+            b" has a longer acknowledgement",
+        ),
         Reason::LessUrgent(l) => lay_stream(
             out,
             at,

@@ -96,7 +96,8 @@ eases old new e =
     let (period, e₀) = passes-then _ _ _ _ e in
     let (jitter, e₁) = passes-then _ _ _ _ e₀ in
     let (payload, e₂) = passes-then _ _ _ _ e₁ in
-    record { period = period; deadline = passes _ _ _ e₂; jitter = jitter; payload = payload }
+    let (deadline, e₃) = passes-then _ _ _ _ e₂ in
+    record { period = period; deadline = deadline; jitter = jitter; payload = payload; acknowledgement = passes _ _ _ e₃ }
 
 pub eased-nothing : (old new : Stream) → Eased old new → eased old new ≡ Nothing
 unfolding eased
@@ -105,7 +106,8 @@ eased-nothing old new h =
     (pass _ _ _ _ (h .period)
     (pass _ _ _ _ (h .jitter)
     (pass _ _ _ _ (h .payload)
-    (sym (no-reason _ _ _ (h .deadline))))))
+    (pass _ _ _ _ (h .deadline)
+    (sym (no-reason _ _ _ (h .acknowledgement)))))))
 
 -- ---- the row that is under a label
 pub found-row : (p : Plan) (l : Label) (r : ℕ) → rowOf p l ≡ Found·At r → (r < length (p .streams)) × (at p r .label .0 ≡ l .0)

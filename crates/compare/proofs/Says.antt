@@ -10,7 +10,7 @@ use Rattle.plan.specs.Plan.{Plan, planOf}
 use Rattle.judge.specs.declared.Checked.{Checked, the-variants.Fine, the-variants.Refused}
 use Rattle.judge.specs.Table.{judge}
 use Rattle.carried.specs.declared.Edition.{Edition}
-use Rattle.carried.specs.Carried.{editionOf}
+use Rattle.carried.specs.declared.Edition.the-variants.{Three}
 use Rattle.checks.specs.Checks.{lines, checkedOf}
 use Rattle.checks.proofs.Fine.{fine-if-right, own-counts}
 use Rattle.promise.specs.Lighter.{Lighter, NotRefused, Kept}
@@ -47,7 +47,7 @@ fine-not-refused edition n m p e = own-counts n m p (fine-if-right edition n m p
 -- ---- two sheets
 sheet-not-refused : (s : Sheet) → checkedOf s ≡ Fine → NotRefused (planOf s)
 unfolding checkedOf
-sheet-not-refused s e = fine-not-refused (editionOf (planOf s)) (s .count) (s .sources) (planOf s) e
+sheet-not-refused s e = fine-not-refused Three (s .count) (s .sources) (planOf s) e
 
 pub said-of-sheets : (old new : Sheet) → SaysLighter old new (comparedOf old new)
 unfolding comparedOf

@@ -22,7 +22,7 @@ use Rattle.carried.specs.Carried.{timingWords}
 use Rattle.checks.specs.Checks.{checkedOf}
 use Rattle.compare.specs.declared.Reason.{Reason}
 use Rattle.compare.specs.declared.Reason.the-variants.{MasterNode, GreaterConstant, NewLabel, ShorterPeriod, LongerJitter}
-use Rattle.compare.specs.declared.Reason.the-variants.{LongerPayload, ShorterDeadline, LessUrgent, MoreNoise}
+use Rattle.compare.specs.declared.Reason.the-variants.{LongerPayload, ShorterDeadline, LongerAcknowledgement, LessUrgent, MoreNoise}
 use Rattle.compare.specs.declared.Change.{Change, the-variants.Of, the-variants.Nothing}
 use Rattle.compare.specs.declared.Compared.{Compared}
 use Rattle.compare.specs.declared.Compared.the-variants.{FirstRefused, SecondRefused, Lighter, RunAgain}
@@ -68,6 +68,7 @@ eased old new =
     or must (leb (new .jitter) (old .jitter)) (LongerJitter (new .label))
     or must (leb (new .payload) (old .payload)) (LongerPayload (new .label))
     or must (leb (old .deadline) (new .deadline)) (ShorterDeadline (new .label))
+    or must (leb (new .acknowledgement) (old .acknowledgement)) (LongerAcknowledgement (new .label))
 
 -- a stream of the second plan
 abbrev pub inRow : Plan → Stream → Found → Change

@@ -37,6 +37,7 @@ pub enum Reason {
     LongerJitter(Label),
     LongerPayload(Label),
     ShorterDeadline(Label),
+    LongerAcknowledgement(Label),
     LessUrgent(Label),
     MoreNoise(u32),
 }
@@ -120,6 +121,9 @@ fn eased(old: Stream, new: Stream) -> Change
     }
     if new.deadline < old.deadline {
         return Change::Of(Reason::ShorterDeadline(label));
+    }
+    if old.acknowledgement < new.acknowledgement {
+        return Change::Of(Reason::LongerAcknowledgement(label));
     }
     Change::Nothing
 }

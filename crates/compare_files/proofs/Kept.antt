@@ -22,7 +22,7 @@ use Rattle.file.specs.declared.ReadPlan.{ReadPlan}
 use Rattle.file.specs.File as file
 use Rattle.file.proofs.Reading.{fine-read}
 use Rattle.file.proofs.RoundTrip.{planRead}
-use Rattle.carried.specs.Carried.{editionOf}
+use Rattle.carried.specs.declared.Edition.the-variants.{Three}
 use Rattle.carried.proofs.Plans.{one-sheet}
 use Rattle.row_words.specs.RowWords.{wordsPerRow}
 use Rattle.row_words.proofs.RowWords.{RowSays, row-says}
@@ -62,7 +62,7 @@ as-words (Refused r) n p out e = absurd (let z : _≡_ {A = ℕ} 0 1 = cc in ome
 read-words : (c : Checked) (s : Sheet) (out : List ℕ) → answerRead c s out .0 ≡ Fine
     → answerRead c s out .1 ≡ answerWords (planOf s) ++ drop (wordsPerRow * s .count) out
 unfolding answerOf answerWith
-read-words Fine s out e = as-words (judge (lines (editionOf (planOf s)) (s .count) (s .sources) (planOf s) ++ tooFew (s .count) out)) (s .count) (planOf s) out e
+read-words Fine s out e = as-words (judge (lines Three (s .count) (s .sources) (planOf s) ++ tooFew (s .count) out)) (s .count) (planOf s) out e
 read-words (Refused r) s out e = absurd (let z : _≡_ {A = ℕ} 0 1 = cc in omega arith)
 
 -- the words of row r are the answer to its stream

@@ -1,4 +1,4 @@
--- What a message costs the channel beside its payload, of every timing, and how large that is within the limits.
+-- What a message costs the channel beside its payload and its acknowledgement, of every timing, and how large that is within the limits.
 use mathlib.Core.Path.{_≡_}
 use Prim.Native.Nat.{ℕ, _+_, _*_, min, _≤_}
 use Rattle.names.specs.Limits.{constant, bits}

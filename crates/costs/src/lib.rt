@@ -1,4 +1,4 @@
-// What a message costs the channel beside its payload, worked out of a plan's timing: V and U, and in slots H and U.
+// What a message costs the channel beside its payload and its acknowledgement, worked out of a plan's timing: V and U, and in slots H and U.
 //
 // The one public function answers for every timing, and its contract determines the answer; within the limits these are the letters
 // of the rules. Nothing is assumed. This crate knows of a plan's timing; it must not know of checks or refusals.

@@ -1,4 +1,4 @@
--- What is written again is the plan's file, which is the file that was read; a refusal's line has 43 bytes at most, and a file 44 at least.
+-- What is written again is the plan's file, which is the file that was read if that has edition 3, and means the same if not; a refusal's line has 43 bytes at most, and a file 44 at least.
 -- Assumes nothing.
 use mathlib.Core.Path.{_≡_, refl, sym, ap, _∙_, subst}
 use mathlib.Core.Bool.{false}
@@ -10,22 +10,23 @@ use native.Mathlib.Omega.{arith}
 use borrow.Author.Tests.{lt-leb}
 use lib.ListN.{length}
 use Rattle.plan.specs.Plan.{planOf}
+use Rattle.words.specs.Words.{wordsOf}
+use Rattle.carried.specs.declared.Edition.the-variants.{Three}
 use Rattle.carried.specs.Layout as layout
-use Rattle.carried.proofs.Editions.{timing-body}
 use Rattle.judge.specs.declared.Checked.{Checked, the-variants.Fine, the-variants.Refused}
 use Rattle.file.specs.declared.Written.{Written, the-variants.Bytes, the-variants.Refused as Written·Refused}
-use Rattle.file.specs.File.{fileOf, sizeRight, readOf}
+use Rattle.file.specs.File.{fileOf, editionIn, sizeRight, readOf}
 use Rattle.file.proofs.Exactly.{refused-number}
 use Rattle.file.proofs.Reading.{said-size, counts-refused, fine-read}
-use Rattle.file.proofs.RoundTrip.{right-read, file-back}
+use Rattle.file.proofs.RoundTrip.{planRead, right-read, length-file, file-is, means-the-same, same-bytes}
 use Rattle.rewriter.specs.Rewriter.{rewriteOf}
-use Rattle.rewriter.proofs.Same.{rewrite-refused, rewrite-no-room, rewrite-fine, file-is}
+use Rattle.rewriter.proofs.Same.{rewrite-refused, rewrite-no-room, rewrite-fine}
 use Rattle.text.specs.declared.Put.the-variants.{At, Full}
 use Rattle.text.specs.Listing.{refusedOf}
 use Rattle.text.specs.Put.{put, Puts}
 use Rattle.text.proofs.Laying.{all-put, none-put}
 use Rattle.text.proofs.Size.{largest-refusal}
-use Rattle.desk.specs.Desk.{fileAs, shownFile, SameFile, FileFits, LineIsNoPlan}
+use Rattle.desk.specs.Desk.{fileAs, shownFile, SameFile, SameMeaning, FileFits, LineIsNoPlan}
 
 -- ---- what rewriting hands back, and what is then shown
 module _ (bs buf : List ℕ) where
@@ -58,14 +59,22 @@ module _ (bs buf : List ℕ) where
 
 -- ---- the file again
 pub same-file : SameFile
-same-file bs below fine = file-shown bs [] Fine fine ∙ file-is bs [] fine ∙ file-back bs below (fine-read bs fine)
+same-file bs below fine three = file-shown bs [] Fine fine ∙ same-bytes bs below fine three
+
+pub same-meaning : SameMeaning
+same-meaning bs fine =
+    let (edition, meaning) = means-the-same bs fine in
+    let e = file-shown bs [] Fine fine in
+    (ap (λ l. editionIn (wordsOf l)) e ∙ edition, ap readOf e ∙ meaning)
 
 pub file-fits : FileFits
-file-fits bs buffer below fine room =
+file-fits bs buffer fine room =
     let f = fine-read bs fine in
-    let (is, r) = right-read bs f in
-    let short : length bs ≤ length buffer = omega (arith, f .size, timing-body (f .edition), r .count, r .sources, r .within .count, r .within .sources) in
-    ap (λ t. put buffer 0 t .0) (same-file bs below fine) ∙ ap (λ x. x .0) (all-put bs buffer short)
+    let r = right-read bs f in
+    let file = shownFile bs in
+    let long : length file ≡ layout.size Three (length (planRead bs f .streams)) (length (planRead bs f .gaps)) =
+    ap length (file-shown bs [] Fine fine ∙ file-is bs f) ∙ length-file (planRead bs f) in
+    ap (λ x. x .0) (all-put file buffer (omega (arith, long, r .within .count, r .within .sources)))
 
 pub line-is-no-plan : LineIsNoPlan
 line-is-no-plan r n p =

@@ -12,8 +12,7 @@ use Rattle.plan.specs.Rules.{rowAnswer, answers}
 use Rattle.plan.proofs.Rules.{row-within}
 use Rattle.checks.specs.Checks.{Right}
 use Rattle.file.proofs.Reading.{fine-read}
-use Rattle.file.proofs.RoundTrip.{planRead, right-read}
-use Rattle.carried.proofs.Plans.{one-sheet}
+use Rattle.file.proofs.RoundTrip.{planRead, right-read, own-sheet}
 use Rattle.text.specs.Claims.{Printed, Listed}
 use Rattle.text.specs.Listing.{listingOf}
 use Rattle.text.proofs.Laying.{all-put}
@@ -60,8 +59,7 @@ unfolding shown
 listing-fits bs buffer e h =
     let f = fine-read bs e in
     let p = planRead bs f in
-    let (is, right) = right-read bs f in
-    let same = one-sheet p (right .within .count) (right .within .sources) in
-    let shows : shown bs ≡ listingOf p (answers p) = ap (λ r. shownAs (r .answer) (planOf (r .sheet))) (f .read) ∙ ap (λ q. listingOf q (answers q)) same in
+    let right = right-read bs f in
+    let shows : shown bs ≡ listingOf p (answers p) = ap (λ r. shownAs (r .answer) (planOf (r .sheet))) (f .read) ∙ ap (λ q. listingOf q (answers q)) (own-sheet bs f) in
     let size = largest-listing 10 p (answers p) (omega arith) (listed (f .n) (f .m) p right) in
     rw shows (ap (λ x. x .0) (all-put (listingOf p (answers p)) buffer (omega arith)))

@@ -5,12 +5,13 @@ use Prim.Native.Nat.{ℕ, _^_, _≤_, _<_}
 use lib.ListN.{length}
 use Rattle.names.specs.declared.Refusal.{Refusal}
 use Rattle.names.specs.Limits.{ticks}
-use Rattle.words.specs.Words.{Below}
+use Rattle.words.specs.Words.{wordsOf, Below}
 use Rattle.judge.specs.declared.Checked.{Checked, the-variants.Fine, the-variants.Refused}
 use Rattle.plan.specs.Plan.{Plan, planOf}
 use Rattle.plan.specs.Rules.{answers}
+use Rattle.carried.specs.declared.Edition.the-variants.{Three}
 use Rattle.carried.specs.Layout as layout
-use Rattle.file.specs.File.{fileOf, readOf}
+use Rattle.file.specs.File.{fileOf, editionIn, readOf}
 use Rattle.ascii.specs.Ascii.{ascii}
 use Rattle.text.specs.declared.Put.the-variants.{At}
 use Rattle.text.specs.Listing.{listingOf, refusedOf}
@@ -51,15 +52,20 @@ ListingFits =
     (bs buffer : List ℕ) → readOf bs .answer ≡ Fine → most 10 ≤ length buffer
     → put buffer 0 (shown bs) .0 ≡ At (length (shown bs))
 
--- a file that is not refused is shown again byte for byte, ..
+-- a file of edition 3 that is not refused is shown again byte for byte, ..
 abbrev pub SameFile : Type 0
-SameFile = (bs : List ℕ) → Below 256 bs → readOf bs .answer ≡ Fine → shownFile bs ≡ bs
+SameFile = (bs : List ℕ) → Below 256 bs → readOf bs .answer ≡ Fine → editionIn (wordsOf bs) ≡ Three → shownFile bs ≡ bs
+
+-- .. and one of any edition as a file of edition 3 of which the same is read, ..
+abbrev pub SameMeaning : Type 0
+SameMeaning =
+    (bs : List ℕ) → readOf bs .answer ≡ Fine → (editionIn (wordsOf (shownFile bs)) ≡ Three) × (readOf (shownFile bs) ≡ readOf bs)
 
 -- .. in full where the largest file has room, ..
 abbrev pub FileFits : Type 0
 FileFits =
-    (bs buffer : List ℕ) → Below 256 bs → readOf bs .answer ≡ Fine → layout.largestFile ≤ length buffer
-    → put buffer 0 (shownFile bs) .0 ≡ At (length bs)
+    (bs buffer : List ℕ) → readOf bs .answer ≡ Fine → layout.largestFile ≤ length buffer
+    → put buffer 0 (shownFile bs) .0 ≡ At (length (shownFile bs))
 
 -- .. and the line that is shown of a refused one is no plan file: it is too short for one
 abbrev pub LineIsNoPlan : Type 0

@@ -1,19 +1,18 @@
 -- A plan's fields are all inside exactly if the plan is within document 01's limits: field by field, list by list. Assumes nothing.
-use mathlib.Core.Path.{_≡_, sym}
+use mathlib.Core.Path.{_≡_}
 use mathlib.Core.Bool.{true}
 use mathlib.Core.List.{List, _∷_, _++_, map, flatMap}
 use Prim.Native.Nat.{ℕ, _-_, _^_, _≤_, _<_, zero-le}
 use native.Mathlib.Omega.{arith}
 use lib.ListN.{getD}
 use lib.Pow.{pow-pos}
-use Rattle.carried.specs.declared.Edition.{Edition, the-variants.One, the-variants.Two}
+use Rattle.carried.specs.declared.Edition.{Edition, the-variants.One, the-variants.Two, the-variants.Three}
 use Rattle.carried.specs.Layout as layout
-use Rattle.carried.proofs.Editions.{of-none, of-some, none-of, some-of}
 use Rattle.names.specs.Limits.{payload, slot, ticks}
 use Rattle.plan.specs.declared.Timing.{Timing}
 use Rattle.plan.specs.declared.Stream.{Stream}
 use Rattle.plan.specs.Plan.{blank, TimingWithin, StreamWithin, GapWithin}
-use Rattle.fields.specs.Fields.{Field, _from_to_, slotLeast, slotMost, timingFields, streamFields, gapField, fields, inside, fieldAt, AllInside, InsideIfFieldsWithin}
+use Rattle.fields.specs.Fields.{Field, _from_to_, slotMost, SlotWithin, timingFields, streamFields, gapField, fields, inside, fieldAt, AllInside, InsideIfFieldsWithin}
 use Rattle.fields.proofs.All.{Shown, none, next, shown, all-front, all-back, all-both, flat-each, flat-all, map-each, map-all}
 use Rattle.fields.proofs.Lowest.{within}
 use Rattle.fields.proofs.Inside.{inside-if-within}
@@ -28,21 +27,18 @@ none-there = 0 from 0 to 0
 within-next : {w a b : ℕ} {fs : List Field} → a ≤ w → w ≤ b → Shown Inside fs → Shown Inside (w from a to b ∷ fs)
 within-next {w} {a} {b} h k s = next (within w a b h k) s
 
--- ---- P, which decides the edition
+-- ---- P, which has the limits of its edition
 slot-most : (edition : Edition) (P : ℕ) → P ≤ slotMost edition → P ≤ slot
 slot-most One P h = omega arith
 slot-most Two P h = h
+slot-most Three P h = h
 
-slot-edition : (edition : Edition) (P : ℕ) → slotLeast edition ≤ P → P ≤ slotMost edition → edition ≡ layout.editionFor P
-slot-edition One P low high = sym (of-none P (omega arith))
-slot-edition Two P low high = sym (of-some P low)
-
-slot-inside : (edition : Edition) (P : ℕ) → edition ≡ layout.editionFor P → P ≤ slot → (slotLeast edition ≤ P) × (P ≤ slotMost edition)
-slot-inside One P e h = (zero-le, omega (arith, none-of P e))
-slot-inside Two P e h = (some-of P e, h)
+-- those of edition 3 are a plan's
+pub slot-three : (P : ℕ) → P ≤ slot → SlotWithin Three P
+slot-three P h = (zero-le, h)
 
 -- ---- the three bodies
-timing-to : (edition : Edition) (t : Timing) → AllInside (timingFields edition t) → TimingWithin t × (edition ≡ layout.editionFor (t .p))
+timing-to : (edition : Edition) (t : Timing) → AllInside (timingFields edition t) → TimingWithin t × SlotWithin edition (t .p)
 timing-to edition t a =
     let limits : (i : ℕ) → i < layout.timingLength → (fieldAt (timingFields edition t) i .least ≤ fieldAt (timingFields edition t) i .word) × (fieldAt (timingFields edition t) i .word ≤ fieldAt (timingFields edition t) i .most) = λ i h. inside-if-within (fieldAt (timingFields edition t) i) .0 (a i h) in
     let (low, high) = limits 9 (omega arith) in (
@@ -59,12 +55,11 @@ timing-to edition t a =
         nb = limits 8 (omega arith) .1;
         p = slot-most edition (t .p) high;
       },
-      slot-edition edition (t .p) low high,
+      (low, high),
     )
 
-timing-back : (edition : Edition) (t : Timing) → edition ≡ layout.editionFor (t .p) → TimingWithin t → AllInside (timingFields edition t)
-timing-back edition t e w =
-    let (low, high) = slot-inside edition (t .p) e (w .p) in
+timing-back : (edition : Edition) (t : Timing) → SlotWithin edition (t .p) → TimingWithin t → AllInside (timingFields edition t)
+timing-back edition t (low, high) w =
     shown Inside none-there
     (within-next zero-le (w .f)
     (within-next zero-le (w .e)
@@ -84,6 +79,7 @@ stream-to nb s a =
         payload = limits 4 (omega arith) .1;
         some-deadline = limits 5 (omega arith) .0;
         deadline = limits 5 (omega arith) .1;
+        acknowledgement = limits 6 (omega arith) .1;
       },
       limits 0 (omega arith) .1,
     )
@@ -95,7 +91,7 @@ stream-back nb s w l =
     (within-next zero-le l
     (within-next zero-le p
     (within-next (w .some-period) (w .period)
-    (within-next zero-le (w .jitter) (within-next (w .some-payload) (w .payload) (within-next (w .some-deadline) (w .deadline) none))))))
+    (within-next zero-le (w .jitter) (within-next (w .some-payload) (w .payload) (within-next (w .some-deadline) (w .deadline) (within-next zero-le (w .acknowledgement) none)))))))
 
 gap-to : (n : ℕ) → inside (gapField n) ≡ true → GapWithin n
 gap-to n e = let (a, b) = inside-if-within (gapField n) .0 e in record { some-gap = a; gap = b }
@@ -110,14 +106,14 @@ inside-if-fields-within edition p =
           let each = flat-each Inside none-there blank (streamFields (p .timing .nb)) (p .streams) (all-front Inside none-there s g (all-back Inside none-there t (s ++ g) a)) in
           let (timing, is) = timing-to edition (p .timing) (all-front Inside none-there t (s ++ g) a) in
           record {
-            edition-is = is;
+            slot = is;
             timing = timing;
             stream = λ k h. stream-to (p .timing .nb) (getD (p .streams) k blank) (each k h) .0;
             label = λ k h. stream-to (p .timing .nb) (getD (p .streams) k blank) (each k h) .1;
             gap = λ k h. gap-to (getD (p .gaps) k 0) (map-each Inside none-there 0 gapField (p .gaps) (all-back Inside none-there s g (all-back Inside none-there t (s ++ g) a)) k h);
           },
       λ w.
-          all-both Inside none-there t (s ++ g) (timing-back edition (p .timing) (w .edition-is) (w .timing))
+          all-both Inside none-there t (s ++ g) (timing-back edition (p .timing) (w .slot) (w .timing))
           (all-both Inside none-there s g
           (flat-all Inside none-there blank (streamFields (p .timing .nb)) (p .streams) (λ k h. stream-back (p .timing .nb) (getD (p .streams) k blank) (w .stream k h) (w .label k h)))
           (map-all Inside none-there 0 gapField (p .gaps) (λ k h. within (getD (p .gaps) k 0) 1 ticks (w .gap k h .some-gap) (w .gap k h .gap)))),

@@ -6,13 +6,13 @@ use mathlib.Core.Logic.{_↔_}
 use Prim.Native.Nat.{ℕ, _+_, _-_, _^_, _≤_, _<_}
 use lib.Dec.{leb}
 use lib.ListN.{length, getD}
-use Rattle.names.specs.Limits.{constant, payload, bits, slot, ticks}
+use Rattle.names.specs.Limits.{constant, payload, acknowledgement, bits, slot, ticks}
 use Rattle.laws.specs.declared.Found.{Found, the-variants.At, the-variants.Nothing}
 use Rattle.plan.specs.declared.Timing.{Timing}
 use Rattle.plan.specs.declared.Stream.{Stream}
 use Rattle.plan.specs.Plan.{Plan, at, TimingWithin, StreamWithin, GapWithin}
-use Rattle.carried.specs.declared.Edition.{Edition, the-variants.One, the-variants.Two}
-use Rattle.carried.specs.Carried.{editionOf, valuesOf}
+use Rattle.carried.specs.declared.Edition.{Edition, the-variants.One, the-variants.Two, the-variants.Three}
+use Rattle.carried.specs.Carried.{valuesOf}
 
 -- a word of a plan, and the least and the most that it may be
 pub record Field : Type 0 where
@@ -24,14 +24,16 @@ infix 68 _from_to_
 abbrev pub _from_to_ : ℕ → ℕ → ℕ → Field
 w from a to b = record { word = w; least = a; most = b }
 
--- P is 0 in edition 1, which has no word for it, and 1 to 5,000,000 in edition 2
+-- P is 0 in edition 1, which has no word for it, 1 to 5,000,000 in edition 2, and 0 to 5,000,000 in edition 3
 abbrev pub slotLeast : Edition → ℕ
 slotLeast One = 0
 slotLeast Two = 1
+slotLeast Three = 0
 
 abbrev pub slotMost : Edition → ℕ
 slotMost One = 0
 slotMost Two = slot
+slotMost Three = slot
 
 -- Timing, ten words: F, E, TFCS, SWX, H, G, ETG, LAG, each 0 to 65,535; then NB, 1 to 32; then P
 abbrev pub timingFields : Edition → Timing → List Field
@@ -48,8 +50,8 @@ timingFields edition t =
     ∷ t .p from slotLeast edition to slotMost edition
     ∷ []
 
--- Stream, six words: label (any word), priority (0 to 2^NB - 1), T (1 to 4,294,967,295), J (0 to that), C (1 to 65,535),
--- D (1 to 4,294,967,295)
+-- Stream, seven words: label (any word), priority (0 to 2^NB - 1), T (1 to 4,294,967,295), J (0 to that), C (1 to 65,535),
+-- D (1 to 4,294,967,295), K (0 to 65,535; it is carried as 0 where an edition has no word for it)
 abbrev pub streamFields : ℕ → Stream → List Field
 streamFields nb s =
     s .label .0 from 0 to ticks
@@ -58,13 +60,14 @@ streamFields nb s =
     ∷ s .jitter from 0 to ticks
     ∷ s .payload from 1 to payload
     ∷ s .deadline from 1 to ticks
+    ∷ s .acknowledgement from 0 to acknowledgement
     ∷ []
 
 -- Noise, one word: gap N, 1 to 4,294,967,295
 abbrev pub gapField : ℕ → Field
 gapField n = n from 1 to ticks
 
--- the timing, the streams, the gaps, of a plan that stands in a file of an edition or would be written in it
+-- the timing, the streams, the gaps, of a plan that stands in a file of an edition
 unfoldable pub fields : Edition → Plan → List Field
 fields edition p =
     timingFields edition (p .timing) ++ (flatMap (streamFields (p .timing .nb)) (p .streams) ++ map gapField (p .gaps))
@@ -104,10 +107,14 @@ NothingIfInside = (k : ℕ) (fs : List Field) → (lowest k fs ≡ Nothing) ↔ 
 abbrev pub InsideIfWithin : Type 0
 InsideIfWithin = (f : Field) → (inside f ≡ true) ↔ ((f .least ≤ f .word) × (f .word ≤ f .most))
 
--- a plan's fields are all inside exactly if its timing, its streams and its gaps are within the limits, each label is a word, and the
--- edition is the one that P asks for
+-- P is within the limits of its edition
+abbrev pub SlotWithin : Edition → ℕ → Type 0
+SlotWithin edition P = (slotLeast edition ≤ P) × (P ≤ slotMost edition)
+
+-- a plan's fields are all inside exactly if its timing, its streams and its gaps are within the limits, each label is a word, and P is
+-- within those of the edition
 pub record FieldsWithin (edition : Edition) (p : Plan) : Type 0 where
-  pub edition-is : edition ≡ editionOf p
+  pub slot : SlotWithin edition (p .timing .p)
   pub timing : TimingWithin (p .timing)
   pub stream : (k : ℕ) → k < length (p .streams) → StreamWithin (p .timing .nb) (at p k)
   pub label : (k : ℕ) → k < length (p .streams) → at p k .label .0 ≤ ticks

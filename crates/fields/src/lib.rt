@@ -8,6 +8,7 @@ use carried::STREAM;
 use carried::TIMING;
 use laws::Found;
 use laws::smaller;
+use names::ACKNOWLEDGEMENT;
 use names::BITS;
 use names::CONSTANT;
 use names::PAYLOAD;
@@ -48,7 +49,7 @@ fn words_outside<'a>(words: &'a [u32], least: &'a [u32], most: &'a [u32], k: usi
     Found::Nothing
 }
 
-// The least and the most that P may be: edition 1 has none.
+// The least and the most that P may be: edition 1 has none, and edition 3 a plan with none.
 struct Band {
     least: u32,
     most: u32,
@@ -61,6 +62,10 @@ fn slot_band(edition: Edition) -> Band
         Edition::One => Band { least: 0, most: 0 },
         Edition::Two => Band {
             least: 1,
+            most: SLOT,
+        },
+        Edition::Three => Band {
+            least: 0,
             most: SLOT,
         },
     }
@@ -104,8 +109,16 @@ fn streams_outside(words: &[u32], n: usize, nb: u32) -> Found
     ensures { λ r. ⌜ r ≡ lowest (layout.streamAt 0) (flatMap (streamFields nb) (streamsIn n (now (words .entry)))) ⌝ }
 {
     let any = TICKS as u32;
-    let least = [0, 0, 1, 0, 1, 1];
-    let most = [any, largest_priority(nb), any, any, PAYLOAD, any];
+    let least = [0, 0, 1, 0, 1, 1, 0];
+    let most = [
+        any,
+        largest_priority(nb),
+        any,
+        any,
+        PAYLOAD,
+        any,
+        ACKNOWLEDGEMENT,
+    ];
     for r in 0..n {
         let at = TIMING + STREAM * r;
         match words_outside(&words[at..at + STREAM], &least, &most, at) {

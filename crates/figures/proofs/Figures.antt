@@ -22,17 +22,16 @@ use Rattle.plan.specs.Rules.{selfOrSlotted, «V», U, C″, B, hit, terms, answ
 use Rattle.fields.specs.Fields.{fields, lowest}
 use Rattle.judge.specs.Table.{judge}
 use Rattle.words.specs.Words.{wordsOf, bytesOf}
-use Rattle.carried.specs.Layout as layout
-use Rattle.carried.specs.Carried.{planIn}
-use Rattle.file.specs.File.{fileWords, same, sizeRight, fileOf, readOf}
+use Rattle.file.specs.File.{fileWords, planInBodies, same, sizeRight, fileOf, readOf}
 use Rattle.decimal.specs.Decimal.{digitsOf, digits}
 use Rattle.text.specs.Listing.{listingOf}
 use Rattle.text.specs.Listing as text
 use Rattle.tournament_state.specs.Refusals.{lowestUnfit, verdictOf}
 use Rattle.tournament.specs.Rule.{begunOf, heardAt, silencedAt, marksAfter, lowestMarked, winnerOf, nextAt, steps}
 use Rattle.tournament.specs.Answers.{startOf, runOf}
+use Rattle.figures.specs.Plans.{olderFile}
 use Rattle.figures.specs.Load.{load, delayed}
-use Rattle.figures.specs.Figures.{Entry, ofTiming, ofPlan, ofRow, ofListing, ofBytes, ofTournament}
+use Rattle.figures.specs.Figures.{Entry, ofTiming, ofPlan, ofRow, ofListing, ofOlder, ofBytes, ofTournament}
 use Rattle.plan.specs.Plan.{at}
 use Rattle.figures.specs.Figures.{values, file, refusal, instances, ofInstance, states, Holds, table, All, Figures}
 use Rattle.figures.proofs.Load.{full-is-none}
@@ -68,6 +67,7 @@ again (ofRow p k c L q is a) =
     let f = sought r (full r (r .own .T)) in
     ofRow p k (C″ (p .timing) (at p k)) f (instances r f) (rows (instances r f) (ofInstance r)) (answerFor r (at p k .deadline) f)
 again (ofListing p size text) = ofListing p (length (fileOf p)) (listingOf p (answers p))
+again (ofOlder p size c) = ofOlder p (length (olderFile p)) (file (olderFile p))
 again (ofBytes bs size number) = ofBytes bs (length bs) (bySize (sizeRight bs) number)
 again (ofTournament NB n places a b ss) =
     let start = startOf NB n places in
@@ -90,6 +90,7 @@ holds (ofTiming t v u) e = (cc, cc)
 holds (ofPlan p c d) e = (cc, cc)
 holds (ofRow p k c L q is a) e = let b = is-busy (terms p (at p k)) in (cc, cc, cc, cc, cc)
 holds (ofListing p size text) e = (cc, cc)
+holds (ofOlder p size c) e = (cc, cc)
 holds (ofBytes bs size number) e = (cc, λ any f. by-size bs any size number (cc) f (cc))
 holds (ofTournament NB n places a b ss) e = (cc, cc, cc)
 
@@ -100,8 +101,8 @@ all-hold (x ∷ es) e = (holds x cc, all-hold es cc)
 -- ---- the whole table is the same again: antt computes it
 same-again : map again table ≡ table
 unfolding again full load delayed sumOf largestOf those rows first largestTo firstLargest some firstRepeat
-    E demand sideL busy sideW w bound worst answer selfOrSlotted B hit terms layout.editionFor
-    fields lowest flatMap judge wordsOf bytesOf fileWords planIn same readOf
+    E demand sideL busy sideW w bound worst answer selfOrSlotted B hit terms
+    fields lowest flatMap judge wordsOf bytesOf fileWords planInBodies same readOf
     listingOf text.listedRows text.row digits digitsOf
     lowestUnfit verdictOf begunOf heardAt silencedAt marksAfter lowestMarked winnerOf nextAt steps startOf runOf
 same-again = refl

@@ -1,6 +1,6 @@
--- Document 01, "Plans to run", with a pulse for each priority bit and the worst instance (document 02, requests 02 and 03): the figures
--- for P1 to P12, as one table in the document's order, and three plans of our own after them. The claim is that every entry of it holds,
--- `Figures`, proved in proofs/Figures.antt. All rows of a plan have the same columns, so that some of them are not in the documents.
+-- Document 01, "Plans to run", with a pulse for each priority bit, the worst instance and edition 3 (document 02, requests 02, 03 and 05):
+-- the figures for P1 to P12, as one table in the document's order, and four plans of our own after them. The claim is that every entry of it
+-- holds, `Figures`, proved in proofs/Figures.antt. All rows of a plan have the same columns, so that some of them are not in the documents.
 use mathlib.Core.Path.{_≡_}
 use mathlib.Core.Bool.{Bool, true, false}
 use mathlib.Core.List.{List, [], _∷_, _++_}
@@ -17,7 +17,7 @@ use Rattle.bound.specs.Bound.{busy, Q, w, term}
 use Rattle.plan.specs.declared.Timing.{Timing}
 use Rattle.plan.specs.Plan.{Plan, at}
 use Rattle.plan.specs.Rules.{«V», U, C″, terms, rowAnswer, answers}
-use Rattle.carried.specs.Carried.{editionOf}
+use Rattle.carried.specs.declared.Edition.the-variants.{Three}
 use Rattle.judge.specs.declared.Checked.{Checked, the-variants.Fine, the-variants.Refused}
 use Rattle.judge.specs.Table.{judge}
 use Rattle.checks.specs.Checks.{lines}
@@ -28,7 +28,7 @@ use Rattle.tournament_state.specs.declared.Phase.{Phase, the-variants.AtBit, th
 use Rattle.tournament_state.specs.declared.Tournament.{Tournament}
 use Rattle.tournament.specs.Rule.{steps}
 use Rattle.tournament.specs.Answers.{startOf, runOf}
-use Rattle.figures.specs.Plans.{base, P1, P2, alone, P3, P4, P5, P6, P7, P8, P9, P10, P11, P12, slots, equallyLate}
+use Rattle.figures.specs.Plans.{base, P1, P2, alone, P3, P4, P5, P6, P7, P8, P9, P10, P11, P12, olderFile, slots, equallyLate, waits}
 
 -- ---- an entry: what is run, and its figures
 
@@ -41,6 +41,8 @@ pub data Entry : Type 0 where
   ofRow : Plan → ℕ → ℕ → Found → ℕ → List (ℕ × ℤ) → Answer → Entry
   -- a plan: how many bytes its file has, and the whole listing
   ofListing : Plan → ℕ → List ℕ → Entry
+  -- a plan: how many bytes its file of edition 1 has, and the answer to it
+  ofOlder : Plan → ℕ → Checked → Entry
   -- a file: how many bytes it has, and the number of the refusal, at 0, of any file of so many bytes
   ofBytes : List ℕ → ℕ → ℕ → Entry
   -- NB, how many contend, and their priorities: the answers to start and run, and phase and marks before each step and at the end
@@ -48,7 +50,7 @@ pub data Entry : Type 0 where
 
 -- the answer to a plan's values, and to a file
 abbrev pub values : Plan → Checked
-values p = judge (lines (editionOf p) (length (p .streams)) (length (p .gaps)) p)
+values p = judge (lines Three (length (p .streams)) (length (p .gaps)) p)
 
 abbrev pub file : List ℕ → Checked
 file bs = readOf bs .answer
@@ -79,6 +81,7 @@ Holds (ofRow p k c L q is a) =
     let r = terms p (at p k) in
     (C″ (p .timing) (at p k) ≡ c) × (busy r ≡ L) × (instances r L ≡ q) × (rows q (ofInstance r) ≡ is) × (rowAnswer p (at p k) ≡ a)
 Holds (ofListing p size text) = (length (fileOf p) ≡ size) × (listingOf p (answers p) ≡ text)
+Holds (ofOlder p size c) = (length (olderFile p) ≡ size) × (file (olderFile p) ≡ c)
 Holds (ofBytes bs size number) = (length bs ≡ size) × ((any : List ℕ) → length any ≡ size → file any ≡ refusal number 0)
 Holds (ofTournament NB n places a b ss) =
     let start = startOf NB n places in
@@ -128,12 +131,13 @@ abbrev pub table : List Entry
 table =
     -- base constants: V = 8 and U = 12
     ofTiming base 8 12
-    -- P1: C'' is 25, 27, 22; the file has 152 bytes; the whole listing
+    -- P1: C'' is 25, 27, 22; the file has 168 bytes, and of edition 1 152; the whole listing
     ∷ ofPlan P1 Fine Fine
     ∷ ofRow P1 0 25 (At 43) 1 (18 gives 43 ∷ []) (met 43 0)
     ∷ ofRow P1 1 27 (At 65) 1 (38 gives 75 ∷ []) (met 75 0)
     ∷ ofRow P1 2 22 (At 74) 1 (52 gives 74 ∷ []) (met 74 0)
-    ∷ ofListing P1 152 listingOfP1
+    ∷ ofListing P1 168 listingOfP1
+    ∷ ofOlder P1 152 Fine
     -- P2: bounds 68 (missed), 102, 101
     ∷ ofPlan P2 Fine Fine
     ∷ ofRow P2 0 25 (At 68) 1 (43 gives 68 ∷ []) (missed 68 0)
@@ -166,17 +170,18 @@ table =
     ∷ ofPlan P9 (refusal 4 1) (refusal 4 1)
     -- P10: 43 bytes: 1
     ∷ ofBytes P10 43 1
-    -- P11: refused 3 at byte 96
-    ∷ ofPlan P11 (refusal 3 96) (refusal 3 96)
+    -- P11: refused 3 at byte 100, and in edition 1 at byte 96
+    ∷ ofPlan P11 (refusal 3 100) (refusal 3 100)
+    ∷ ofOlder P11 152 (refusal 3 96)
     -- P12: row 1 wins; rows 0 and 2 go silent at the second bit from the top
     ∷ ofTournament 4 3 P12 Fine Fine
     ((AtBit 1, three) ∷ (AtBit 2, three) ∷ (AtBit 3, row1) ∷ (AtBit 4, row1) ∷ (Finished (record { 0 = 1 }), row1) ∷ [])
-    -- in slots of 30 ticks: C'' is 18, 20, 15, each message costs 30, B is 29; the file has 156 bytes; the whole listing
+    -- in slots of 30 ticks: C'' is 18, 20, 15, each message costs 30, B is 29; the file has 168 bytes; the whole listing
     ∷ ofPlan (slots 30) Fine Fine
     ∷ ofRow (slots 30) 0 18 (At 59) 1 (29 gives 47 ∷ []) (met 47 0)
     ∷ ofRow (slots 30) 1 20 (At 89) 1 (59 gives 89 ∷ []) (met 89 0)
     ∷ ofRow (slots 30) 2 15 (At 179) 1 (89 gives 104 ∷ []) (met 104 0)
-    ∷ ofListing (slots 30) 156 listingInSlots
+    ∷ ofListing (slots 30) 168 listingInSlots
     -- in slots of 19: refused 10 at row 1, whose C'' is 20
     ∷ ofPlan (slots 19) (refusal 10 1) (refusal 10 1)
     -- two instances that are equally late: the earlier one is named
@@ -184,6 +189,11 @@ table =
     ∷ ofRow equallyLate 0 10 (At 19) 1 (9 gives 19 ∷ []) (met 19 0)
     ∷ ofRow equallyLate 1 10 (At 49) 2 (19 gives 29 ∷ 39 gives 19 ∷ []) (met 29 0)
     ∷ ofRow equallyLate 2 10 (At 120) 3 (20 gives 30 ∷ 70 gives 40 ∷ 110 gives 40 ∷ []) (met 40 1)
+    -- P1 with acknowledgements: C'' is 28, 29, 22
+    ∷ ofPlan waits Fine Fine
+    ∷ ofRow waits 0 28 (At 48) 1 (20 gives 48 ∷ []) (met 48 0)
+    ∷ ofRow waits 1 29 (At 70) 1 (41 gives 80 ∷ []) (met 80 0)
+    ∷ ofRow waits 2 22 (At 79) 1 (57 gives 79 ∷ []) (met 79 0)
     ∷ []
 
 -- ---- the claim

@@ -1,15 +1,19 @@
 -- Document 01, "Plans to run": the base constants and P1 to P12, of which document 02 has P3 to P5 reworked, and for what it gives no
--- plan two in slots and one with two instances that are equally late. What the documents leave open is chosen here, and the comment says
--- so.
-use mathlib.Core.List.{List, [], _∷_, _++_}
+-- plan two in slots, one with two instances that are equally late and one with acknowledgements. What the documents leave open is chosen
+-- here, and the comment says so.
+use mathlib.Core.List.{List, [], _∷_, _++_, flatMap}
 use Prim.Native.Nat.{ℕ, _+_, _-_, _*_}
-use lib.ListN.{take, replicate}
+use lib.ListN.{length, take, replicate}
 use Rattle.names.specs.declared.Priority.{Priority}
 use Rattle.names.specs.Limits.{contenders}
 use Rattle.plan.specs.declared.Timing.{Timing}
 use Rattle.plan.specs.declared.Stream.{Stream}
 use Rattle.plan.specs.Plan.{Plan}
-use Rattle.file.specs.File.{fileOf}
+use Rattle.words.specs.Words.{bytesOf}
+use Rattle.carried.specs.declared.Edition.the-variants.{One}
+use Rattle.carried.specs.Layout as layout
+use Rattle.carried.specs.Carried.{timingWords, streamWords}
+use Rattle.file.specs.File.{contents, fileOf}
 use Rattle.text.specs.Listing.{group}
 use Rattle.tournament_state.specs.Refusals.{priority, none}
 
@@ -22,9 +26,9 @@ timed P f e tfcs swx h g etg lag nb =
 abbrev pub constants : ℕ → ℕ → ℕ → ℕ → ℕ → ℕ → ℕ → ℕ → ℕ → Timing
 constants = timed 0
 
--- a stream with the label g.n and its priority, T, J, C and D
-abbrev pub stream : ℕ → ℕ → ℕ → ℕ → ℕ → ℕ → ℕ → Stream
-stream g n p t j c d =
+-- K, and a stream with the label g.n and its priority, T, J, C and D
+abbrev pub acknowledged : ℕ → ℕ → ℕ → ℕ → ℕ → ℕ → ℕ → ℕ → Stream
+acknowledged k g n p t j c d =
     record {
       label = record { 0 = g * group + n };
       priority = record { 0 = p };
@@ -32,7 +36,12 @@ stream g n p t j c d =
       jitter = j;
       payload = c;
       deadline = d;
+      acknowledgement = k;
     }
+
+-- the same without an acknowledgement
+abbrev pub stream : ℕ → ℕ → ℕ → ℕ → ℕ → ℕ → ℕ → Stream
+stream = acknowledged 0
 
 abbrev pub plan : Timing → List Stream → List ℕ → Plan
 plan t ss ns = record { timing = t; streams = ss; gaps = ns }
@@ -44,6 +53,14 @@ base = constants 4 1 1 2 1 1 2 1 4
 -- the same with a master node that pulses every P ticks
 abbrev pub pulsing : ℕ → Timing
 pulsing P = timed P 4 1 1 2 1 1 2 1 4
+
+-- the file that document 01 has of a plan without a master node and acknowledgements, which is of edition 1
+abbrev pub olderFile : Plan → List ℕ
+olderFile p =
+    bytesOf
+    (contents One (length (p .streams)) (length (p .gaps))
+    ++ (take (layout.timingBody One) (timingWords (p .timing))
+    ++ (flatMap (λ s. take (layout.streamBody One) (streamWords s)) (p .streams) ++ p .gaps)))
 
 -- P1: labels 10.1, 10.10, 11.2; priorities 1, 2, 3; T 100, 150, 400; J 0, 10, 0; C 5, 7, 2; D 60, 120, 200
 abbrev pub P1 : Plan
@@ -106,6 +123,11 @@ P12 = (priority 5 ∷ priority 3 ∷ priority 6 ∷ []) ++ replicate (contenders
 -- in slots: P1 with a master node that pulses every 30 ticks, and every 19, where 10.10 does not fit
 abbrev pub slots : ℕ → Plan
 slots P = plan (pulsing P) (P1 .streams) []
+
+-- P1 with acknowledgements: K 3, 2, 0
+abbrev pub waits : Plan
+waits =
+    plan base (acknowledged 3 10 1 1 100 0 5 60 ∷ acknowledged 2 10 10 2 150 10 7 120 ∷ acknowledged 0 11 2 3 400 0 2 200 ∷ []) []
 
 -- T 25, 30, 40: the second and the third message of 10.3 are equally late
 abbrev pub equallyLate : Plan

@@ -1,105 +1,227 @@
--- Words and plan are each other's inverse: the words of the plan in a file's bodies are the file's words, where the contents are right and
--- nothing stands after; and the words that are carried of a plan's bodies are the plan's. Assumes nothing.
-use mathlib.Core.Path.{_≡_, refl, sym, ap, ap₂, _∙_}
-use mathlib.Core.List.{List, _∷_, _++_, flatMap}
-use Prim.Native.Nat.{ℕ, _+_, _*_, _≤_}
+-- The words of a plan's file, and the plan in the bodies of a file of each edition: word by word the plan's words are those of the bodies,
+-- each in its place, and 0 where the edition has none; in edition 3 they are the bodies. Assumes nothing.
+use mathlib.Core.Path.{_≡_, refl, sym, ap, ap₂, _∙_, subst}
+use mathlib.Core.Bool.{true, false, not, _&&_, true≢false}
+use mathlib.Core.List.{List, [], _++_, flatMap, append-nil}
+use Prim.Native.Nat.{ℕ, _+_, _-_, _/_, _%_, _≤_, _<_}
+use native.Mathlib.Nat.{lt-of-not-le, add-zero}
+use native.Mathlib.Decide.{decLe, decLt}
 use native.Mathlib.Omega.{arith}
-use lib.ListN.{length, take, drop, length-append, length-drop, take-append-drop}
-use lib.Seq.{length-take-le, take-all, take-at, drop-at, take-take, drop-drop, split-at}
-use Rattle.laws.proofs.Lists.{length-rows}
-use Rattle.laws.proofs.Pieces.{length-flat}
-use Rattle.plan.specs.declared.Timing.{Timing}
-use Rattle.plan.specs.Plan.{Plan}
-use Rattle.carried.specs.declared.Edition.{Edition, the-variants.One, the-variants.Two}
+use borrow.Author.Tests.{le-leb, lt-leb, lt-ltb, le-ltb, ltb-true, ltb-false, eq-eqb, ne-eqb}
+use lib.Dec.{ltb, eqb}
+use lib.ListN.{length, getD, take, drop, length-take, length-drop, take-append-drop, List·getD-append, List·getD-eq-default}
+use lib.Seq.{getD-take, getD-drop, take-all}
+use Rattle.laws.specs.Lists.{rows}
+use Rattle.laws.proofs.Lists.{length-rows, rows-at, rows-same}
+use Rattle.plan.specs.Plan.{Plan, blank}
+use Rattle.carried.specs.declared.Edition.{Edition, the-variants.One, the-variants.Two, the-variants.Three}
 use Rattle.carried.specs.Layout as layout
-use Rattle.carried.specs.Carried.{timingWords, streamWords, planIn, editionOf, valuesOf}
-use Rattle.carried.proofs.Editions.{none-of, timing-body}
-use Rattle.carried.proofs.Plans.{six, timing-back, tail-back}
-use Rattle.file.specs.File.{contents, bodiesOf, fileWords, slotIn, carriedIn}
+use Rattle.carried.specs.Carried.{timingIn, streamIn, planIn, timingWords, streamWords, valuesOf}
+use Rattle.carried.proofs.Editions.{before-P, past-P}
+use Rattle.carried.proofs.Plans.{length-values, stream-word, gap-word, values-back}
+use Rattle.checks.proofs.Counts.{and-true}
+use Rattle.file.specs.File.{contents, fileWords, recordIn, planInBodies}
 
--- the words of the bodies of n streams and m gaps
-abbrev pub bodiesLength : Edition → ℕ → ℕ → ℕ
-bodiesLength edition n m = layout.timingBody edition + (layout.streamLength * n + m)
-
-timing-long : (edition : Edition) (t : Timing) → length (take (layout.timingBody edition) (timingWords t)) ≡ layout.timingBody edition
-timing-long One t = refl
-timing-long Two t = refl
-
-length-bodies : (edition : Edition) (p : Plan) → length (bodiesOf edition p) ≡ bodiesLength edition (length (p .streams)) (length (p .gaps))
-length-bodies edition p =
-    omega
-    (arith, length-append (take (layout.timingBody edition) (timingWords (p .timing))) (flatMap streamWords (p .streams) ++ p .gaps), timing-long edition (p .timing), length-append (flatMap streamWords (p .streams)) (p .gaps), length-flat layout.streamLength streamWords six (p .streams))
-
-pub length-words : (p : Plan) → length (fileWords p) ≡ layout.contentsLength + bodiesLength (editionOf p) (length (p .streams)) (length (p .gaps))
+-- ---- the words of a plan's file
+pub length-words : (p : Plan) → length (fileWords p) ≡ layout.contentsLength + layout.gapAt (length (p .streams)) (length (p .gaps))
 unfolding fileWords
-length-words p = omega (arith, length-bodies (editionOf p) p)
+length-words p = omega (arith, length-values p)
 
--- ---- from the words that are carried to those of the bodies
--- the bodies of the plan of n streams and m gaps in words that may have more after it
-pub bodies-in : (edition : Edition) (n m : ℕ) (ws : List ℕ) → layout.gapAt n m ≤ length ws
-    → bodiesOf edition (planIn n m ws) ≡ take (layout.timingBody edition) ws ++ take (layout.streamLength * n + m) (drop layout.timingLength ws)
-unfolding planIn
-bodies-in edition n m ws h =
-    ap₂ _++_ (ap (take (layout.timingBody edition)) (timing-back ws (omega arith)) ∙ take-take (layout.timingBody edition) layout.timingLength ws (timing-body edition .1)) (tail-back ws n m h)
-
--- its whole file, in the edition that it asks for
-pub words-in : (edition : Edition) (n m : ℕ) (ws : List ℕ) → layout.gapAt n m ≤ length ws → edition ≡ editionOf (planIn n m ws)
-    → fileWords (planIn n m ws) ≡ contents edition n m ++ (take (layout.timingBody edition) ws ++ take (layout.streamLength * n + m) (drop layout.timingLength ws))
+-- of the plan of n streams and m gaps in words that may have more after it
+pub words-in : (n m : ℕ) (ws : List ℕ) → layout.gapAt n m ≤ length ws
+    → fileWords (planIn n m ws) ≡ contents Three n m ++ take (layout.gapAt n m) ws
 unfolding fileWords planIn
-words-in edition n m ws h e =
-    ap (λ x. contents x (length (planIn n m ws .streams)) (length (planIn n m ws .gaps)) ++ bodiesOf x (planIn n m ws)) (sym e)
-    ∙ ap₂ (λ a b. contents edition a b ++ bodiesOf edition (planIn n m ws)) (length-rows n _) (length-rows m _)
-    ∙ ap (λ v. contents edition n m ++ v) (bodies-in edition n m ws h)
+words-in n m ws h =
+    ap₂ (λ a b. contents Three a b ++ valuesOf (planIn n m ws)) (length-rows n _) (length-rows m _)
+    ∙ ap (λ v. contents Three n m ++ v) (values-back n m ws h)
 
--- ---- from the words of the bodies to those that are carried, and back
-module _ (edition : Edition) (bodies : List ℕ) (long : layout.timingBody edition ≤ length bodies) where
-  front-long : length (take layout.slotAt bodies) ≡ layout.slotAt
-  front-long = length-take-le layout.slotAt bodies (omega (arith, timing-body edition))
+-- ---- in edition 3 the plan in the bodies is that in its words
+timing-taken : (ws : List ℕ) → timingIn (take layout.timingLength ws) ≡ timingIn ws
+timing-taken ws =
+    let t : (k : ℕ) → k < layout.timingLength → getD (take layout.timingLength ws) k 0 ≡ getD ws k 0 = λ k h. getD-take layout.timingLength ws k 0 h in
+    rw (t 0 (omega arith), t 1 (omega arith), t 2 (omega arith), t 3 (omega arith), t 4 (omega arith), t 5 (omega arith), t 6 (omega arith), t 7 (omega arith), t 8 (omega arith), t 9 (omega arith)) refl
 
-  -- the words after P's are those after the timing body
-  pub carried-tail : drop layout.timingLength (carriedIn edition bodies) ≡ drop (layout.timingBody edition) bodies
-  carried-tail =
-      sym (drop-drop 1 layout.slotAt (carriedIn edition bodies))
-      ∙ ap (drop 1) (drop-at (take layout.slotAt bodies) (slotIn edition bodies ∷ drop (layout.timingBody edition) bodies) layout.slotAt front-long)
+stream-taken : (ws : List ℕ) (k : ℕ) → streamIn (take layout.streamLength (drop k ws)) 0 ≡ streamIn ws k
+stream-taken ws k =
+    let t : (j : ℕ) → j < layout.streamLength → getD (take layout.streamLength (drop k ws)) j 0 ≡ getD ws (k + j) 0 =
+    λ j h. getD-take layout.streamLength (drop k ws) j 0 h ∙ getD-drop k ws j 0 in
+    rw (t 0 (omega arith), t 1 (omega arith), t 2 (omega arith), t 3 (omega arith), t 4 (omega arith), t 5 (omega arith), t 6 (omega arith), add-zero k) refl
 
-  pub length-carried : length (carriedIn edition bodies) + layout.timingBody edition ≡ layout.timingLength + length bodies
-  length-carried =
-      omega
-      (arith, length-append (take layout.slotAt bodies) (slotIn edition bodies ∷ drop (layout.timingBody edition) bodies), front-long, length-drop (layout.timingBody edition) bodies)
+pub as-carried : (n m : ℕ) (bodies : List ℕ) → planInBodies Three n m bodies ≡ planIn n m bodies
+unfolding planInBodies planIn
+as-carried n m bodies =
+    let streams : rows n (recordIn Three bodies) ≡ rows n (λ r. streamIn bodies (layout.streamAt r)) =
+    rows-same n _ _ (λ r h. stream-taken bodies (layout.streamAt r)) in
+    rw (timing-taken bodies, streams) refl
 
-carried-front : (edition : Edition) (bodies : List ℕ) → layout.timingBody edition ≤ length bodies
-    → take (layout.timingBody edition) (carriedIn edition bodies) ≡ take (layout.timingBody edition) bodies
-carried-front One bodies long = take-at (take layout.slotAt bodies) _ layout.slotAt (front-long One bodies long)
-carried-front Two bodies long = ap (take layout.timingLength) (sym (split-at bodies layout.slotAt 0 (omega arith)))
+pub length-plan : (edition : Edition) (n m : ℕ) (bodies : List ℕ)
+    → (length (planInBodies edition n m bodies .streams) ≡ n) × (length (planInBodies edition n m bodies .gaps) ≡ m)
+unfolding planInBodies
+length-plan edition n m bodies = (length-rows n _, length-rows m _)
 
--- the bodies of the plan that is carried of some bodies are these bodies
-pub bodies-back : (edition : Edition) (n m : ℕ) (bodies : List ℕ) → length bodies ≡ bodiesLength edition n m
-    → bodiesOf edition (planIn n m (carriedIn edition bodies)) ≡ bodies
-bodies-back edition n m bodies e =
-    let long : layout.timingBody edition ≤ length bodies = omega arith in
-    let rest : length (drop (layout.timingBody edition) bodies) ≤ layout.streamLength * n + m = omega (arith, length-drop (layout.timingBody edition) bodies) in
-    bodies-in edition n m (carriedIn edition bodies) (omega (arith, length-carried edition bodies long))
-    ∙ ap₂ _++_ (carried-front edition bodies long) (ap (take (layout.streamLength * n + m)) (carried-tail edition bodies long) ∙ take-all (layout.streamLength * n + m) (drop (layout.timingBody edition) bodies) rest)
-    ∙ take-append-drop (layout.timingBody edition) bodies
+-- so its words are the bodies
+pub bodies-back : (n m : ℕ) (bodies : List ℕ) → length bodies ≡ layout.gapAt n m → valuesOf (planInBodies Three n m bodies) ≡ bodies
+bodies-back n m bodies e =
+    ap valuesOf (as-carried n m bodies) ∙ values-back n m bodies (omega arith) ∙ take-all (layout.gapAt n m) bodies (omega arith)
 
--- the words that are carried of a plan's bodies are the plan's
-pub carried-of : (edition : Edition) (p : Plan) → edition ≡ editionOf p → carriedIn edition (bodiesOf edition p) ≡ valuesOf p
-carried-of One p e =
-    let t = p .timing in
-    ap (λ P. t .f ∷ t .e ∷ t .tfcs ∷ t .swx ∷ t .h ∷ t .g ∷ t .etg ∷ t .lag ∷ t .nb ∷ P ∷ (flatMap streamWords (p .streams) ++ p .gaps)) (sym (none-of (t .p) e))
-carried-of Two p e = refl
-
--- ---- a file's words
-pub words-of-plan : (edition : Edition) (ws : List ℕ) (n m : ℕ) → length ws ≡ layout.contentsLength + bodiesLength edition n m
-    → take layout.contentsLength ws ≡ contents edition n m
-    → edition ≡ editionOf (planIn n m (carriedIn edition (drop layout.contentsLength ws)))
-    → fileWords (planIn n m (carriedIn edition (drop layout.contentsLength ws))) ≡ ws
-unfolding fileWords planIn
-words-of-plan edition ws n m long e is =
+-- .. and its file's words those of the file
+pub words-of-plan : (ws : List ℕ) (n m : ℕ) → length ws ≡ layout.contentsLength + layout.gapAt n m → take layout.contentsLength ws ≡ contents Three n m
+    → fileWords (planInBodies Three n m (drop layout.contentsLength ws)) ≡ ws
+unfolding fileWords
+words-of-plan ws n m long e =
     let bodies = drop layout.contentsLength ws in
-    let p = planIn n m (carriedIn edition bodies) in
-    let k : length bodies ≡ bodiesLength edition n m = length-drop layout.contentsLength ws ∙ omega arith in
-    ap (λ x. contents x (length (p .streams)) (length (p .gaps)) ++ bodiesOf x p) (sym is)
-    ∙ ap₂ (λ a b. contents edition a b ++ bodiesOf edition p) (length-rows n _) (length-rows m _)
-    ∙ ap₂ _++_ (sym e) (bodies-back edition n m bodies k)
+    let (n-is, m-is) = length-plan Three n m bodies in
+    let k : length bodies ≡ layout.gapAt n m = length-drop layout.contentsLength ws ∙ omega arith in
+    ap₂ (λ a b. contents Three a b ++ valuesOf (planInBodies Three n m bodies)) n-is m-is
+    ∙ ap₂ _++_ (sym e) (bodies-back n m bodies k)
     ∙ take-append-drop layout.contentsLength ws
+
+-- ---- the words of the plan in the bodies, one by one
+module _ (edition : Edition) (n m : ℕ) (bodies : List ℕ) where
+  abbrev p : Plan
+  p = planInBodies edition n m bodies
+
+  abbrev pub valueAt : ℕ → ℕ
+  valueAt k = getD (valuesOf p) k 0
+
+  in-timing : (k : ℕ) → k < layout.timingLength → valueAt k ≡ getD (take (layout.timingBody edition) bodies) k 0
+  unfolding planInBodies rows
+  in-timing k h =
+      let ws = take (layout.timingBody edition) bodies in
+      List·getD-append (timingWords (timingIn ws)) (flatMap streamWords (p .streams) ++ p .gaps) 0 k h ∙ rows-at layout.timingLength (λ j. getD ws j 0) 0 k h
+
+  in-record : (r j : ℕ) → r < n → j < layout.streamLength
+      → valueAt (layout.streamAt r + j) ≡ getD (take (layout.streamBody edition) (drop (layout.recordAt edition r) bodies)) j 0
+  unfolding planInBodies rows
+  in-record r j h g =
+      let ws = take (layout.streamBody edition) (drop (layout.recordAt edition r) bodies) in
+      ap (λ l. getD l (layout.streamAt r + j) 0) (sym (append-nil (valuesOf p)))
+      ∙ stream-word p [] r j (omega (arith, length-plan edition n m bodies)) g
+      ∙ ap (λ s. getD (streamWords s) j 0) (rows-at n (recordIn edition bodies) blank r h)
+      ∙ rows-at layout.streamLength (λ j. getD ws j 0) 0 j g
+
+  in-gaps : (i : ℕ) → i < m → valueAt (layout.gapAt n i) ≡ getD bodies (layout.recordAt edition n + i) 0
+  unfolding planInBodies
+  in-gaps i h =
+      let (n-is, m-is) = length-plan edition n m bodies in
+      ap (λ l. getD l (layout.gapAt n i) 0) (sym (append-nil (valuesOf p)))
+      ∙ ap (λ k. getD (valuesOf p ++ []) (layout.gapAt k i) 0) (sym n-is)
+      ∙ gap-word p [] i (omega arith)
+      ∙ rows-at m (λ k. getD bodies (layout.recordAt edition n + k) 0) 0 i h
+
+-- a word past the end of those that were taken is 0
+taken-past : (n k : ℕ) (ws : List ℕ) → n ≤ k → getD (take n ws) k 0 ≡ 0
+taken-past n k ws h = List·getD-eq-default (take n ws) 0 (omega (arith, length-take n ws))
+
+-- ---- which words an edition has, and where they stand
+-- none of the timing's and of the gaps' is K, and of a record's the last one
+module _ (n : ℕ) where
+  timing-is : (k : ℕ) → k < layout.timingLength → layout.isAcknowledgement n k ≡ false
+  timing-is k h = simp (lt-leb layout.timingLength k h)
+
+  record-is : (r j : ℕ) → r < n → j < layout.streamLength → layout.isAcknowledgement n (layout.streamAt r + j) ≡ eqb j 6
+  record-is r j h g =
+      let k = layout.streamAt r + j in
+      let row : (k - layout.timingLength) / layout.streamLength ≡ r = omega arith in
+      let word : (k - layout.timingLength) % layout.streamLength ≡ j = omega arith in
+      simp (le-leb layout.timingLength k (omega arith), row, word, lt-ltb r n h)
+
+  gap-is : (i : ℕ) → layout.isAcknowledgement n (layout.gapAt n i) ≡ false
+  gap-is i =
+      let q : n ≤ (layout.gapAt n i - layout.timingLength) / layout.streamLength = omega arith in
+      simp (le-leb layout.timingLength (layout.gapAt n i) (omega arith), le-ltb _ n q)
+
+-- all but the last
+not-last : (k last : ℕ) → k ≤ last → not (eqb k last) ≡ ltb k last
+not-last k last h =
+    elim (decLe last k) [
+      | yes g ↦ ap not (eq-eqb k last (omega arith)) ∙ sym (le-ltb k last g)
+      | no g ↦ ap not (ne-eqb k last (λ e. omega (arith, lt-of-not-le g))) ∙ sym (lt-ltb k last (lt-of-not-le g))
+    ]
+
+module _ (n k : ℕ) where
+  -- beside P
+  no-P : (k ≡ layout.slotAt → ⊥) → layout.hasWord One n k ≡ layout.hasWord Two n k
+  no-P h = ap (λ b. not b && not (layout.isAcknowledgement n k)) (ne-eqb k layout.slotAt h)
+
+-- a word of the timing is there if its body is so long, one of a stream if its record is, and every gap
+has-timing : (edition : Edition) (n k : ℕ) → k < layout.timingLength → layout.hasWord edition n k ≡ ltb k (layout.timingBody edition)
+has-timing One n k h =
+    ap (λ b. not (eqb k layout.slotAt) && not b) (timing-is n k h) ∙ and-true _ ∙ not-last k layout.slotAt (omega arith)
+has-timing Two n k h = ap not (timing-is n k h) ∙ sym (lt-ltb k layout.timingLength h)
+has-timing Three n k h = sym (lt-ltb k layout.timingLength h)
+
+has-record : (edition : Edition) (n r j : ℕ) → r < n → j < layout.streamLength → layout.hasWord edition n (layout.streamAt r + j) ≡ ltb j (layout.streamBody edition)
+has-record One n r j h g = no-P n (layout.streamAt r + j) (λ e. omega arith) ∙ ap not (record-is n r j h g) ∙ not-last j 6 (omega arith)
+has-record Two n r j h g = ap not (record-is n r j h g) ∙ not-last j 6 (omega arith)
+has-record Three n r j h g = sym (lt-ltb j layout.streamLength g)
+
+has-gap : (edition : Edition) (n i : ℕ) → layout.hasWord edition n (layout.gapAt n i) ≡ true
+has-gap One n i = no-P n (layout.gapAt n i) (λ e. omega arith) ∙ ap not (gap-is n i)
+has-gap Two n i = ap not (gap-is n i)
+has-gap Three n i = refl
+
+-- .. and stands as far on in the bodies
+at-timing : (edition : Edition) (n k : ℕ) → k < layout.timingLength → layout.inBodies edition n k ≡ k
+at-timing One n k h = before-P n k h
+at-timing Two n k h = omega arith
+at-timing Three n k h = refl
+
+at-record : (edition : Edition) (n r j : ℕ) → r < n → j < layout.streamLength → layout.inBodies edition n (layout.streamAt r + j) ≡ layout.recordAt edition r + j
+at-record One n r j h g = past-P n (layout.streamAt r + j) (omega arith) ∙ omega arith
+at-record Two n r j h g = omega arith
+at-record Three n r j h g = refl
+
+at-gap : (edition : Edition) (n i : ℕ) → layout.inBodies edition n (layout.gapAt n i) ≡ layout.recordAt edition n + i
+at-gap One n i = past-P n (layout.gapAt n i) (omega arith) ∙ omega arith
+at-gap Two n i = omega arith
+at-gap Three n i = refl
+
+-- ---- so each word of the plan is the bodies' in its place, or 0
+data Stands (n m : ℕ) : ℕ → Type 0 where
+  of-timing : (k : ℕ) → k < layout.timingLength → Stands n m k
+  of-record : (r j : ℕ) → r < n → j < layout.streamLength → Stands n m (layout.streamAt r + j)
+  of-gaps : (i : ℕ) → i < m → Stands n m (layout.gapAt n i)
+
+stands : (n m k : ℕ) → k < layout.gapAt n m → Stands n m k
+stands n m k h =
+    elim (decLt k layout.timingLength) [
+      | yes a ↦ of-timing k a
+      | no a ↦
+          elim (decLt k (layout.streamAt n)) [
+            | yes b ↦
+                let r : ℕ = (k - layout.timingLength) / layout.streamLength in
+                let j : ℕ = (k - layout.timingLength) % layout.streamLength in
+                let e : layout.streamAt r + j ≡ k = omega arith in
+                subst (Stands n m) e (of-record r j (omega arith) (omega arith))
+            | no b ↦
+                let e : layout.gapAt n (k - layout.streamAt n) ≡ k = omega arith in
+                subst (Stands n m) e (of-gaps (k - layout.streamAt n) (omega arith))
+          ]
+    ]
+
+module _ (edition : Edition) (n m : ℕ) (bodies : List ℕ) where
+  value-there : {k : ℕ} → Stands n m k → layout.hasWord edition n k ≡ true → valueAt edition n m bodies k ≡ getD bodies (layout.inBodies edition n k) 0
+  value-there (of-timing k h) e =
+      in-timing edition n m bodies k h
+      ∙ getD-take (layout.timingBody edition) bodies k 0 (ltb-true _ _ (sym (has-timing edition n k h) ∙ e))
+      ∙ ap (λ x. getD bodies x 0) (sym (at-timing edition n k h))
+  value-there (of-record r j h g) e =
+      in-record edition n m bodies r j h g
+      ∙ getD-take (layout.streamBody edition) (drop (layout.recordAt edition r) bodies) j 0 (ltb-true _ _ (sym (has-record edition n r j h g) ∙ e))
+      ∙ getD-drop (layout.recordAt edition r) bodies j 0
+      ∙ ap (λ x. getD bodies x 0) (sym (at-record edition n r j h g))
+  value-there (of-gaps i h) e = in-gaps edition n m bodies i h ∙ ap (λ x. getD bodies x 0) (sym (at-gap edition n i))
+
+  value-not : {k : ℕ} → Stands n m k → layout.hasWord edition n k ≡ false → valueAt edition n m bodies k ≡ 0
+  value-not (of-timing k h) e =
+      in-timing edition n m bodies k h ∙ taken-past (layout.timingBody edition) k bodies (ltb-false _ _ (sym (has-timing edition n k h) ∙ e))
+  value-not (of-record r j h g) e =
+      in-record edition n m bodies r j h g ∙ taken-past (layout.streamBody edition) j _ (ltb-false _ _ (sym (has-record edition n r j h g) ∙ e))
+  value-not (of-gaps i h) e = absurd (true≢false (sym (has-gap edition n i) ∙ e))
+
+  pub word-there : (k : ℕ) → k < layout.gapAt n m → layout.hasWord edition n k ≡ true → valueAt edition n m bodies k ≡ getD bodies (layout.inBodies edition n k) 0
+  word-there k h = value-there (stands n m k h)
+
+  pub word-not : (k : ℕ) → k < layout.gapAt n m → layout.hasWord edition n k ≡ false → valueAt edition n m bodies k ≡ 0
+  word-not k h = value-not (stands n m k h)

@@ -3,27 +3,29 @@ use mathlib.Core.Path.{_≡_, refl, sym, ap, ap₂, _∙_}
 use mathlib.Core.List.{List}
 use Prim.Native.Nat.{ℕ}
 use native.Mathlib.Omega.{arith}
-use lib.ListN.{getD, replicate}
+use lib.ListN.{drop, replicate}
 use Rattle.names.specs.declared.Refusal.{Refusal}
-use Rattle.laws.proofs.Lists.{length-rows}
+use Rattle.words.specs.Words.{wordsOf}
 use Rattle.plan.specs.declared.Sheet.{Sheet}
 use Rattle.plan.specs.Plan.{Plan, planOf}
-use Rattle.carried.specs.declared.Edition.{Edition}
+use Rattle.carried.specs.declared.Edition.{Edition, the-variants.Three}
 use Rattle.carried.specs.Layout as layout
-use Rattle.carried.specs.Carried.{streamIn, planIn, editionOf, sheetOf}
+use Rattle.carried.specs.Carried.{planIn, sheetOf}
 use Rattle.carried.proofs.Plans.{one-sheet}
 use Rattle.judge.specs.declared.Checked.{Checked, the-variants.Fine, the-variants.Refused}
 use Rattle.judge.specs.Table.{judge}
 use Rattle.checks.specs.Checks.{lines}
-use Rattle.checks.proofs.Fine.{fine-if-right}
 use Rattle.file.specs.declared.Counts.the-variants.{Of, Refused as Counts·Refused}
-use Rattle.file.specs.File.{bodiesIn, carriedOf, readAs, readOf, countsOf}
-use Rattle.file.proofs.Reading.{planAt, counts-refused, counts-are, counts-right, counts-plan}
+use Rattle.file.specs.File.{planAt, carriedOf, readAs, readOf, countsOf}
+use Rattle.file.proofs.Bodies.{length-plan}
+use Rattle.file.proofs.Reading.{counts-refused, counts-are, counts-right, counts-plan}
 
--- `read` is what is done with an answer and its sheet: by the edition, the counts and the plan where it is fine, and else by the refusal alone
+-- `read` is what is done with an answer and its sheet: by the counts and the plan where it is fine, as in edition 3, and else by the refusal
+-- alone; and what is fine is done alike in every edition
 module _ {A : Type 0} (read : Checked → Sheet → A) (no : Refusal → A) (by : Edition → ℕ → ℕ → Plan → A)
-    (fine : (s : Sheet) → read Fine s ≡ by (editionOf (planOf s)) (s .count) (s .sources) (planOf s)) (not : (r : Refusal) (s : Sheet) → read (Refused r) s ≡ no r)
-    (refused : (edition : Edition) (n m : ℕ) (p : Plan) (r : Refusal) → judge (lines edition n m p) ≡ Refused r → by edition n m p ≡ no r) where
+    (fine : (s : Sheet) → read Fine s ≡ by Three (s .count) (s .sources) (planOf s)) (not : (r : Refusal) (s : Sheet) → read (Refused r) s ≡ no r)
+    (refused : (edition : Edition) (n m : ℕ) (p : Plan) (r : Refusal) → judge (lines edition n m p) ≡ Refused r → by edition n m p ≡ no r)
+    (alike : (edition : Edition) (n m : ℕ) (p : Plan) → judge (lines edition n m p) ≡ Fine → by Three n m p ≡ by edition n m p) where
   pub not-counted : (bs : List ℕ) (r : Refusal) → countsOf bs ≡ Counts·Refused r → read (readOf bs .answer) (readOf bs .sheet) ≡ no r
   not-counted bs r e = ap (λ f. read (f .answer) (f .sheet)) (counts-refused bs r e) ∙ not r _
 
@@ -32,17 +34,11 @@ module _ {A : Type 0} (read : Checked → Sheet → A) (no : Refusal → A) (by 
     p = planAt edition n m bs
 
     own : judge (lines edition n m p) ≡ Fine → read Fine (sheetOf p) ≡ by edition n m p
-    unfolding planIn
     own d =
-        let n-is = length-rows n (λ r. streamIn (bodiesIn edition bs) (layout.streamAt r)) in
-        let m-is = length-rows m (λ k. getD (bodiesIn edition bs) (layout.gapAt n k) 0) in
+        let (n-is, m-is) = length-plan edition n m (drop layout.contentsLength (wordsOf bs)) in
         let (some, few, quiet) = counts-right bs edition n m e in
         let sheet : planOf (sheetOf p) ≡ p = one-sheet p (omega (arith, n-is, few)) (omega (arith, m-is, quiet)) in
-        let is : edition ≡ editionOf p = fine-if-right edition n m p .0 d .0 in
-        fine (sheetOf p)
-        ∙ ap₂ (λ i j. by (editionOf (planOf (sheetOf p))) i j (planOf (sheetOf p))) n-is m-is
-        ∙ ap (λ q. by (editionOf q) n m q) sheet
-        ∙ ap (λ x. by x n m p) (sym is)
+        fine (sheetOf p) ∙ ap₂ (λ i j. by Three i j (planOf (sheetOf p))) n-is m-is ∙ ap (by Three n m) sheet ∙ alike edition n m p d
 
     as-read : (c : Checked) → judge (lines edition n m p) ≡ c → read (readAs c p .answer) (readAs c p .sheet) ≡ by edition n m p
     as-read Fine d = own d

@@ -13,9 +13,9 @@ use Rattle.judge.specs.Table.{Line, judge, lineAt}
 use Rattle.checks.specs.Checks.{valueLines}
 use Rattle.judge.proofs.Table.{fine-then, refused-by-the-first}
 use Rattle.file.specs.declared.Counts.{Counts, the-variants.Of, the-variants.Refused as Counts·Refused}
-use Rattle.file.specs.File.{editionIn, countIn, sourcesIn, contentsLines, linesIn, countsOf, readAs, readOf}
+use Rattle.file.specs.File.{editionIn, countIn, sourcesIn, planAt, contentsLines, linesIn, countsOf, readAs, readOf}
 use Rattle.file.specs.Claims.{ContentsRefused}
-use Rattle.file.proofs.Reading.{planAt, as-refused, counts-refused, first-fine}
+use Rattle.file.proofs.Reading.{as-refused, counts-refused, first-fine}
 
 -- the answer to a reading is that to its lines
 answer-refused : (c : Checked) (p : Plan) (r : Refusal) → readAs c p .answer ≡ Refused r → c ≡ Refused r
@@ -45,7 +45,7 @@ module _ (bs : List ℕ) (r : Refusal) where
   unfolding countsOf
   small e =
       let x = editionIn (wordsOf bs) in
-      let n = countIn (wordsOf bs) in
+      let n = countIn x (wordsOf bs) in
       let m = sourcesIn (wordsOf bs) in
       number-of (λ k. k ≤ 2) (contentsLines x n m bs) r (first-number x n m bs) (as-refused x n m (judge (contentsLines x n m bs)) r e)
 

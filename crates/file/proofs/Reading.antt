@@ -1,12 +1,12 @@
 -- What the contents say, answer by answer; what reading gives then; what a fine answer says. Assumes nothing.
 use mathlib.Core.Path.{_≡_, refl, sym, ap, ap₂, _∙_}
 use mathlib.Core.Bool.{Bool, true, false}
-use mathlib.Core.List.{List}
+use mathlib.Core.List.{List, [], _++_, append-nil}
 use Prim.Native.Nat.{ℕ, _≤_}
 use native.Mathlib.Omega.{arith}
 use borrow.Author.Tests.{eqb-true}
 use lib.Dec.{eqb}
-use lib.ListN.{length, take, replicate}
+use lib.ListN.{length, take, drop, replicate}
 use Rattle.names.specs.Limits.{streams, sources}
 use Rattle.names.specs.declared.Refusal.{Refusal}
 use Rattle.laws.proofs.Tests.{both}
@@ -16,19 +16,22 @@ use Rattle.judge.specs.declared.Checked.{Checked, the-variants.Fine, the-varian
 use Rattle.judge.specs.Table.{judge, unless}
 use Rattle.judge.proofs.Table.{given, passed, not-given, refused-then, unless-not}
 use Rattle.plan.specs.Plan.{Plan}
-use Rattle.carried.specs.declared.Edition.{Edition}
+use Rattle.carried.specs.declared.Edition.{Edition, the-variants.Three}
 use Rattle.carried.specs.Layout as layout
-use Rattle.carried.specs.Carried.{planIn, editionOf, sheetOf, noSheet}
-use Rattle.carried.proofs.Plans.{one-sheet, plan-in-places}
+use Rattle.carried.specs.Carried.{planIn, valuesOf, sheetOf, noSheet}
+use Rattle.carried.proofs.Plans.{one-sheet, plan-in-places, plan-in-values}
 use Rattle.checks.specs.Checks.{rangeLines, valueLines, lines, checkedOf}
 use Rattle.checks.proofs.Counts.{range-number, fine-range, ranges-counted}
 use Rattle.file.specs.declared.Counts.{Counts, the-variants.Of, the-variants.Refused as Counts·Refused}
-use Rattle.file.specs.File.{contents, editionIn, countIn, sourcesIn, bodiesIn, same, sizeRight, contentsRight, contentsLines, countsAs, countsOf, carriedAs, carriedOf, linesIn, readAs, readOf}
+use Rattle.file.specs.File.{contents, editionIn, countIn, sourcesIn, planAt, same, sizeRight, contentsRight, contentsLines, countsAs, countsOf, carriedAs, carriedOf, linesIn, readAs, readOf}
 use Rattle.file.proofs.Same.{same-eq}
+use Rattle.file.proofs.Bodies.{length-plan}
 
--- the plan of n streams and m gaps in the bytes of a file of an edition
-abbrev pub planAt : Edition → ℕ → ℕ → List ℕ → Plan
-planAt edition n m bs = planIn n m (bodiesIn edition bs)
+-- the plan in a file has as many streams and gaps as are said
+at-counts : (edition : Edition) (n m : ℕ) (bs : List ℕ) → judge (rangeLines n m ++ valueLines edition (planAt edition n m bs)) ≡ judge (lines edition n m (planAt edition n m bs))
+at-counts edition n m bs =
+    let (n-is, m-is) = length-plan edition n m (drop layout.contentsLength (wordsOf bs)) in
+    ranges-counted n m (planAt edition n m bs) n-is m-is edition
 
 -- ---- what the contents say, answer by answer
 abbrev pub refusedCounts : ℕ → Counts
@@ -37,9 +40,11 @@ refusedCounts number = Counts·Refused (record { number = number; place = 0 })
 -- 1
 pub said-size : (bs : List ℕ) → sizeRight bs ≡ false → countsOf bs ≡ refusedCounts 1
 unfolding countsOf
-said-size bs e = ap (λ c. countsAs c (editionIn (wordsOf bs)) (countIn (wordsOf bs)) (sourcesIn (wordsOf bs))) (given _ _ 0 (ap unless e))
+said-size bs e =
+    let edition = editionIn (wordsOf bs) in
+    ap (λ c. countsAs c edition (countIn edition (wordsOf bs)) (sourcesIn (wordsOf bs))) (given _ _ 0 (ap unless e))
 
-module _ (bs : List ℕ) (edition : Edition) (n m : ℕ) (x : editionIn (wordsOf bs) ≡ edition) (e : countIn (wordsOf bs) ≡ n) (d : sourcesIn (wordsOf bs) ≡ m)
+module _ (bs : List ℕ) (edition : Edition) (n m : ℕ) (x : editionIn (wordsOf bs) ≡ edition) (e : countIn edition (wordsOf bs) ≡ n) (d : sourcesIn (wordsOf bs) ≡ m)
     (one : sizeRight bs ≡ true) where
   -- 2, by the words or the end
   pub said-contents : contentsRight edition n m bs ≡ false → countsOf bs ≡ refusedCounts 2
@@ -66,7 +71,7 @@ module _ (bs : List ℕ) (edition : Edition) (n m : ℕ) (x : editionIn (wordsOf
   pub read-values : contentsRight edition n m bs ≡ true → readOf bs ≡ readAs (judge (lines edition n m (planAt edition n m bs))) (planAt edition n m bs)
   unfolding readOf
   read-values two =
-      rw (x, e, d) (ap (λ c. readAs c (planAt edition n m bs)) (passed _ _ (ap unless one) ∙ passed _ _ (ap unless two) ∙ ranges-counted n m edition (bodiesIn edition bs)))
+      rw (x, e, d) (ap (λ c. readAs c (planAt edition n m bs)) (passed _ _ (ap unless one) ∙ passed _ _ (ap unless two) ∙ at-counts edition n m bs))
 
 -- ---- an answer with its edition and its counts
 pub as-refused : (edition : Edition) (n m : ℕ) (c : Checked) (r : Refusal) → countsAs c edition n m ≡ Counts·Refused r → c ≡ Refused r
@@ -82,7 +87,7 @@ pub counts-refused : (bs : List ℕ) (r : Refusal) → countsOf bs ≡ Counts·R
 unfolding countsOf readOf
 counts-refused bs r e =
     let edition = editionIn (wordsOf bs) in
-    let n = countIn (wordsOf bs) in
+    let n = countIn edition (wordsOf bs) in
     let m = sourcesIn (wordsOf bs) in
     let lines = contentsLines edition n m bs in
     ap (λ c. readAs c (planAt edition n m bs)) (refused-then lines (valueLines edition (planAt edition n m bs)) r (as-refused edition n m (judge lines) r e))
@@ -96,14 +101,14 @@ right-contents edition n m bs e =
 
 module _ (bs : List ℕ) (edition : Edition) (n m : ℕ) (e : countsOf bs ≡ Of edition n m) where
   -- the edition, n and m are what they say
-  pub first-fine : (editionIn (wordsOf bs) ≡ edition) × (countIn (wordsOf bs) ≡ n) × (sourcesIn (wordsOf bs) ≡ m) × (judge (contentsLines edition n m bs) ≡ Fine)
+  pub first-fine : (editionIn (wordsOf bs) ≡ edition) × (countIn edition (wordsOf bs) ≡ n) × (sourcesIn (wordsOf bs) ≡ m) × (judge (contentsLines edition n m bs) ≡ Fine)
   unfolding countsOf
   first-fine =
       let z = editionIn (wordsOf bs) in
-      let a = countIn (wordsOf bs) in
+      let a = countIn z (wordsOf bs) in
       let b = sourcesIn (wordsOf bs) in
       let (j, x, p, q) = as-fine z a b (judge (contentsLines z a b bs)) edition n m e in
-      (x, p, q, sym (ap (λ z. judge (contentsLines z a b bs)) x ∙ ap₂ (λ x y. judge (contentsLines edition x y bs)) p q) ∙ j)
+      (x, ap (λ x. countIn x (wordsOf bs)) (sym x) ∙ p, q, sym (ap (λ z. judge (contentsLines z a b bs)) x ∙ ap₂ (λ x y. judge (contentsLines edition x y bs)) p q) ∙ j)
 
   two-fine : (sizeRight bs ≡ true) × (contentsRight edition n m bs ≡ true) × (judge (rangeLines n m) ≡ Fine)
   two-fine =
@@ -127,12 +132,18 @@ module _ (bs : List ℕ) (edition : Edition) (n m : ℕ) (e : countsOf bs ≡ Of
   -- the plan in the words that are carried, laid onto zeros, is the file's
   pub counts-plan : {ws : List ℕ} → ws ≡ carriedOf bs (replicate layout.largest 0) → planIn n m ws ≡ planAt edition n m bs
   counts-plan d =
-      ap (planIn n m) (d ∙ ap (λ r. carriedAs r bs (replicate layout.largest 0)) e ∙ laid-on-zeros (bodiesIn edition bs) layout.largest)
-      ∙ plan-in-places n m (bodiesIn edition bs) (counts-right .1) (counts-right .2)
+      let p = planAt edition n m bs in
+      let (n-is, m-is) = length-plan edition n m (drop layout.contentsLength (wordsOf bs)) in
+      ap (planIn n m) (d ∙ ap (λ r. carriedAs r bs (replicate layout.largest 0)) e ∙ laid-on-zeros (valuesOf p) layout.largest)
+      ∙ plan-in-places n m (valuesOf p) (counts-right .1) (counts-right .2)
+      ∙ ap₂ (λ i j. planIn i j (valuesOf p)) (sym n-is) (sym m-is)
+      ∙ ap (planIn _ _) (sym (append-nil (valuesOf p)))
+      ∙ plan-in-values p []
 
 -- ---- what a fine answer says
 pub record ReadFine (bs : List ℕ) : Type 0 where
   pub edition : Edition
+  pub said : edition ≡ editionIn (wordsOf bs)
   pub n : ℕ
   pub m : ℕ
   pub size : length bs ≡ layout.size edition n m
@@ -148,7 +159,7 @@ pub fine-read : (bs : List ℕ) → readOf bs .answer ≡ Fine → ReadFine bs
 unfolding readOf
 fine-read bs e =
     let edition = editionIn (wordsOf bs) in
-    let n = countIn (wordsOf bs) in
+    let n = countIn edition (wordsOf bs) in
     let m = sourcesIn (wordsOf bs) in
     let p = planAt edition n m bs in
     let j = answer-of (judge (linesIn edition n m bs)) p e in
@@ -157,18 +168,19 @@ fine-read bs e =
     let (c, d) = right-contents edition n m bs (unless-not (contentsRight edition n m bs) two) in
     record {
       edition = edition;
+      said = refl;
       n = n;
       m = m;
       size = d;
       contents = c;
-      values = sym (ranges-counted n m edition (bodiesIn edition bs)) ∙ j₂;
+      values = sym (at-counts edition n m bs) ∙ j₂;
       read = ap (λ c. readAs c p) j;
     }
 
 -- ---- the answer to a plan's sheet is that to the plan
 pub checked-sheet : (n m : ℕ) (p : Plan) → length (p .streams) ≡ n → length (p .gaps) ≡ m → n ≤ streams → m ≤ sources
-    → checkedOf (sheetOf p) ≡ judge (lines (editionOf p) n m p)
+    → checkedOf (sheetOf p) ≡ judge (lines Three n m p)
 unfolding checkedOf
 checked-sheet n m p e d few quiet =
-    ap (λ q. judge (lines (editionOf q) (length (p .streams)) (length (p .gaps)) q)) (one-sheet p (omega arith) (omega arith))
-    ∙ ap₂ (λ a b. judge (lines (editionOf p) a b p)) e d
+    ap (λ q. judge (lines Three (length (p .streams)) (length (p .gaps)) q)) (one-sheet p (omega arith) (omega arith))
+    ∙ ap₂ (λ a b. judge (lines Three a b p)) e d

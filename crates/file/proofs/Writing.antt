@@ -12,16 +12,17 @@ use Rattle.names.specs.Limits.{streams, sources}
 use Rattle.names.specs.declared.Refusal.{Refusal}
 use Rattle.plan.specs.declared.Sheet.{Sheet}
 use Rattle.plan.specs.Plan.{Plan, planOf}
-use Rattle.carried.specs.declared.Edition.{Edition}
+use Rattle.carried.specs.declared.Edition.{Edition, the-variants.Three}
 use Rattle.carried.specs.Layout as layout
 use Rattle.plan.proofs.Places.{Owned}
 use Rattle.judge.specs.declared.Checked.{Checked, the-variants.Fine, the-variants.Refused}
 use Rattle.judge.specs.Table.{Line, judge, unless}
-use Rattle.carried.specs.Carried.{planIn, editionOf, inPlaces}
+use Rattle.carried.specs.Carried.{planIn, inPlaces}
 use Rattle.carried.proofs.Plans.{plan-in-places}
 use Rattle.checks.specs.Checks.{inRange, lines}
 use Rattle.judge.proofs.Table.{given, passed, nothing-given, fine-then, refused-then}
 use Rattle.checks.proofs.Counts.{too-few, too-many, too-noisy, out-of-range}
+use Rattle.checks.proofs.Fine.{fine-in-three}
 use Rattle.checks.proofs.Words.{planInWords, same-lines, same-plan-if-fine}
 use Rattle.file.specs.declared.Written.the-variants.{Bytes, Refused as Written·Refused}
 use Rattle.file.specs.File.{fileOf, linesOut, writeAs, writeWith, writeOf}
@@ -31,28 +32,32 @@ module _ (edition : Edition) (n m : ℕ) (p : Plan) (buf : List ℕ) where
   -- a line of the values is given
   pub write-refused : (r : Refusal) → judge (lines edition n m p) ≡ Refused r → writeWith edition n m p buf ≡ (Written·Refused r, buf)
   unfolding writeWith
-  write-refused r e = ap (λ c. writeAs c edition n m p buf) (refused-then _ _ r e)
+  write-refused r e = ap (λ c. writeAs c n m p buf) (refused-then _ _ r e)
 
   module _ (fine : judge (lines edition n m p) ≡ Fine) where
     -- 6
-    pub write-no-room : length buf < layout.size edition n m → writeWith edition n m p buf ≡ (Written·Refused (record { number = 6; place = 0 }), buf)
+    pub write-no-room : length buf < layout.size Three n m → writeWith edition n m p buf ≡ (Written·Refused (record { number = 6; place = 0 }), buf)
     unfolding writeWith
-    write-no-room h = ap (λ c. writeAs c edition n m p buf) (fine-then _ _ fine ∙ given _ _ 0 (ap unless (lt-leb _ _ h)))
+    write-no-room h = ap (λ c. writeAs c n m p buf) (fine-then _ _ fine ∙ given _ _ 0 (ap unless (lt-leb _ _ h)))
 
-    pub write-fine : layout.size edition n m ≤ length buf
-        → writeWith edition n m p buf ≡ (Bytes (layout.size edition n m), fileOf p ++ drop (layout.size edition n m) buf)
+    pub write-fine : layout.size Three n m ≤ length buf
+        → writeWith edition n m p buf ≡ (Bytes (layout.size Three n m), fileOf p ++ drop (layout.size Three n m) buf)
     unfolding writeWith
-    write-fine h = ap (λ c. writeAs c edition n m p buf) (fine-then _ _ fine ∙ passed _ _ (ap unless (le-leb _ _ h)) ∙ nothing-given)
+    write-fine h = ap (λ c. writeAs c n m p buf) (fine-then _ _ fine ∙ passed _ _ (ap unless (le-leb _ _ h)) ∙ nothing-given)
+
+-- ---- what is fine is written alike, in whatever edition it was read
+pub written-alike : (buf : List ℕ) (edition : Edition) (n m : ℕ) (p : Plan) → judge (lines edition n m p) ≡ Fine
+    → writeWith Three n m p buf ≡ writeWith edition n m p buf
+unfolding writeWith
+written-alike buf edition n m p fine =
+    ap (λ c. writeAs c n m p buf) (fine-then (lines Three n m p) _ (fine-in-three edition n m p fine) ∙ sym (fine-then (lines edition n m p) _ fine))
 
 -- ---- a sheet and its words
 pub same-writing : (s : Sheet) (o : Owned s) (buf : List ℕ)
-    → let x = editionOf (planOf s) in writeWith x (s .count) (s .sources) (planInWords s o x) buf ≡ writeOf s buf
+    → writeWith Three (s .count) (s .sources) (planInWords s o Three) buf ≡ writeOf s buf
 unfolding writeWith writeOf
-same-writing s o buf = go (judge (linesOut x n m (planOf s) buf)) refl
+same-writing s o buf = go (judge (linesOut Three n m (planOf s) buf)) refl
   where
-    x : Edition
-    x = editionOf (planOf s)
-
     n : ℕ
     n = s .count
 
@@ -60,11 +65,11 @@ same-writing s o buf = go (judge (linesOut x n m (planOf s) buf)) refl
     m = s .sources
 
     six : List Line
-    six = record { number = 6; place = unless (leb (layout.size x n m) (length buf)) } ∷ []
+    six = record { number = 6; place = unless (leb (layout.size Three n m) (length buf)) } ∷ []
 
-    go : (c : Checked) → judge (linesOut x n m (planOf s) buf) ≡ c → writeWith x n m (planInWords s o x) buf ≡ writeWith x n m (planOf s) buf
-    go Fine e = ap (λ p. writeWith x n m p buf) (same-plan-if-fine s o x six e)
-    go (Refused r) e = ap (λ c. writeAs c x n m (planInWords s o x) buf) (same-lines s o x six ∙ e) ∙ sym (ap (λ c. writeAs c x n m (planOf s) buf) e)
+    go : (c : Checked) → judge (linesOut Three n m (planOf s) buf) ≡ c → writeWith Three n m (planInWords s o Three) buf ≡ writeWith Three n m (planOf s) buf
+    go Fine e = ap (λ p. writeWith Three n m p buf) (same-plan-if-fine s o Three six e)
+    go (Refused r) e = ap (λ c. writeAs c n m (planInWords s o Three) buf) (same-lines s o Three six ∙ e) ∙ sym (ap (λ c. writeAs c n m (planOf s) buf) e)
 
 -- ---- counts out of range, and lent words in places
 pub wrong-counts : WrongCounts

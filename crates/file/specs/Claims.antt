@@ -1,31 +1,32 @@
--- What is proved of the plan file: one plan, one file (proofs/RoundTrip.antt), when its contents alone refuse it (proofs/Exactly.antt), and
--- document 01's numbers (proofs/Numbers.antt).
+-- What is proved of the plan file: one plan, one file of edition 3 (proofs/RoundTrip.antt), when its contents alone refuse it
+-- (proofs/Exactly.antt), and the documents' numbers (proofs/Numbers.antt).
 use mathlib.Core.Path.{_≡_}
+use mathlib.Core.Bool.{true, false}
 use mathlib.Core.List.{List, [], _∷_, _++_}
 use mathlib.Core.Logic.{_↔_}
 use Prim.Native.Nat.{ℕ, _+_, _*_, _^_, _≤_, _<_}
 use lib.ListN.{length, getD, take, drop}
 use Rattle.names.specs.Limits.{streams, sources}
 use Rattle.names.specs.declared.Refusal.{Refusal}
-use Rattle.words.specs.Words.{Below}
+use Rattle.words.specs.Words.{wordsOf, Below}
 use Rattle.plan.specs.declared.Sheet.{Sheet}
 use Rattle.plan.specs.Plan.{Plan, planOf}
-use Rattle.carried.specs.declared.Edition.{Edition, the-variants.One, the-variants.Two}
+use Rattle.carried.specs.declared.Edition.{Edition, the-variants.One, the-variants.Two, the-variants.Three}
 use Rattle.carried.specs.Layout as layout
-use Rattle.carried.specs.Carried.{editionOf, sheetOf}
+use Rattle.carried.specs.Carried.{sheetOf}
 use Rattle.fields.specs.Fields.{fields, fieldAt}
 use Rattle.judge.specs.declared.Checked.the-variants.{Fine, Refused as Checked·Refused}
 use Rattle.judge.specs.Table.{judge}
 use Rattle.checks.specs.Checks.{lines}
-use Rattle.file.specs.declared.Counts.the-variants.{Refused as Counts·Refused}
+use Rattle.file.specs.declared.Counts.the-variants.{Of, Refused as Counts·Refused}
 use Rattle.file.specs.declared.Written.the-variants.{Bytes, Refused as Written·Refused}
-use Rattle.file.specs.File.{contents, fileWords, fileOf, countsOf, readAs, readOf, writeWith, writeOf}
+use Rattle.file.specs.File.{contents, fileWords, fileOf, editionIn, planAt, countsOf, readAs, readOf, writeWith, writeOf}
 
 -- the file of any plan of at most 64 streams and 8 gaps, whose words fit 32 bits, is answered as the plan's values are, with the same place
 abbrev pub ReadsAsItsValues : Type 0
 ReadsAsItsValues =
     (p : Plan) → length (p .streams) ≤ streams → length (p .gaps) ≤ sources → Below (2 ^ 32) (fileWords p)
-    → readOf (fileOf p) ≡ readAs (judge (lines (editionOf p) (length (p .streams)) (length (p .gaps)) p)) p
+    → readOf (fileOf p) ≡ readAs (judge (lines Three (length (p .streams)) (length (p .gaps)) p)) p
 
 -- reading what was written gives the same plan, for every sheet that is not refused
 abbrev pub ReadsWhatWasWritten : Type 0
@@ -33,11 +34,24 @@ ReadsWhatWasWritten =
     (s : Sheet) (buf : List ℕ) (n : ℕ) → writeOf s buf .0 ≡ Bytes n
     → readOf (take n (writeOf s buf .1)) ≡ record { answer = Fine; sheet = sheetOf (planOf s) }
 
--- writing what was read gives the same bytes, for every file that is not refused
+-- the file of the plan that was read
+abbrev pub fileRead : List ℕ → List ℕ
+fileRead bs = fileOf (planOf (readOf bs .sheet))
+
+-- writing what was read gives that file, for every file that is not refused, ..
 abbrev pub WritesWhatWasRead : Type 0
 WritesWhatWasRead =
-    (bs buf : List ℕ) → Below 256 bs → readOf bs .answer ≡ Fine → length bs ≤ length buf
-    → writeOf (readOf bs .sheet) buf ≡ (Bytes (length bs), bs ++ drop (length bs) buf)
+    (bs buf : List ℕ) → readOf bs .answer ≡ Fine → length (fileRead bs) ≤ length buf
+    → writeOf (readOf bs .sheet) buf ≡ (Bytes (length (fileRead bs)), fileRead bs ++ drop (length (fileRead bs)) buf)
+
+-- .. which has edition 3 and the same meaning: what is read of it is what was read, ..
+abbrev pub MeansTheSame : Type 0
+MeansTheSame =
+    (bs : List ℕ) → readOf bs .answer ≡ Fine → (editionIn (wordsOf (fileRead bs)) ≡ Three) × (readOf (fileRead bs) ≡ readOf bs)
+
+-- .. and is the same byte for byte, if the file that was read has edition 3
+abbrev pub SameBytes : Type 0
+SameBytes = (bs : List ℕ) → Below 256 bs → readOf bs .answer ≡ Fine → editionIn (wordsOf bs) ≡ Three → fileRead bs ≡ bs
 
 -- counts out of range are refused 2 at 0, whatever else is wrong, and the lent bytes are as they were
 abbrev pub WrongCounts : Type 0
@@ -60,16 +74,23 @@ abbrev pub ContentsAre : Type 0
 ContentsAre =
     (n m : ℕ) → (contents One n m ≡ 1 ∷ 3 ∷ 1 ∷ 44 ∷ 36 ∷ 2 ∷ 80 ∷ 24 * n ∷ 3 ∷ (80 + 24 * n) ∷ 4 * m ∷ [])
     × (contents Two n m ≡ 2 ∷ 3 ∷ 1 ∷ 44 ∷ 40 ∷ 2 ∷ 84 ∷ 24 * n ∷ 3 ∷ (84 + 24 * n) ∷ 4 * m ∷ [])
+    × (contents Three n m ≡ 3 ∷ 3 ∷ 1 ∷ 44 ∷ 40 ∷ 2 ∷ 84 ∷ 28 * n ∷ 3 ∷ (84 + 28 * n) ∷ 4 * m ∷ [])
 
--- .. a file has as many bytes as they say, the largest 1,652, ..
+-- .. a file has as many bytes as they say, the largest 1,908, ..
 abbrev pub SizesAre : Type 0
 SizesAre =
-    ((n m : ℕ) → (layout.size One n m ≡ 80 + 24 * n + 4 * m) × (layout.size Two n m ≡ 84 + 24 * n + 4 * m)) × (layout.largestFile ≡ 1652)
+    ((n m : ℕ) → (layout.size One n m ≡ 80 + 24 * n + 4 * m) × (layout.size Two n m ≡ 84 + 24 * n + 4 * m)
+    × (layout.size Three n m ≡ 84 + 28 * n + 4 * m))
+    × (layout.largestFile ≡ 1908)
 
--- .. and field i stands where refusal 3 says: word k of the bodies, at byte 4 × (11 + k), is word 11 + k of the file. P, which is field 9,
--- stands in edition 2 alone
+-- .. and field i of a file whose contents are right stands where refusal 3 says: word k of the bodies, at byte 4 × (11 + k), is word 11 + k
+-- of the file. A field that its edition has no word for is 0
 abbrev pub PlaceIsOffset : Type 0
 PlaceIsOffset =
-    (p : Plan) (i : ℕ) → i < length (fields (editionOf p) p) → (i ≡ layout.slotAt → editionOf p ≡ Two)
-    → let k = layout.inBodies (editionOf p) i in
-    (layout.byteOf k ≡ 4 * (11 + k)) × (getD (fileWords p) (layout.contentsLength + k) 0 ≡ fieldAt (fields (editionOf p) p) i .word)
+    (bs : List ℕ) (edition : Edition) (n m : ℕ) → countsOf bs ≡ Of edition n m
+    → (i : ℕ) → i < length (fields edition (planAt edition n m bs))
+    → let k = layout.inBodies edition n i in
+    let value = fieldAt (fields edition (planAt edition n m bs)) i .word in
+    (layout.byteOf k ≡ 4 * (11 + k))
+    × (layout.hasWord edition n i ≡ true → getD (wordsOf bs) (layout.contentsLength + k) 0 ≡ value)
+    × (layout.hasWord edition n i ≡ false → value ≡ 0)

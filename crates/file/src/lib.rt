@@ -1,11 +1,11 @@
-// The plan file: its definition, what reading and writing give, and that one plan is one file.
+// The plan file: its definition, what reading and writing give, and that one plan is one file of edition 3.
 //
 // specs/ goes from bytes to raw words, from raw words to a plan, and back; proofs/ has the two round trips. The reader and
 // the writer are crates above, which promise what is defined here. Nothing is assumed. The two functions are lent nothing.
 use carried::CONTENTS;
 use carried::Edition;
-use carried::STREAM;
 use carried::WORD;
+use carried::record_at;
 use carried::timing_body;
 use judge::Checked;
 use names::Refusal;
@@ -36,8 +36,7 @@ pub enum Written {
 pub fn size(edition: Edition, n: u16, m: u16) -> usize
     ensures { λ r. ⌜ r ≡ layout.size edition n m ⌝ }
 {
-    let timing = timing_body(edition);
-    WORD * (CONTENTS + (timing + (STREAM * n as usize + m as usize)))
+    WORD * (CONTENTS + (record_at(edition, n) + m as usize))
 }
 
 fn number_of(edition: Edition) -> u32
@@ -46,6 +45,7 @@ fn number_of(edition: Edition) -> u32
     match edition {
         Edition::One => 1,
         Edition::Two => 2,
+        Edition::Three => 3,
     }
 }
 
@@ -56,7 +56,7 @@ pub fn contents(edition: Edition, n: u16, m: u16) -> [u32; CONTENTS]
     let number = number_of(edition);
     let timing = timing_body(edition);
     let entries = 3;
-    let streams = STREAM * n as usize;
+    let noise = record_at(edition, n);
     [
         number,
         entries,
@@ -65,9 +65,9 @@ pub fn contents(edition: Edition, n: u16, m: u16) -> [u32; CONTENTS]
         (WORD * timing) as u32,
         2,
         (WORD * (CONTENTS + timing)) as u32,
-        (WORD * streams) as u32,
+        (WORD * (noise - timing)) as u32,
         3,
-        (WORD * (CONTENTS + (timing + streams))) as u32,
+        (WORD * (CONTENTS + noise)) as u32,
         (WORD * m as usize) as u32,
     ]
 }

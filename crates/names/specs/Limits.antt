@@ -12,18 +12,21 @@ sources = 8
 abbrev pub contenders : ℕ
 contenders = 128
 
--- F, E, TFCS, SWX, H, G, ETG, LAG are 0 to 65,535; a payload is 1 to 65,535
+-- F, E, TFCS, SWX, H, G, ETG, LAG are 0 to 65,535; a payload is 1 to 65,535, and an acknowledgement 0 to 65,535
 abbrev pub constant : ℕ
 constant = 65535
 
 abbrev pub payload : ℕ
 payload = 65535
 
+abbrev pub acknowledgement : ℕ
+acknowledgement = 65535
+
 -- NB is 1 to 32
 abbrev pub bits : ℕ
 bits = 32
 
--- P is 1 to 5,000,000 where a kit has a master node
+-- P is at most 5,000,000
 abbrev pub slot : ℕ
 slot = 5000000
 

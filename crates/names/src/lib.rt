@@ -34,10 +34,12 @@ pub const SOURCES: usize = 8;
 
 pub const CONTENDERS: usize = 128;
 
-// The largest timing constant, payload and number of priority bits.
+// The largest timing constant, payload, acknowledgement and number of priority bits.
 pub const CONSTANT: u32 = 65535;
 
 pub const PAYLOAD: u32 = 65535;
+
+pub const ACKNOWLEDGEMENT: u32 = 65535;
 
 pub const BITS: u32 = 32;
 

@@ -19,8 +19,7 @@ use Rattle.bound.specs.declared.Verdict.{Verdict, the-variants.Met, the-variant
 use Rattle.bound.specs.Bound.{E, demand, sideL, busy, sideW, w, bound, answer}
 use Rattle.plan.specs.Plan.{Plan, at}
 use Rattle.plan.specs.Rules.{selfOrSlotted, B, hit, terms, rowAnswer}
-use Rattle.carried.specs.Layout as layout
-use Rattle.carried.specs.Carried.{editionOf}
+use Rattle.carried.specs.declared.Edition.the-variants.{Three}
 use Rattle.cover.specs.Cover.{Partnered}
 use Rattle.fields.specs.Fields.{fields, lowest}
 use Rattle.judge.specs.declared.Checked.{Checked, the-variants.Fine, the-variants.Refused}
@@ -41,10 +40,10 @@ isFine Fine = true
 isFine (Refused r) = false
 
 abbrev fine : Plan → Bool
-fine p = isFine (judge (lines (editionOf p) (length (p .streams)) (length (p .gaps)) p))
+fine p = isFine (judge (lines Three (length (p .streams)) (length (p .gaps)) p))
 
 fine-says : (p : Plan) → fine p ≡ true → NotRefused p
-fine-says p e = fine-if-right (editionOf p) _ _ p .0 (go _ e) .1
+fine-says p e = fine-if-right Three _ _ p .0 (go _ e) .1
   where
     go : (c : Checked) → isFine c ≡ true → c ≡ Fine
     go Fine d = refl
@@ -110,7 +109,7 @@ right-says i p e =
     (fine-says _ a, fine-says _ b, broken-says i _ _ c, lost-says _ _ d)
 
 all-right : every howMany (λ i. right i (pair i)) ≡ true
-unfolding every some first those sumOf largestOf largestTo firstRepeat E demand sideL busy sideW w bound answer selfOrSlotted B hit terms layout.editionFor fields lowest flatMap judge rowOf conditions
+unfolding every some first those sumOf largestOf largestTo firstRepeat E demand sideL busy sideW w bound answer selfOrSlotted B hit terms fields lowest flatMap judge rowOf conditions
 all-right = refl
 
 pub each-needed : EachNeeded
@@ -118,7 +117,7 @@ each-needed i h = right-says i (pair i) (every-each (λ j. right j (pair j)) how
 
 -- ---- lighter in every respect: 11.2 and 10.1 stand in rows 2 and 0 of the first plan
 both-fine : fine (easier .old) && fine (easier .new) ≡ true
-unfolding some first firstRepeat selfOrSlotted layout.editionFor fields lowest flatMap judge
+unfolding some first firstRepeat selfOrSlotted fields lowest flatMap judge
 both-fine = refl
 
 no-greater : NoGreater (easier .old .timing) (easier .new .timing)
@@ -144,13 +143,13 @@ stand zero h =
     record {
       among = omega arith;
       label = refl;
-      eased = record { period = omega arith; deadline = omega arith; jitter = omega arith; payload = omega arith };
+      eased = record { period = omega arith; deadline = omega arith; jitter = omega arith; payload = omega arith; acknowledgement = omega arith };
     }
 stand (suc zero) h =
     record {
       among = omega arith;
       label = refl;
-      eased = record { period = omega arith; deadline = omega arith; jitter = omega arith; payload = omega arith };
+      eased = record { period = omega arith; deadline = omega arith; jitter = omega arith; payload = omega arith; acknowledgement = omega arith };
     }
 stand (suc (suc k)) h = absurd (omega arith)
 

@@ -1,4 +1,4 @@
--- The 18 conditions are the rule: 0 is its test of the master node, 1 to 10 of the constants, 11 to 15 of a stream, 16 of the order, 17 of a
+-- The 19 conditions are the rule: 0 is its test of the master node, 1 to 10 of the constants, 11 to 16 of a stream, 17 of the order, 18 of a
 -- noise gap. Assumes nothing.
 use mathlib.Core.Path.{_≡_, refl, sym}
 use mathlib.Core.Bool.{Bool, true, false, true≢false}
@@ -30,17 +30,19 @@ each-true none j h = absurd (omega arith)
 each-true (e and a) zero h = e
 each-true (e and a) (suc j) h = each-true a j (omega arith)
 
--- ---- a stream of the second plan: conditions 11 to 15 of its row
+-- ---- a stream of the second plan: conditions 11 to 16 of its row
 module _ (old : Plan) (s : Stream) where
   in-row : (f : Found) → stands s f ≡ true
       → holds (λ a b. leb (a .period) (b .period)) old s f ≡ true
       → holds (λ a b. leb (b .jitter) (a .jitter)) old s f ≡ true
       → holds (λ a b. leb (b .payload) (a .payload)) old s f ≡ true
       → holds (λ a b. leb (a .deadline) (b .deadline)) old s f ≡ true
+      → holds (λ a b. leb (b .acknowledgement) (a .acknowledgement)) old s f ≡ true
       → inRow old s f ≡ Nothing
-  in-row (Found·At r) e t j c d =
-      eased-nothing (at old r) s (record { period = leb-true _ _ t; deadline = leb-true _ _ d; jitter = leb-true _ _ j; payload = leb-true _ _ c })
-  in-row Found·Nothing e t j c d = absurd (true≢false (sym e))
+  in-row (Found·At r) e t j c d k =
+      eased-nothing (at old r) s
+      (record { period = leb-true _ _ t; deadline = leb-true _ _ d; jitter = leb-true _ _ j; payload = leb-true _ _ c; acknowledgement = leb-true _ _ k })
+  in-row Found·Nothing e t j c d k = absurd (true≢false (sym e))
 
   -- and back
   it-stands : (f : Found) → inRow old s f ≡ Nothing → stands s f ≡ true
@@ -84,9 +86,10 @@ module _ (old new : Plan) where
             (every-each _ _ (h 12 (omega arith)) k l)
             (every-each _ _ (h 13 (omega arith)) k l)
             (every-each _ _ (h 14 (omega arith)) k l)
-            (every-each _ _ (h 15 (omega arith)) k l);
-        order = λ k l. must-true _ _ (every-each _ _ (h 16 (omega arith)) k l);
-        gaps = λ k l. must-true _ _ (every-each _ _ (h 17 (omega arith)) k l);
+            (every-each _ _ (h 15 (omega arith)) k l)
+            (every-each _ _ (h 16 (omega arith)) k l);
+        order = λ k l. must-true _ _ (every-each _ _ (h 17 (omega arith)) k l);
+        gaps = λ k l. must-true _ _ (every-each _ _ (h 18 (omega arith)) k l);
       }
 
   -- and back
@@ -114,6 +117,7 @@ module _ (old new : Plan) where
       and each-holds u (λ a b. leb (b .jitter) (a .jitter)) (λ a b e. le-leb _ _ (e .jitter))
       and each-holds u (λ a b. leb (b .payload) (a .payload)) (λ a b e. le-leb _ _ (e .payload))
       and each-holds u (λ a b. leb (a .deadline) (b .deadline)) (λ a b e. le-leb _ _ (e .deadline))
+      and each-holds u (λ a b. leb (b .acknowledgement) (a .acknowledgement)) (λ a b e. le-leb _ _ (e .acknowledgement))
       and every-all _ _ (λ k l. must-nothing _ _ (u .order k l))
       and every-all _ _ (λ k l. must-nothing _ _ (u .gaps k l))
       and none)

@@ -1,4 +1,4 @@
--- None of the 18 conditions of the lighter plan is idle: a table with two plans for each, `old` and `new`, that break this condition alone,
+-- None of the 19 conditions of the lighter plan is idle: a table with two plans for each, `old` and `new`, that break this condition alone,
 -- and a stream loses its promise. Proved in proofs/Needed.antt. That the conditions are the rule is proved in proofs/Rule.antt.
 use mathlib.Core.Path.{_≡_}
 use mathlib.Core.Bool.{Bool, true, false, not, Bool·beq}
@@ -17,7 +17,7 @@ use Rattle.plan.specs.Rules.{hasMaster}
 use Rattle.promise.specs.Lighter.{Namesakes, Lighter, NotRefused, Kept}
 use Rattle.compare.specs.declared.Change.the-variants.{Nothing}
 use Rattle.compare.specs.Changes.{rowOf, overtakes, atMost, changes}
-use Rattle.figures.specs.Plans.{timed, constants, pulsing, stream, plan, base}
+use Rattle.figures.specs.Plans.{timed, constants, pulsing, acknowledged, stream, plan, base}
 
 -- ---- the conditions
 
@@ -52,20 +52,21 @@ conditions old new =
     ∷ leb (new .timing .p) (old .timing .p)
     -- 11: each label stands in the first plan
     ∷ eachBeside stands old new
-    -- 12 to 15, where it does: the period is no shorter, jitter and payload no longer, the deadline no shorter
+    -- 12 to 16, where it does: the period is no shorter, jitter and payload no longer, the deadline no shorter, the acknowledgement no longer
     ∷ eachBeside (holds (λ a b. leb (a .period) (b .period)) old) old new
     ∷ eachBeside (holds (λ a b. leb (b .jitter) (a .jitter)) old) old new
     ∷ eachBeside (holds (λ a b. leb (b .payload) (a .payload)) old) old new
     ∷ eachBeside (holds (λ a b. leb (a .deadline) (b .deadline)) old) old new
-    -- 16: no row overtakes another
+    ∷ eachBeside (holds (λ a b. leb (b .acknowledgement) (a .acknowledgement)) old) old new
+    -- 17: no row overtakes another
     ∷ every (length (new .streams)) (λ k. not (some (overtakes old new k) (length (new .streams))))
-    -- 17: each noise source has its own partner
+    -- 18: each noise source has its own partner
     ∷ every (length (new .gaps)) (λ k. leb (atMost (getD (new .gaps) k 0) (new .gaps)) (atMost (getD (new .gaps) k 0) (old .gaps)))
     ∷ []
 
 -- how many there are
 abbrev pub howMany : ℕ
-howMany = 18
+howMany = 19
 
 -- ---- the pairs
 
@@ -126,6 +127,8 @@ allPairs =
     ∷ (oneUnder base becomes plan base (stream 10 1 1 100 0 6 25 ∷ []) [])
     -- D of 10.1 falls from 25 to 24: its bound is still 25
     ∷ (oneUnder base becomes plan base (stream 10 1 1 100 0 5 24 ∷ []) [])
+    -- K of 10.1 grows from 0 to 1: its bound grows from 25 to 26, past its deadline of 25
+    ∷ (oneUnder base becomes plan base (acknowledged 1 10 1 1 100 0 5 25 ∷ []) [])
     -- 10.1 and 10.10 swap their priorities: the bound of 10.1 grows from 41 to 50, past its deadline of 41
     ∷ (two 100 0 41 becomes plan base (stream 10 1 2 100 0 5 41 ∷ stream 10 10 1 200 0 5 50 ∷ []) [])
     -- a second noise source would have to share the partner of the first: the bound of 10.1 grows from 50 to 75, past its deadline of 50
@@ -137,7 +140,7 @@ pair i = getD allPairs i (oneUnder base becomes oneUnder base)
 
 -- ---- the claims
 
--- the 18 conditions are the rule: all hold exactly if the test of two plans finds no change
+-- the 19 conditions are the rule: all hold exactly if the test of two plans finds no change
 abbrev pub AllHoldExactly : Type 0
 AllHoldExactly = (old new : Plan) → ((j : ℕ) → j < howMany → getD (conditions old new) j false ≡ true) ↔ (changes old new ≡ Nothing)
 
@@ -160,15 +163,15 @@ EachNeeded =
     (i : ℕ) → i < howMany
     → NotRefused (pair i .old) × NotRefused (pair i .new) × Broken i (pair i .old) (pair i .new) × Lost (pair i .old) (pair i .new)
 
--- And they can all hold with something eased in each: constants smaller, T and D longer, J and C shorter, a stream fewer, rows in
--- another order, other priority numbers in the same order, gaps longer, fewer and in another order. The bound of 10.1 falls from 218
--- to 88, and that of 11.2 from 276 to 97.
+-- And they can all hold with something eased in each: constants smaller, T and D longer, J, C and K shorter, a stream fewer, rows in
+-- another order, other priority numbers in the same order, gaps longer, fewer and in another order. The bound of 10.1 falls from 234
+-- to 95, and that of 11.2 from 291 to 104.
 abbrev pub easier : Pair
 easier =
     plan (constants 5 2 2 3 2 2 3 2 5)
-    (stream 10 1 7 400 5 6 220 ∷ stream 10 10 13 600 10 7 300 ∷ stream 11 2 20 800 5 3 400 ∷ [])
+    (acknowledged 4 10 1 7 400 5 6 240 ∷ stream 10 10 13 600 10 7 300 ∷ acknowledged 2 11 2 20 800 5 3 400 ∷ [])
     (500 ∷ 900 ∷ 500 ∷ [])
-    becomes plan base (stream 11 2 5 900 0 2 450 ∷ stream 10 1 2 500 0 5 250 ∷ []) (950 ∷ 600 ∷ [])
+    becomes plan base (acknowledged 1 11 2 5 900 0 2 450 ∷ acknowledged 2 10 1 2 500 0 5 250 ∷ []) (950 ∷ 600 ∷ [])
 
 abbrev pub NotEmpty : Type 0
 NotEmpty = NotRefused (easier .old) × NotRefused (easier .new) × Lighter (easier .old) (easier .new)

@@ -9,10 +9,11 @@ use Rattle.names.specs.declared.Refusal.{Refusal}
 use Rattle.judge.specs.declared.Checked.{Checked, the-variants.Fine, the-variants.Refused}
 use Rattle.judge.specs.Table.{Line, judge, unless}
 use Rattle.plan.specs.declared.Stream.{Stream}
-use Rattle.carried.specs.Carried.{timingIn, planIn, editionOf}
+use Rattle.carried.specs.declared.Edition.the-variants.{Three}
+use Rattle.carried.specs.Carried.{timingIn, planIn}
 use Rattle.compare.specs.declared.Reason.{Reason}
 use Rattle.compare.specs.declared.Reason.the-variants.{MasterNode, GreaterConstant, NewLabel, ShorterPeriod, LongerJitter}
-use Rattle.compare.specs.declared.Reason.the-variants.{LongerPayload, ShorterDeadline, LessUrgent, MoreNoise}
+use Rattle.compare.specs.declared.Reason.the-variants.{LongerPayload, ShorterDeadline, LongerAcknowledgement, LessUrgent, MoreNoise}
 use Rattle.compare.specs.declared.Compared.{Compared}
 use Rattle.compare.specs.declared.Compared.the-variants.{FirstRefused, SecondRefused, Lighter, RunAgain}
 use Rattle.file.specs.declared.Written.{Written, the-variants.Bytes, the-variants.Refused as Written·Refused}
@@ -52,9 +53,9 @@ abbrev pub parting : Parting → Said
 parting (At k) = done k
 parting (Parting·Refused r) = refused r
 
--- the file of a plan's lent values, in the edition that their P asks for, and what the lent bytes end with
+-- the file of a plan's lent values, which have the places of edition 3, and what the lent bytes end with
 abbrev pub writeFrom : ℕ → ℕ → List ℕ → List ℕ → Written × List ℕ
-writeFrom n m values out = let p = planIn n m values in writeWith (editionOf p) n m p out
+writeFrom n m values out = writeWith Three n m (planIn n m values) out
 
 -- the answer words of lent streams, with the timing that the first ten words are and these noise gaps
 abbrev pub screenOf : List Stream → List ℕ → List ℕ → List ℕ → Checked × List ℕ
@@ -65,7 +66,7 @@ abbrev pub Screened : List Stream → List ℕ → List ℕ → List ℕ → Sai
 Screened xs ws gaps out said left = let o = screenOf xs ws gaps out in (said ≡ checked (o .0)) × (left ≡ o .1)
 
 -- run again: the conditions of the lighter plan, each with its number and with what breaks it, the constant from 0 in file order, the
--- label, or the gap. 1 to 8 are numbered in the order in which they are looked at; 9, which came later, is looked at before them
+-- label, or the gap. 1 to 8 are numbered in the order in which they are looked at; 9, which came later, is looked at before them, and 10 after 6
 abbrev pub broken : ℕ → ℕ → Weighed
 broken condition value = record { answer = 3; number = condition; value = value }
 
@@ -77,6 +78,7 @@ again (ShorterPeriod l) = broken 3 (l .0)
 again (LongerJitter l) = broken 4 (l .0)
 again (LongerPayload l) = broken 5 (l .0)
 again (ShorterDeadline l) = broken 6 (l .0)
+again (LongerAcknowledgement l) = broken 10 (l .0)
 again (LessUrgent l) = broken 7 (l .0)
 again (MoreNoise x) = broken 8 x
 

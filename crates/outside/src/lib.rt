@@ -11,8 +11,7 @@ ghost use Rattle.rewriter.specs.Rewriter.{rewriteOf};
 ghost use Rattle.outside.specs.Outside as number;
 ghost use Rattle.outside.specs.Outside.{Screened};
 use answer_files::answer_file;
-use carried::TIMING;
-use carried::edition_for;
+use carried::Edition;
 use carried::timing_from;
 use carried::words_from;
 use compare::Compared;
@@ -108,22 +107,21 @@ pub extern "C" fn livnakesh_rewrite(file: &[u8], out: &mut [u8]) -> Said
     }
 }
 
-// The file of n streams and m noise gaps whose values are lent as plain words, ten of the timing first, written into lent bytes. P, the
-// tenth, decides the edition.
+// The file of n streams and m noise gaps whose values are lent as plain words, ten of the timing and then seven a stream, written into
+// lent bytes.
 #[no_mangle]
 pub extern "C" fn livnakesh_write(n: usize, m: usize, values: &[u32], out: &mut [u8]) -> Said
     ensures { λ s. ⌜ s ≡ number.written (number.writeFrom n m (now (values .entry)) (now (out .entry)) .0) ⌝ }
     ensures { λ _. ⌜ now (out .exit) ≡ number.writeFrom n m (now (values .entry)) (now (out .entry)) .1 ⌝ }
 {
     let placed = words_from(values);
-    let edition = edition_for(placed[TIMING - 1]);
-    match write_words(edition, &placed, n, m, out) {
+    match write_words(Edition::Three, &placed, n, m, out) {
         Written::Bytes(bytes) => done(bytes as u64),
         Written::Refused(r) => refused(r),
     }
 }
 
-// The answer words of lent streams, each of them its six words in file order, under a timing of ten words and these noise gaps.
+// The answer words of lent streams, each of them its seven words in file order, under a timing of ten words and these noise gaps.
 #[no_mangle]
 pub extern "C" fn livnakesh_screen(
     streams: &[Stream],
@@ -174,6 +172,7 @@ fn again(reason: Reason) -> Weighed
         Reason::LongerJitter(l) => by_label(4, l),
         Reason::LongerPayload(l) => by_label(5, l),
         Reason::ShorterDeadline(l) => by_label(6, l),
+        Reason::LongerAcknowledgement(l) => by_label(10, l),
         Reason::LessUrgent(l) => by_label(7, l),
         Reason::MoreNoise(x) => broken(8, x as u64),
     }

@@ -42,14 +42,14 @@ fn both(file: &[u8]) {
 }
 
 fn of_p1() {
-    let file = p1_file(152, 0, 152, 0);
+    let file = p1_file(168, 0, 168, 0);
     let mut room = [7; 11];
     answers(&file, &mut room);
     let mut too_few = [7; 8];
     answers(&file, &mut too_few);
-    let mut enough = [7; 160];
+    let mut enough = [7; 176];
     rewrite(&file, &mut enough);
-    let mut too_short = [7; 151];
+    let mut too_short = [7; 167];
     rewrite(&file, &mut too_short);
 }
 
@@ -87,7 +87,7 @@ fn changed(at: usize, byte: u8, also: usize, other: u8) {
     number(byte as u64);
     number(also as u64);
     number(other as u64);
-    let p1 = p1_file(152, 0, 152, 0);
+    let p1 = p1_file(168, 0, 168, 0);
     let new = p1_file(at, byte, also, other);
     lighter(&p1, &new);
     both(&new);
@@ -107,7 +107,7 @@ fn in_slots(at: usize, byte: u8) {
     print(b"slots with");
     number(at as u64);
     number(byte as u64);
-    let old = slots_file(156, 0);
+    let old = slots_file(168, 0);
     let new = slots_file(at, byte);
     lighter(&old, &new);
     let mut enough = [7; 9];
@@ -115,20 +115,20 @@ fn in_slots(at: usize, byte: u8) {
 }
 
 fn compared() {
-    let p1 = p1_file(152, 0, 152, 0);
+    let p1 = p1_file(168, 0, 168, 0);
     let p2 = p2_file();
     print(b"P1, P2");
     lighter(&p1, &p2);
     print(b"P2, P1");
     lighter(&p2, &p1);
-    let slots = slots_file(156, 0);
+    let slots = slots_file(168, 0);
     print(b"P1, slots");
     lighter(&p1, &slots);
     print(b"slots, P1");
     lighter(&slots, &p1);
-    let p11 = p1_file(96, 0, 152, 0);
+    let p11 = p1_file(100, 0, 168, 0);
     print(b"P11, P8");
-    let p8 = p1_file(108, 1, 152, 0);
+    let p8 = p1_file(116, 1, 168, 0);
     lighter(&p11, &p8);
 }
 
@@ -136,24 +136,28 @@ pub(crate) fn cases() {
     of_p1();
     of_others();
     lengths();
-    changed(44, 5, 152, 0);
-    changed(80, 2, 152, 0);
-    changed(88, 99, 152, 0);
-    changed(92, 1, 152, 0);
-    changed(96, 6, 152, 0);
-    changed(100, 59, 152, 0);
-    changed(100, 61, 152, 0);
-    changed(84, 2, 108, 1);
-    changed(96, 0, 152, 0);
-    changed(108, 1, 152, 0);
-    changed(108, 1, 104, 1);
-    changed(104, 1, 152, 0);
-    changed(148, 0, 149, 0);
+    changed(44, 5, 168, 0);
+    changed(84, 2, 168, 0);
+    changed(92, 99, 168, 0);
+    changed(96, 1, 168, 0);
+    changed(100, 6, 168, 0);
+    changed(104, 59, 168, 0);
+    changed(104, 61, 168, 0);
+    changed(108, 1, 168, 0);
+    changed(110, 1, 168, 0);
+    changed(88, 2, 116, 1);
+    changed(100, 0, 168, 0);
+    changed(116, 1, 168, 0);
+    changed(116, 1, 112, 1);
+    changed(112, 1, 168, 0);
+    changed(160, 0, 161, 0);
     compared();
     in_slots(80, 20);
     in_slots(80, 19);
     in_slots(80, 31);
     in_slots(80, 0);
+    in_slots(136, 10);
+    in_slots(136, 11);
     in_slots(100, 0);
-    in_slots(0, 3);
+    in_slots(0, 2);
 }

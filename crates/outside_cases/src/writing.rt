@@ -6,7 +6,7 @@ use shown::bytes;
 use shown::number;
 
 // The words of P2, which are those of P1 and a gap, with another word in one place. Word 9 is P, and 0 here.
-fn values(at: usize, word: u32) -> [u32; 29] {
+fn values(at: usize, word: u32) -> [u32; 32] {
     let mut words = [
         4,
         1,
@@ -24,21 +24,24 @@ fn values(at: usize, word: u32) -> [u32; 29] {
         0,
         5,
         60,
+        0,
         655370,
         2,
         150,
         10,
         7,
         120,
+        0,
         720898,
         3,
         400,
         0,
         2,
         200,
+        0,
         1000,
     ];
-    if at < 29 {
+    if at < 32 {
         words[at] = word;
     }
     words
@@ -60,81 +63,102 @@ fn write(n: usize, m: usize, at: usize, word: u32, lent: &mut [u8]) {
 
 // P1 and P2 whole, with less than their bytes, and in no byte; the first stream of P1 alone.
 fn room() {
-    let mut long = [7; 160];
-    write(3, 1, 29, 0, &mut long);
-    let mut enough = [7; 152];
-    write(3, 0, 29, 0, &mut enough);
-    let mut short = [7; 151];
-    write(3, 0, 29, 0, &mut short);
-    let mut one = [7; 104];
-    write(1, 0, 29, 0, &mut one);
+    let mut long = [7; 176];
+    write(3, 1, 32, 0, &mut long);
+    let mut enough = [7; 168];
+    write(3, 0, 32, 0, &mut enough);
+    let mut short = [7; 167];
+    write(3, 0, 32, 0, &mut short);
+    let mut one = [7; 112];
+    write(1, 0, 32, 0, &mut one);
 }
 
-// Wrong counts, a payload and a period of 0, one priority and one label twice: a buffer that is too small comes last.
+// Wrong counts, a payload and a period of 0, an acknowledgement at its limit and past it, one priority and one label twice: a buffer that is
+// too small comes last.
 fn wrong() {
     let mut few = [7; 10];
-    write(0, 0, 29, 0, &mut few);
-    write(65, 0, 29, 0, &mut few);
-    write(3, 9, 29, 0, &mut few);
+    write(0, 0, 32, 0, &mut few);
+    write(65, 0, 32, 0, &mut few);
+    write(3, 9, 32, 0, &mut few);
     write(3, 1, 14, 0, &mut few);
     write(3, 1, 12, 0, &mut few);
-    write(3, 1, 17, 1, &mut few);
-    write(3, 1, 16, 655361, &mut few);
+    write(3, 1, 30, 65535, &mut few);
+    write(3, 1, 30, 65536, &mut few);
+    write(3, 1, 18, 1, &mut few);
+    write(3, 1, 17, 655361, &mut few);
 }
 
 // P1 in slots of 30 ticks, whole and with a byte too few; slots that are too short for 10.10, and a P past its limit.
 fn slots() {
-    let mut enough = [7; 156];
+    let mut enough = [7; 168];
     write(3, 0, 9, 30, &mut enough);
-    let mut short = [7; 155];
+    let mut short = [7; 167];
     write(3, 0, 9, 30, &mut short);
     write(3, 0, 9, 20, &mut short);
     write(3, 0, 9, 19, &mut short);
     write(3, 0, 9, 5000001, &mut short);
 }
 
-// A gap that is not lent is 0.
+// An acknowledgement and a gap that are not lent are 0.
 fn not_lent() {
     let words = [4, 1, 1, 2, 1, 1, 2, 1, 4, 0, 655361, 1, 100, 0, 5, 60];
     let mut few = [7; 10];
     let said = livnakesh_write(1, 1, &words, &mut few);
-    print(b"write 1 1 without the gap");
+    print(b"write 1 1 without the acknowledgement and the gap");
     answer(said.refusal, said.value);
     bytes(&few);
 }
 
-pub(crate) fn p2_file() -> [u8; 156] {
-    let mut file = [7; 156];
-    let words = values(29, 0);
+pub(crate) fn p2_file() -> [u8; 172] {
+    let mut file = [7; 172];
+    let words = values(32, 0);
     livnakesh_write(3, 1, &words, &mut file);
     file
 }
 
 // The file of P1 with other bytes in two places; a place past its end changes nothing.
-pub(crate) fn p1_file(at: usize, byte: u8, also: usize, other: u8) -> [u8; 152] {
-    let mut file = [7; 152];
-    let words = values(29, 0);
+pub(crate) fn p1_file(at: usize, byte: u8, also: usize, other: u8) -> [u8; 168] {
+    let mut file = [7; 168];
+    let words = values(32, 0);
     livnakesh_write(3, 0, &words, &mut file);
-    if at < 152 {
+    if at < 168 {
         file[at] = byte;
     }
-    if also < 152 {
+    if also < 168 {
         file[also] = other;
     }
     file
 }
 
 // The file of one stream: P3 has a period of 25, and P4 one of 24.
-pub(crate) fn one_file(period: u32) -> [u8; 104] {
-    let mut file = [7; 104];
-    let words = [4, 1, 1, 2, 1, 1, 2, 1, 4, 0, 655361, 1, period, 0, 5, 1000];
+pub(crate) fn one_file(period: u32) -> [u8; 112] {
+    let mut file = [7; 112];
+    let words = [
+        4,
+        1,
+        1,
+        2,
+        1,
+        1,
+        2,
+        1,
+        4,
+        0,
+        655361,
+        1,
+        period,
+        0,
+        5,
+        1000,
+        0,
+    ];
     livnakesh_write(1, 0, &words, &mut file);
     file
 }
 
 // The file of P7, whose last stream is latest at its second instance.
-pub(crate) fn p7_file() -> [u8; 152] {
-    let mut file = [7; 152];
+pub(crate) fn p7_file() -> [u8; 168] {
+    let mut file = [7; 168];
     let words = [
         0,
         0,
@@ -152,29 +176,32 @@ pub(crate) fn p7_file() -> [u8; 152] {
         0,
         10,
         1000,
+        0,
         655362,
         2,
         35,
         0,
         10,
         1000,
+        0,
         655363,
         3,
         35,
         0,
         10,
         1000,
+        0,
     ];
     livnakesh_write(3, 0, &words, &mut file);
     file
 }
 
 // The file of P1 in slots of 30 ticks with another byte in one place.
-pub(crate) fn slots_file(at: usize, byte: u8) -> [u8; 156] {
-    let mut file = [7; 156];
+pub(crate) fn slots_file(at: usize, byte: u8) -> [u8; 168] {
+    let mut file = [7; 168];
     let words = values(9, 30);
     livnakesh_write(3, 0, &words, &mut file);
-    if at < 156 {
+    if at < 168 {
         file[at] = byte;
     }
     file

@@ -2,7 +2,7 @@
 use mathlib.Core.List.{List}
 use Prim.Native.Nat.{ℕ, _^_, _≤_, _<_}
 use lib.ListN.{length, take, getD}
-use Rattle.names.specs.Limits.{streams, sources, constant, payload, bits, slot, ticks}
+use Rattle.names.specs.Limits.{streams, sources, constant, payload, acknowledgement, bits, slot, ticks}
 use Rattle.plan.specs.declared.Timing.{Timing}
 use Rattle.plan.specs.declared.Stream.{Stream}
 use Rattle.plan.specs.declared.Sheet.{Sheet}
@@ -26,6 +26,7 @@ blank =
       jitter = 0;
       payload = 0;
       deadline = 0;
+      acknowledgement = 0;
     }
 
 -- the stream in row k
@@ -46,7 +47,7 @@ pub record TimingWithin (t : Timing) : Type 0 where
   pub nb : t .nb ≤ bits
   pub p : t .p ≤ slot
 
--- the priority is 0 to 2^NB - 1, T and D are 1 to 4,294,967,295, J is 0 to that, C is 1 to 65,535; every word is a label
+-- the priority is 0 to 2^NB - 1, T and D are 1 to 4,294,967,295, J is 0 to that, C is 1 to 65,535, K is 0 to that; every word is a label
 pub record StreamWithin (nb : ℕ) (s : Stream) : Type 0 where
   pub priority : s .priority .0 < 2 ^ nb
   pub some-period : 1 ≤ s .period
@@ -56,6 +57,7 @@ pub record StreamWithin (nb : ℕ) (s : Stream) : Type 0 where
   pub payload : s .payload ≤ payload
   pub some-deadline : 1 ≤ s .deadline
   pub deadline : s .deadline ≤ ticks
+  pub acknowledgement : s .acknowledgement ≤ acknowledgement
 
 -- a gap is 1 to 4,294,967,295
 pub record GapWithin (n : ℕ) : Type 0 where

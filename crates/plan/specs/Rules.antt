@@ -1,5 +1,6 @@
--- Document 01, "The rules of the bound", from V to B, with what a master node changes (document 02, request 01), and the terms that the
--- rest of the rules takes of a plan p for its stream i. The rules from E on are in the crate bound, specs/Bound.antt.
+-- Document 01, "The rules of the bound", from V to B, with what a master node changes (document 02, request 01) and with acknowledgements
+-- (request 05), and the terms that the rest of the rules takes of a plan p for its stream i. The rules from E on are in the crate bound,
+-- specs/Bound.antt.
 use mathlib.Core.Bool.{Bool, cond, _&&_}
 use mathlib.Core.List.{List, _∷_, map}
 use Prim.Native.Nat.{ℕ, _+_, _-_, _*_, max, _≤_}
@@ -24,9 +25,9 @@ abbrev pub «V» : Timing → ℕ
 abbrev pub U : Timing → ℕ
 U t = t .g + (t .h + t .g) * t .nb + t .etg + t .lag
 
--- C' = C + U
+-- C' = C + K + U
 abbrev pub C′ : Timing → Stream → ℕ
-C′ t j = j .payload + U t
+C′ t j = j .payload + j .acknowledgement + U t
 
 -- C'' = V + C', and in a slot C' + H
 abbrev pub lead : Timing → ℕ

@@ -21,7 +21,7 @@ pub struct Timing {
     pub p: u32,
 }
 
-// A stream's six words, in the file's order: label, priority, T, J, C, D. In C's layout, since other languages lend lists of it.
+// A stream's seven words, in the file's order: label, priority, T, J, C, D, K. In C's layout, since other languages lend lists of it.
 #[repr(C)]
 pub struct Stream {
     pub label: Label,
@@ -30,6 +30,7 @@ pub struct Stream {
     pub jitter: u32,
     pub payload: u32,
     pub deadline: u32,
+    pub acknowledgement: u32,
 }
 
 // A plan's values in places of fixed number: the first `count` streams and the first `sources` gaps are the plan.

@@ -36,7 +36,7 @@ no-greater-than-itself t =
     }
 
 eased-as-itself : (s : Stream) → Eased s s
-eased-as-itself s = record { period = le-refl _; deadline = le-refl _; jitter = le-refl _; payload = le-refl _ }
+eased-as-itself s = record { period = le-refl _; deadline = le-refl _; jitter = le-refl _; payload = le-refl _; acknowledgement = le-refl _ }
 
 pub fewer-lighter : (old new : Plan) → Fewer old new → Lighter old new
 fewer-lighter old new f =

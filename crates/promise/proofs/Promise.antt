@@ -78,7 +78,7 @@ module _ (old new : Timing) (kit : SameKit old new) (n : NoGreater old new) wher
   late-le = either-le old new kit (V-le old new n) (le-refl 0)
 
   C′-le : (x y : Stream) → Partner x y → rule.C′ new x ≤ rule.C′ old y
-  C′-le x y p = omega (arith, p .eased .payload, U-le old new n)
+  C′-le x y p = omega (arith, p .eased .payload, p .eased .acknowledgement, U-le old new n)
 
   C″-le : (x y : Stream) → Partner x y → rule.C″ new x ≤ rule.C″ old y
   C″-le x y p = omega (arith, C′-le x y p, either-le old new kit (V-le old new n) (n .h))

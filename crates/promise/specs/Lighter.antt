@@ -19,7 +19,7 @@ use Rattle.checks.specs.Checks.{Right}
 abbrev pub Namesakes : Stream → Stream → Type 0
 Namesakes a b = a .label .0 ≡ b .label .0
 
--- both plans have a master node, or neither has: they are of one edition
+-- both plans have a master node, or neither has, whatever the editions of their files
 abbrev pub SameKit : Timing → Timing → Type 0
 SameKit old new = (old .p ≡ 0) ↔ (new .p ≡ 0)
 
@@ -36,12 +36,13 @@ pub record NoGreater (old new : Timing) : Type 0 where
   pub nb : new .nb ≤ old .nb
   pub p : new .p ≤ old .p
 
--- period and deadline are no shorter, jitter and payload no longer
+-- period and deadline are no shorter, jitter, payload and acknowledgement no longer
 pub record Eased (old new : Stream) : Type 0 where
   pub period : old .period ≤ new .period
   pub deadline : old .deadline ≤ new .deadline
   pub jitter : new .jitter ≤ old .jitter
   pub payload : new .payload ≤ old .payload
+  pub acknowledgement : new .acknowledgement ≤ old .acknowledgement
 
 -- row k of the second plan stands in row r of the first
 pub record Stands (old new : Plan) (k r : ℕ) : Type 0 where

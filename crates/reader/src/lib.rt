@@ -9,8 +9,10 @@ use carried::Edition;
 use carried::STREAM;
 use carried::TIMING;
 use carried::WORD;
+use carried::has_word;
+use carried::in_bodies;
 use carried::sheet_in;
-use carried::timing_body;
+use carried::stream_body;
 use checks::check_counts;
 use checks::check_words;
 use file::Counts;
@@ -24,13 +26,14 @@ use names::STREAMS;
 use words::word_at;
 use words::words_into;
 ghost use mathlib.Core.Path.{_≡_};
-ghost use Prim.Native.Nat.{_≤_};
-ghost use lib.ListN.{length, take, drop};
+ghost use mathlib.Core.Bool.{cond};
+ghost use Prim.Native.Nat.{_+_, _≤_, _<_};
+ghost use lib.ListN.{length, getD, take};
 ghost use Rattle.names.specs.Limits as limit;
 ghost use Rattle.words.specs.Words.{wordsOf, laidOnto};
 ghost use Rattle.judge.specs.declared.Checked.the-variants.{Refused as CheckedRefused};
 ghost use Rattle.carried.specs.Layout as layout;
-ghost use Rattle.carried.specs.Carried.{noSheet};
+ghost use Rattle.carried.specs.Carried.{valuesOf, noSheet};
 ghost use Rattle.file.specs.declared.Counts.the-variants.{Refused as CountsRefused};
 ghost use Rattle.file.specs.File as spec;
 
@@ -39,19 +42,18 @@ const STREAMS_LENGTH: usize = 7;
 
 const NOISE_LENGTH: usize = 10;
 
-// The timing's word that has P.
-const SLOT: usize = TIMING - 1;
-
-// The edition that a file says it has. One that says neither is refused by its contents, which differ from edition 1's.
+// The edition that a file says it has. One that says none of the three is refused by its contents, which differ from edition 1's.
 fn edition_in(bytes: &[u8]) -> Edition
     ensures { λ r. ⌜ r ≡ spec.editionIn (wordsOf (now (bytes .entry))) ⌝ }
 {
-    let two = 2;
-    if word_at(bytes, 0) == two {
-        Edition::Two
-    } else {
-        Edition::One
+    let said = word_at(bytes, 0);
+    if said == 3 {
+        return Edition::Three;
     }
+    if said == 2 {
+        return Edition::Two;
+    }
+    Edition::One
 }
 
 // Whether the eleven contents words are those of a file of n streams and m noise sources.
@@ -85,11 +87,11 @@ fn counts(bytes: &[u8]) -> Counts
     if length < WORD * CONTENTS {
         return refused_counts(1);
     }
-    if size(Edition::Two, STREAMS as u16, SOURCES as u16) < length {
+    if size(Edition::Three, STREAMS as u16, SOURCES as u16) < length {
         return refused_counts(1);
     }
     let edition = edition_in(bytes);
-    let n = word_at(bytes, STREAMS_LENGTH) as usize / (WORD * STREAM);
+    let n = word_at(bytes, STREAMS_LENGTH) as usize / (WORD * stream_body(edition));
     let m = word_at(bytes, NOISE_LENGTH) as usize / WORD;
     match check_counts(n, m) {
         Checked::Refused(r) => return Counts::Refused(r),
@@ -104,31 +106,47 @@ fn counts(bytes: &[u8]) -> Counts
     Counts::Of(edition, n, m)
 }
 
-// P, which edition 1 has no word for.
-fn slot_in(bytes: &[u8], edition: Edition) -> u32
-    ensures { λ r. ⌜ r ≡ spec.slotIn edition (drop layout.contentsLength (wordsOf (now (bytes .entry)))) ⌝ }
+// Word k of those that are carried of a file of n streams: 0 where its edition has no word for it.
+fn carried_word(bytes: &[u8], edition: Edition, n: usize, k: usize) -> u32
+    requires { ⌜ k < layout.largest ⌝ }
+    ensures { λ r. ⌜ r ≡ cond (layout.hasWord edition n k) (getD (wordsOf (now (bytes .entry))) (layout.contentsLength + layout.inBodies edition n k) 0) 0 ⌝ }
 {
-    match edition {
-        Edition::One => 0,
-        Edition::Two => word_at(bytes, CONTENTS + SLOT),
+    if has_word(edition, n, k) {
+        word_at(bytes, CONTENTS + in_bodies(edition, n, k))
+    } else {
+        0
     }
 }
 
-// The words of a file's bodies, at the front of those that are lent. First all words are laid so that the streams come to their place,
-// ten words on, whether the file has P before them or not; then F to NB and P are laid over what came before.
-fn lay_bodies(bytes: &[u8], edition: Edition, words: &mut [u32; CARRIED])
-    requires { ⌜ layout.byteOf (layout.timingBody edition) ≤ length (now bytes) ⌝ }
-    requires { ⌜ length (now bytes) ≤ layout.size edition limit.streams limit.sources ⌝ }
-    ensures { λ _. ⌜ now (words .exit) ≡ laidOnto (spec.bodiesIn edition (now (bytes .entry))) (now (words .entry)) ⌝ }
+// The words of the plan in an older file, at the front of those that are lent, one by one.
+fn lay_older(bytes: &[u8], edition: Edition, n: usize, m: usize, words: &mut [u32])
+    requires { ⌜ n ≤ limit.streams ⌝ }
+    requires { ⌜ m ≤ limit.sources ⌝ }
+    requires { ⌜ length (now words) ≡ layout.largest ⌝ }
+    ensures { λ _. ⌜ now (words .exit) ≡ laidOnto (valuesOf (spec.planAt edition n m (now (bytes .entry)))) (now (words .entry)) ⌝ }
 {
-    let first = CONTENTS + timing_body(edition) - TIMING;
-    words_into(&bytes[WORD * first..], words);
-    words_into(&bytes[WORD * CONTENTS..WORD * (CONTENTS + SLOT)], words);
-    words[SLOT] = slot_in(bytes, edition);
+    let count = TIMING + STREAM * n + m;
+    for k in 0..count {
+        words[k] = carried_word(bytes, edition, n, k);
+    }
 }
 
-// What is carried of a file: its edition and its counts, and in the lent words those of its bodies; or the refusal of its contents, and
-// the words as they were.
+// The words of a file's plan, at the front of those that are lent. In edition 3 they are those of its bodies, as they stand.
+fn lay_bodies(bytes: &[u8], edition: Edition, n: usize, m: usize, words: &mut [u32; CARRIED])
+    requires { ⌜ n ≤ limit.streams ⌝ }
+    requires { ⌜ m ≤ limit.sources ⌝ }
+    requires { ⌜ length (now bytes) ≡ layout.size edition n m ⌝ }
+    ensures { λ _. ⌜ now (words .exit) ≡ laidOnto (valuesOf (spec.planAt edition n m (now (bytes .entry)))) (now (words .entry)) ⌝ }
+{
+    match edition {
+        Edition::One => lay_older(bytes, edition, n, m, words),
+        Edition::Two => lay_older(bytes, edition, n, m, words),
+        Edition::Three => words_into(&bytes[WORD * CONTENTS..], words),
+    }
+}
+
+// What is carried of a file: its edition and its counts, and in the lent words those of its plan; or the refusal of its contents, and the
+// words as they were.
 pub fn carry(bytes: &[u8], words: &mut [u32; CARRIED]) -> Counts
     ensures { λ r. ⌜ r ≡ spec.countsOf (now (bytes .entry)) ⌝ }
     ensures { λ _. ⌜ now (words .exit) ≡ spec.carriedOf (now (bytes .entry)) (now (words .entry)) ⌝ }
@@ -136,7 +154,7 @@ pub fn carry(bytes: &[u8], words: &mut [u32; CARRIED]) -> Counts
     let found = counts(bytes);
     match found {
         Counts::Refused(_) => {}
-        Counts::Of(edition, _, _) => lay_bodies(bytes, edition, words),
+        Counts::Of(edition, n, m) => lay_bodies(bytes, edition, n, m, words),
     }
     found
 }

@@ -1,7 +1,8 @@
-// Reads a plan file from standard input and writes the plan in it to standard output, or the one line of its refusal.
+// Reads a plan file from standard input and writes the plan in it to standard output, as a file of edition 3, or the one line of its refusal.
 //
-// A thin program: the crate desk fixes each byte that is printed. What comes out is byte for byte what went in (SameFile, in desk's
-// claims), or a line of 43 bytes at most, which is never taken for a plan file, since that has 44 at least (LineIsNoPlan).
+// A thin program: the crate desk fixes each byte that is printed. What comes out is byte for byte what went in, if that has
+// edition 3 (SameFile, in desk's claims), means the same if it is older (SameMeaning), or is a line of 43 bytes at most, which is never taken
+// for a plan file, since that has 44 at least (LineIsNoPlan).
 // A file longer than the buffer is longer than any plan file, and so is the part of it that is shown to the desk.
 use console::Input;
 use console::first;

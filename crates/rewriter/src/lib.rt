@@ -10,7 +10,8 @@ use writer::write_words;
 ghost use mathlib.Core.Path.{_≡_};
 ghost use Rattle.rewriter.specs.Rewriter.{rewriteOf};
 
-// The plan in a file, written into lent bytes. The words of the file are written as they stand, in its edition, so that no sheet is made.
+// The plan in a file, written into lent bytes: its file of edition 3. The words that are carried are written as they stand, so that no sheet
+// is made.
 pub fn rewrite(file: &[u8], out: &mut [u8]) -> Written
     ensures { λ r. ⌜ r ≡ rewriteOf (now (file .entry)) (now (out .entry)) .0 ⌝ }
     ensures { λ _. ⌜ now (out .exit) ≡ rewriteOf (now (file .entry)) (now (out .entry)) .1 ⌝ }

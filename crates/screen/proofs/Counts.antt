@@ -4,7 +4,7 @@ use mathlib.Core.Bool.{false}
 use mathlib.Core.List.{[]}
 use lib.ListN.{length}
 use Rattle.plan.specs.Plan.{planOf}
-use Rattle.carried.specs.Carried.{editionOf}
+use Rattle.carried.specs.declared.Edition.the-variants.{Three}
 use Rattle.judge.specs.declared.Checked.the-variants.{Refused}
 use Rattle.checks.specs.Checks.{inRange, checkedOf}
 use Rattle.checks.proofs.Counts.{too-few, too-many, too-noisy, out-of-range}
@@ -19,5 +19,5 @@ wrong-counts xs t gaps out =
     let n = length xs in
     let m = length gaps in
     let two : inRange n m ≡ false → answerOf s out ≡ (Refused (record { number = 2; place = 0 }), out) =
-    (λ e. sheet-refused s out _ (out-of-range n m e (editionOf (planOf s)) (planOf s) [])) in
+    (λ e. sheet-refused s out _ (out-of-range n m e Three (planOf s) [])) in
     (λ h. two (too-few n m h), λ h. two (too-many n m h), λ h. two (too-noisy n m h))

@@ -20,6 +20,7 @@ fn stream(
     jitter: u32,
     payload: u32,
     deadline: u32,
+    acknowledgement: u32,
 ) -> Stream {
     Stream {
         label: Label(label),
@@ -28,14 +29,15 @@ fn stream(
         jitter,
         payload,
         deadline,
+        acknowledgement,
     }
 }
 
-// Those of P1, but for the first one's payload and the second one's label and priority.
-fn streams(payload: u32, label: u32, priority: u32) -> [Stream; 3] {
-    let first = stream(655361, 1, 100, 0, payload, 60);
-    let second = stream(label, priority, 150, 10, 7, 120);
-    let third = stream(720898, 3, 400, 0, 2, 200);
+// Those of P1, but for the first one's payload and the second one's label, priority and acknowledgement.
+fn streams(payload: u32, label: u32, priority: u32, acknowledgement: u32) -> [Stream; 3] {
+    let first = stream(655361, 1, 100, 0, payload, 60, 0);
+    let second = stream(label, priority, 150, 10, 7, 120, acknowledgement);
+    let third = stream(720898, 3, 400, 0, 2, 200, 0);
     [first, second, third]
 }
 
@@ -54,7 +56,7 @@ fn screen(streams: [Stream; 3], timing: &[u32], gaps: &[u32], out: &mut [u64]) {
 
 // P1 with words to spare and with too few, and P2.
 fn answered() {
-    let p1 = streams(5, 655370, 2);
+    let p1 = streams(5, 655370, 2, 0);
     let timing = [4, 1, 1, 2, 1, 1, 2, 1, 4];
     let gaps = [1000];
     let mut long = [7; 11];
@@ -67,7 +69,7 @@ fn answered() {
 
 // A timing without NB, which is then 0, one with P, and one with a word more; nine gaps.
 fn lengths() {
-    let p1 = streams(5, 655370, 2);
+    let p1 = streams(5, 655370, 2, 0);
     let timing = [4, 1, 1, 2, 1, 1, 2, 1, 4, 30, 9];
     let gaps = [1000; 9];
     let mut out = [7; 9];
@@ -77,12 +79,30 @@ fn lengths() {
     screen(p1, &timing, &gaps[..1], &mut out);
 }
 
+// P1 with an acknowledgement of the second.
+fn waiting(acknowledgement: u32) {
+    let timing = [4, 1, 1, 2, 1, 1, 2, 1, 4];
+    let gaps = [1000];
+    let mut out = [7; 9];
+    screen(
+        streams(5, 655370, 2, acknowledgement),
+        &timing,
+        &gaps[..0],
+        &mut out,
+    );
+}
+
 // P1 in slots of so many ticks, in too few words.
-fn slots(slot: u32, payload: u32) {
+fn slots(slot: u32, payload: u32, acknowledgement: u32) {
     let timing = [4, 1, 1, 2, 1, 1, 2, 1, 4, slot];
     let gaps = [1000];
     let mut out = [7; 2];
-    screen(streams(payload, 655370, 2), &timing, &gaps, &mut out);
+    screen(
+        streams(payload, 655370, 2, acknowledgement),
+        &timing,
+        &gaps,
+        &mut out,
+    );
 }
 
 // One stream that is wrong, in too few words, since 6 comes last.
@@ -90,7 +110,12 @@ fn wrong(payload: u32, label: u32, priority: u32) {
     let timing = [4, 1, 1, 2, 1, 1, 2, 1, 4];
     let gaps = [1000];
     let mut out = [7; 2];
-    screen(streams(payload, label, priority), &timing, &gaps, &mut out);
+    screen(
+        streams(payload, label, priority, 0),
+        &timing,
+        &gaps,
+        &mut out,
+    );
 }
 
 fn main() {
@@ -100,8 +125,11 @@ fn main() {
     wrong(5, 655370, 1);
     wrong(5, 655361, 1);
     wrong(5, 655361, 2);
-    slots(20, 5);
-    slots(19, 5);
-    slots(19, 0);
-    slots(5000001, 5);
+    waiting(2);
+    waiting(65536);
+    slots(20, 5, 0);
+    slots(20, 5, 1);
+    slots(19, 5, 0);
+    slots(19, 0, 0);
+    slots(5000001, 5, 0);
 }

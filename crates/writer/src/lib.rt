@@ -9,8 +9,6 @@ use carried::Edition;
 use carried::STREAM;
 use carried::TIMING;
 use carried::WORD;
-use carried::edition_for;
-use carried::timing_body;
 use carried::words_of;
 use checks::check_words;
 use file::Written;
@@ -26,32 +24,26 @@ ghost use Prim.Native.Nat.{_≤_};
 ghost use lib.ListN.{length, drop};
 ghost use Rattle.names.specs.Limits as limit;
 ghost use Rattle.carried.specs.Layout as layout;
-ghost use Rattle.carried.specs.Carried.{planIn, editionOf};
+ghost use Rattle.carried.specs.Carried.{planIn};
 ghost use Rattle.file.specs.File as spec;
 ghost use Rattle.file.specs.File.{fileOf};
 
-// The file of n streams and m gaps in the edition that its P asks for, where it has room. Its bodies are the words as they stand, but for P
-// in edition 1.
-fn put_file(buf: &mut [u8], edition: Edition, words: &[u32], n: usize, m: usize)
-    requires { ⌜ edition ≡ editionOf (planIn n m (now words)) ⌝ }
+// The file of n streams and m gaps, where it has room. It is of edition 3, and its bodies are the words as they stand.
+fn put_file(buf: &mut [u8], words: &[u32], n: usize, m: usize)
     requires { ⌜ length (now words) ≡ layout.largest ⌝ }
     requires { ⌜ n ≤ limit.streams ⌝ }
     requires { ⌜ m ≤ limit.sources ⌝ }
-    requires { ⌜ layout.size edition n m ≤ length (now buf) ⌝ }
-    ensures { λ _. ⌜ now (buf .exit) ≡ fileOf (planIn n m (now (words .entry))) ++ drop (layout.size edition n m) (now (buf .entry)) ⌝ }
+    requires { ⌜ layout.size Edition.Three n m ≤ length (now buf) ⌝ }
+    ensures { λ _. ⌜ now (buf .exit) ≡ fileOf (planIn n m (now (words .entry))) ++ drop (layout.size Edition.Three n m) (now (buf .entry)) ⌝ }
 {
-    let head = contents(edition, n as u16, m as u16);
-    let timing = timing_body(edition);
+    let head = contents(Edition::Three, n as u16, m as u16);
+    let bodies = TIMING + STREAM * n + m;
     put_words(buf, 0, &head);
-    put_words(buf, WORD * CONTENTS, &words[0..timing]);
-    put_words(
-        buf,
-        WORD * (CONTENTS + timing),
-        &words[TIMING..TIMING + (STREAM * n + m)],
-    );
+    put_words(buf, WORD * CONTENTS, &words[0..bodies]);
 }
 
-// The file of the plan of n streams and m gaps in the words, in an edition, at the buffer's start, or the first refusal that applies.
+// The file of the plan of n streams and m gaps in the words of a file of an edition, at the buffer's start, or the first refusal that applies.
+// Whatever that edition, the file that is written is of edition 3.
 pub fn write_words(
     edition: Edition,
     words: &[u32; CARRIED],
@@ -66,28 +58,22 @@ pub fn write_words(
         Checked::Refused(r) => return Written::Refused(r),
         Checked::Fine => {}
     }
-    let bytes = size(edition, n as u16, m as u16);
+    let bytes = size(Edition::Three, n as u16, m as u16);
     if buf.len() < bytes {
         return Written::Refused(Refusal {
             number: 6,
             place: 0,
         });
     }
-    put_file(buf, edition, words, n, m);
+    put_file(buf, words, n, m);
     Written::Bytes(bytes)
 }
 
-// The same of a sheet's values, in the edition that P asks for.
+// The same of a sheet's values, with the places of edition 3.
 pub fn write(sheet: Sheet, buf: &mut [u8]) -> Written
     ensures { λ r. ⌜ r ≡ spec.writeOf sheet (now (buf .entry)) .0 ⌝ }
     ensures { λ _. ⌜ now (buf .exit) ≡ spec.writeOf sheet (now (buf .entry)) .1 ⌝ }
 {
     let words = words_of(sheet);
-    write_words(
-        edition_for(sheet.timing.p),
-        &words,
-        sheet.count,
-        sheet.sources,
-        buf,
-    )
+    write_words(Edition::Three, &words, sheet.count, sheet.sources, buf)
 }

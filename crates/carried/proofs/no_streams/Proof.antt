@@ -1,4 +1,4 @@
--- A stream of six zeros is the blank one. Assumes nothing.
+-- A stream of seven zeros is the blank one. Assumes nothing.
 use mathlib.Core.Path.{ap}
 use borrow.Author.Needs.{needs}
 use lib.ListN.{replicate}

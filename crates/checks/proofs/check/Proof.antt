@@ -1,6 +1,7 @@
 -- A sheet is answered as its words are. Assumes nothing.
-use mathlib.Core.Path.{ap₂, _∙_}
+use mathlib.Core.Path.{ap, _∙_}
 use borrow.Author.Needs.{needs}
+use Rattle.carried.specs.declared.Edition.the-variants.{Three}
 use Rattle.carried.specs.Carried.{planIn}
 use Rattle.judge.specs.Table.{judge}
 use Rattle.checks.specs.Checks.{lines}
@@ -10,11 +11,11 @@ use Rattle.checks.proofs.check.Tie as tie
 
 returns : tie.Need-returns
 returns c =
-    let w = c .before .before .before in
+    let w = c .before .before in
     let s = w .before .args .sheet in
     c .check-words .ensures
-    ∙ ap₂ (λ e ws. judge (lines e (s .count) (s .sources) (planIn (s .count) (s .sources) ws))) (c .before .before .edition-for .ensures) (w .words-of .ensures)
+    ∙ ap (λ ws. judge (lines Three (s .count) (s .sources) (planIn (s .count) (s .sources) ws))) (w .words-of .ensures)
     ∙ same-check s (_, w .before .good .0 .1 .1)
 
 pub check-spec : {M : Type 1} → statement M
-check-spec = tie.close (tie.spec (λ c κs. search needs) (λ c κs. search needs) (λ c κs. search needs) returns)
+check-spec = tie.close (tie.spec (λ c κs. search needs) (λ c κs. search needs) returns)

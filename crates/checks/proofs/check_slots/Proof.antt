@@ -29,11 +29,11 @@ use Rattle.checks.proofs.check_slots.Tie as tie
 abbrev long : List ℕ → ℕ → ℕ → Bool
 long ws n k = exceedsSlot (timingIn ws) (getD (streamsIn n ws) k blank)
 
--- what the loop has beside the rows: P, and what comes to each payload
+-- what the loop has beside the rows: P, and what comes to each C + K
 record Beside (ws : List ℕ) (slot beside : ℕ) : Type 0 where
   p : slot ≡ timingIn ws .p
   some : 1 ≤ slot
-  sum : (j : Stream) → C″ (timingIn ws) j ≡ beside + j .payload
+  sum : (j : Stream) → C″ (timingIn ws) j ≡ beside + j .payload + j .acknowledgement
   small : beside ≤ mostV + mostU
 
 beside-is : (ws : List ℕ) (slot beside : ℕ) (o : Overheads) → slot ≡ timingIn ws .p → (slot ≡ 0 → ⊥) → TimingWithin (timingIn ws) → o ≡ overheadsOf (timingIn ws)
@@ -54,11 +54,11 @@ module _ (ws : List ℕ) (n k slot beside : ℕ) (h : k < n) (b : Beside ws slot
   some-slot : 1 ≤ timingIn ws .p
   some-slot = omega (arith, b .p, b .some)
 
-  -- the payload is the stream's
-  is-sum : C″ (timingIn ws) row ≡ beside + getD ws (layout.streamAt k + 4) 0
+  -- the payload and the acknowledgement are the stream's
+  is-sum : C″ (timingIn ws) row ≡ beside + getD ws (layout.streamAt k + 4) 0 + getD ws (layout.streamAt k + 6) 0
   is-sum = ap (C″ (timingIn ws)) (rows-at n (λ r. streamIn ws (layout.streamAt r)) blank k h) ∙ b .sum (streamIn ws (layout.streamAt k))
 
-  long-is : long ws n k ≡ ltb slot (beside + getD ws (layout.streamAt k + 4) 0)
+  long-is : long ws n k ≡ ltb slot (beside + getD ws (layout.streamAt k + 4) 0 + getD ws (layout.streamAt k + 6) 0)
   long-is = simp (le-leb 1 (timingIn ws .p) some-slot) (ap₂ ltb (sym (b .p)) is-sum)
 
 -- with no master node no row exceeds anything
@@ -77,7 +77,7 @@ returns c =
     let none : timingIn (now (a .words)) .p ≡ 0 = ap (λ (t : Timing). t .p) (sym (c .before .timing-in .ensures)) ∙ c .if1 .taken in
     sym (passed _ _ (finds-nothing (long (now (a .words)) (a .n)) 0 _ .1 (λ k x y. none-at-all (now (a .words)) (a .n) k none)) ∙ nothing-given)
 
--- P and what comes to each payload, once they are worked out
+-- P and what comes to each C + K, once they are worked out
 worked-out : (c : tie.After-overheads-of Inv-loop μ-loop) → let t = c .before .before in
     Beside (t .before .args .words .now) (t .timing-in .result .p) (c .overheads-of .result .lead + c .overheads-of .result .u)
 worked-out c =
@@ -93,12 +93,12 @@ loop-holds : tie.Need-loop-holds Inv-loop μ-loop
 loop-holds c = (omega arith, worked-out (c .before), none-yet _)
 
 too-long-requires : tie.Need-too-long-requires Inv-loop μ-loop
-too-long-requires c κs = c .before .before .loop .inv .1 .small
+too-long-requires c κs = c .before .before .before .loop .inv .1 .small
 
 returns-2 : tie.Need-returns-2 Inv-loop μ-loop
 returns-2 c =
     let y = c .before .before in
-    let l = y .before .before .before in
+    let l = y .before .before .before .before in
     let a = l .before .before .before .before .before .args in
     let ws = now (a .words) in
     let among : l .loop .r < a .n = omega arith in
@@ -111,7 +111,7 @@ returns-2 c =
 loop-again : tie.Need-loop-again Inv-loop μ-loop
 loop-again c =
     let y = c .before in
-    let l = y .before .before .before in
+    let l = y .before .before .before .before in
     let a = l .before .before .before .before .before .args in
     let among : l .loop .r < a .n = omega arith in (
       omega arith,
@@ -130,5 +130,6 @@ pub check-slots-spec : {M : Type 1} → statement M
 check-slots-spec =
     tie.close
     (tie.spec Inv-loop μ-loop (λ c κs. search needs) returns (λ c κs. search needs) add-beside loop-holds (λ c. search needs)
-    (λ c. search needs) (λ c. search needs) (λ c. search needs) (λ c. search needs) too-long-requires
+    (λ c. search needs) (λ c. search needs) (λ c. search needs) (λ c. search needs) (λ c. search needs) (λ c. search needs) (λ c. search needs)
+    too-long-requires
     (λ c κs. search needs) returns-2 (λ c. search needs) (λ c. search needs) loop-again returns-3)

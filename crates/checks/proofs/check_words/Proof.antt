@@ -71,7 +71,7 @@ module _ (b : tie.Start) where
       unfolding planIn
       timing =
           let p = planIn (min n streams) (min m sources) ws in
-          inside-if-fields-within (b .args .edition) p .0 (nothing-if-inside 0 (fields (b .args .edition) p) .0 (byte-not (b .args .edition) _ (not-given _ _ inside .0))) .timing
+          inside-if-fields-within (b .args .edition) p .0 (nothing-if-inside 0 (fields (b .args .edition) p) .0 (byte-not (b .args .edition) _ _ (not-given _ _ inside .0))) .timing
 
 returns : tie.Need-returns
 returns c = let p = c .before .before .before in sym (counts-refused (p .before) _ (sym (p .check-counts .ensures) ∙ c .before .r .given .1))

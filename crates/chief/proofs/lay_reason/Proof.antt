@@ -40,7 +40,11 @@ returns-8 c = is (ap reasonText (sym (c .before .before .before .before .before 
 
 returns-9 : tie.Need-returns-9
 unfolding reasonText
-returns-9 c = is (ap reasonText (sym (c .before .before .before .before .before .why8 .given .1))) (c .before .before .lay-noise .ensures)
+returns-9 c = is (ap reasonText (sym (c .before .before .before .before .before .before .why8 .given .1))) (c .before .before .lay-stream7 .ensures)
+
+returns-10 : tie.Need-returns-10
+unfolding reasonText
+returns-10 c = is (ap reasonText (sym (c .before .before .before .before .before .why9 .given .1))) (c .before .before .lay-noise .ensures)
 
 pub lay-reason-spec : {M : Type 1} → statement M
 lay-reason-spec =
@@ -49,6 +53,6 @@ lay-reason-spec =
     (λ c. search needs) (λ c κs. search needs) (λ c. search needs) (λ c. search needs) (λ c κs. search needs) (λ c. search needs)
     (λ c. search needs) (λ c κs. search needs) (λ c. search needs) (λ c. search needs) (λ c κs. search needs) (λ c. search needs)
     (λ c. search needs) (λ c κs. search needs) (λ c. search needs) (λ c. search needs) (λ c κs. search needs) (λ c. search needs)
-    (λ c κs. search needs) (λ c. search needs) returns (λ c. search needs) returns-2 (λ c. search needs) returns-3 (λ c. search needs)
-    returns-4 (λ c. search needs) returns-5 (λ c. search needs) returns-6 (λ c. search needs) returns-7 (λ c. search needs) returns-8
-    (λ c. search needs) returns-9)
+    (λ c. search needs) (λ c κs. search needs) (λ c. search needs) (λ c κs. search needs) (λ c. search needs) returns (λ c. search needs)
+    returns-2 (λ c. search needs) returns-3 (λ c. search needs) returns-4 (λ c. search needs) returns-5 (λ c. search needs) returns-6
+    (λ c. search needs) returns-7 (λ c. search needs) returns-8 (λ c. search needs) returns-9 (λ c. search needs) returns-10)

@@ -16,5 +16,8 @@ returns c = sym (ap band (c .enum-told .given .1))
 returns-2 : tie.Need-returns-2
 returns-2 c = sym (ap band (c .enum-told2 .given .1))
 
+returns-3 : tie.Need-returns-3
+returns-3 c = sym (ap band (c .enum-told3 .given .1))
+
 pub slot-band-spec : {M : Type 1} → statement M
-slot-band-spec = tie.close (tie.spec (λ c. search needs) (λ c. search needs) returns returns-2)
+slot-band-spec = tie.close (tie.spec (λ c. search needs) (λ c. search needs) (λ c. search needs) returns returns-2 returns-3)

@@ -7,14 +7,14 @@ use denote.Ref.{now}
 use lib.ListN.{length, getD, take, drop}
 use Rattle.laws.specs.Lists.{rows}
 use Rattle.laws.proofs.Lists.{rows-front, length-rows}
-use Rattle.names.specs.Limits.{payload, ticks}
+use Rattle.names.specs.Limits.{payload, acknowledgement, ticks}
 use Rattle.plan.specs.declared.Stream.{Stream}
 use Rattle.plan.specs.Plan.{blank}
 use Rattle.carried.specs.Layout as layout
 use Rattle.fields.specs.Fields.{streamFields, lowest}
 use Rattle.carried.specs.Carried.{streamIn}
 use Rattle.fields.specs.private.Bands.{fieldsOf}
-use Rattle.carried.proofs.Plans.{six-back}
+use Rattle.carried.proofs.Plans.{seven-back}
 use Rattle.fields.proofs.Lowest.{stream-here, stream-not-here, streams-done}
 use borrow.Author.Needs.{needs}
 use Rattle.fields.proofs.streams_outside.Statement.{statement}
@@ -24,16 +24,16 @@ use Rattle.fields.proofs.streams_outside.Tie as tie
 abbrev inWords : List ℕ → ℕ → List Stream
 inWords words n = rows n (λ k. streamIn words (layout.streamAt k))
 
--- stream r of them, found as its six words with their limits beside them
+-- stream r of them, found as its seven words with their limits beside them
 module _ (words : List ℕ) (n nb r : ℕ) {top : ℕ} (h : r < n) (long : layout.streamAt n ≤ length words) (e : top ≡ 2 ^ nb - 1) where
-  stream-found : lowest (layout.streamAt r) (fieldsOf (take (layout.streamAt r + layout.streamLength - layout.streamAt r) (drop (layout.streamAt r) words)) (0 ∷ 0 ∷ 1 ∷ 0 ∷ 1 ∷ 1 ∷ []) (ticks ∷ top ∷ ticks ∷ ticks ∷ payload ∷ ticks ∷ []))
+  stream-found : lowest (layout.streamAt r) (fieldsOf (take (layout.streamAt r + layout.streamLength - layout.streamAt r) (drop (layout.streamAt r) words)) (0 ∷ 0 ∷ 1 ∷ 0 ∷ 1 ∷ 1 ∷ 0 ∷ []) (ticks ∷ top ∷ ticks ∷ ticks ∷ payload ∷ ticks ∷ acknowledgement ∷ []))
       ≡ lowest (layout.streamAt r) (streamFields nb (getD (inWords words n) r blank))
   unfolding fieldsOf
   stream-found =
       let at = layout.streamAt r in
       let part : at + layout.streamLength - at ≡ layout.streamLength = omega arith in
       let row : getD (inWords words n) r blank ≡ streamIn words at = ap (λ l. getD l r blank) (sym (append-nil (inWords words n))) ∙ rows-front (λ k. streamIn words (layout.streamAt k)) [] blank n r h in
-      rw (part, e, row, ← six-back words at (omega arith)) refl
+      rw (part, e, row, ← seven-back words at (omega arith)) refl
 
 abbrev Inv-loop : tie.InvT-loop
 Inv-loop words n nb any least most r₀ r =

@@ -30,7 +30,10 @@ returns-8 : tie.Need-returns-8
 returns-8 c = c .by-label6 .ensures ∙ ap again (sym (c .before .before .reason7 .given .1))
 
 returns-9 : tie.Need-returns-9
-returns-9 c = c .broken3 .ensures ∙ ap again (sym (c .before .before .reason8 .given .1))
+returns-9 c = c .by-label7 .ensures ∙ ap again (sym (c .before .before .reason8 .given .1))
+
+returns-10 : tie.Need-returns-10
+returns-10 c = c .broken3 .ensures ∙ ap again (sym (c .before .before .reason9 .given .1))
 
 pub again-spec : {M : Type 1} → statement M
 again-spec =
@@ -38,4 +41,5 @@ again-spec =
     (tie.spec (λ c. search needs) (λ c κs. search needs) (λ c. search needs) (λ c κs. search needs) (λ c. search needs)
     (λ c κs. search needs) (λ c. search needs) (λ c κs. search needs) (λ c. search needs) (λ c κs. search needs) (λ c. search needs)
     (λ c κs. search needs) (λ c. search needs) (λ c κs. search needs) (λ c. search needs) (λ c κs. search needs) (λ c. search needs)
-    (λ c. search needs) (λ c κs. search needs) returns returns-2 returns-3 returns-4 returns-5 returns-6 returns-7 returns-8 returns-9)
+    (λ c κs. search needs) (λ c. search needs) (λ c. search needs) (λ c κs. search needs) returns returns-2 returns-3 returns-4 returns-5
+    returns-6 returns-7 returns-8 returns-9 returns-10)

@@ -1,6 +1,6 @@
 -- Each return is a line of the contents' table, and the tests that led there say that the lines before it are not given. The ranges are
 -- looked at before the other contents words, which changes nothing: both are 2 at 0. Assumes nothing.
-use mathlib.Core.Path.{_≡_, refl, sym, ap, _∙_}
+use mathlib.Core.Path.{_≡_, refl, sym, ap, ap₂, _∙_}
 use mathlib.Core.Bool.{true, false, and-false}
 use mathlib.Core.List.{List}
 use Prim.Native.Nat.{ℕ, _*_, _/_, _≤_, _<_}
@@ -48,29 +48,29 @@ one c = right-size (now (c .before .before .before .before .args .bytes)) (omega
 
 -- what the code has once the two counts are read: the bytes, the edition, n and m
 abbrev bs-at : tie.After-word-at2 → List ℕ
-bs-at w = now (w .before .before .before .before .before .before .before .args .bytes)
+bs-at w = now (w .before .before .before .before .before .before .before .before .args .bytes)
 
 abbrev x-at : tie.After-word-at2 → Edition
-x-at w = w .before .before .edition-in .result
+x-at w = w .before .before .before .edition-in .result
 
 abbrev n-at : tie.After-word-at2 → ℕ
-n-at w = w .before .word-at .result / (layout.word * layout.streamLength)
+n-at w = w .before .before .word-at .result / (layout.word * w .before .stream-body .result)
 
 abbrev m-at : tie.After-word-at2 → ℕ
 m-at w = w .word-at2 .result / layout.word
 
 -- they are those that the contents state
 x-is : (w : tie.After-word-at2) → editionIn (wordsOf (bs-at w)) ≡ x-at w
-x-is w = sym (w .before .before .edition-in .ensures)
+x-is w = sym (w .before .before .before .edition-in .ensures)
 
-n-is : (w : tie.After-word-at2) → countIn (wordsOf (bs-at w)) ≡ n-at w
-n-is w = ap (λ x. x / (layout.word * layout.streamLength)) (sym (w .before .word-at .ensures))
+n-is : (w : tie.After-word-at2) → countIn (x-at w) (wordsOf (bs-at w)) ≡ n-at w
+n-is w = ap₂ (λ x s. x / (layout.word * s)) (sym (w .before .before .word-at .ensures)) (sym (w .before .stream-body .ensures .0))
 
 m-is : (w : tie.After-word-at2) → sourcesIn (wordsOf (bs-at w)) ≡ m-at w
 m-is w = ap (λ x. x / layout.word) (sym (w .word-at2 .ensures))
 
 contents-refused : (w : tie.After-word-at2) → contentsRight (x-at w) (n-at w) (m-at w) (bs-at w) ≡ false → countsOf (bs-at w) ≡ refusedCounts 2
-contents-refused w = said-contents (bs-at w) (x-at w) (n-at w) (m-at w) (x-is w) (n-is w) (m-is w) (one (w .before .before .before))
+contents-refused w = said-contents (bs-at w) (x-at w) (n-at w) (m-at w) (x-is w) (n-is w) (m-is w) (one (w .before .before .before .before))
 
 -- the contents are those of its n and m, and it ends where they say
 two : (c : tie.Else4) → let w = c .before .before .before .before .before .before .before in contentsRight (x-at w) (n-at w) (m-at w) (bs-at w) ≡ true
@@ -100,7 +100,7 @@ returns-3 : tie.Need-returns-3
 returns-3 c =
     let p = c .before .before .before in
     let w = p .before in
-    sym (said-ranges (bs-at w) (x-at w) (n-at w) (m-at w) (x-is w) (n-is w) (m-is w) (one (w .before .before .before)) _ (sym (p .check-counts .ensures) ∙ c .before .r .given .1))
+    sym (said-ranges (bs-at w) (x-at w) (n-at w) (m-at w) (x-is w) (n-is w) (m-is w) (one (w .before .before .before .before)) _ (sym (p .check-counts .ensures) ∙ c .before .r .given .1))
 
 enum-told : tie.Need-enum-told
 enum-told c = search needs
@@ -131,13 +131,13 @@ returns-6 : tie.Need-returns-6
 returns-6 c =
     let t = c .before .before .before .before in
     let w = t .before .before .before in
-    sym (said-counts (bs-at w) (x-at w) (n-at w) (m-at w) (x-is w) (n-is w) (m-is w) (one (w .before .before .before)) (two c) (three t))
+    sym (said-counts (bs-at w) (x-at w) (n-at w) (m-at w) (x-is w) (n-is w) (m-is w) (one (w .before .before .before .before)) (two c) (three t))
 
 pub counts-spec : {M : Type 1} → statement M
 counts-spec =
     tie.close
     (tie.spec (λ c. search needs) (λ c κs. search needs) returns (λ c. search needs) (λ c. search needs) (λ c κs. search needs)
-    (λ c κs. search needs) returns-2 (λ c κs. search needs) (λ c κs. search needs) (λ c. search needs) (λ c. search needs)
-    (λ c. search needs) (λ c κs. search needs) (λ c. search needs) (λ c κs. search needs) (λ c. search needs) returns-3 enum-told
-    contents-in-requires (λ c κs. search needs) returns-4 cast-size-3 cast-size-4 (λ c κs. search needs) (λ c κs. search needs) returns-5
-    returns-6)
+    (λ c κs. search needs) returns-2 (λ c κs. search needs) (λ c κs. search needs) (λ c. search needs) (λ c κs. search needs)
+    (λ c. search needs) (λ c. search needs) (λ c κs. search needs) (λ c. search needs) (λ c κs. search needs) (λ c. search needs)
+    returns-3 enum-told contents-in-requires (λ c κs. search needs) returns-4 cast-size-3 cast-size-4 (λ c κs. search needs)
+    (λ c κs. search needs) returns-5 returns-6)

@@ -12,7 +12,7 @@ use Rattle.file.specs.declared.Counts.the-variants.{Of, Refused as Counts·Refu
 use Rattle.file.specs.declared.Written.{Written, the-variants.Refused as Written·Refused}
 use Rattle.file.specs.File.{countsOf, carriedOf, writeWith, writeOf}
 use Rattle.file.proofs.Carried.{not-counted, by-words}
-use Rattle.file.proofs.Writing.{write-refused}
+use Rattle.file.proofs.Writing.{write-refused, written-alike}
 use Rattle.rewriter.specs.Rewriter.{rewriteAs, rewriteOf}
 use borrow.Author.Needs.{needs}
 use Rattle.rewriter.proofs.rewrite.Statement.{statement}
@@ -24,12 +24,12 @@ module _ (bytes buf : List ℕ) where
 
   not-read : (r : Refusal) → countsOf bytes ≡ Counts·Refused r → rewriteOf bytes buf ≡ (Written·Refused r, buf)
   unfolding rewriteOf writeOf
-  not-read r e = not-counted (λ c s. rewriteAs c s buf) no (λ x n m p. writeWith x n m p buf) (λ s. refl) (λ r s. refl) (λ x n m p. write-refused x n m p buf) bytes r e
+  not-read r e = not-counted (λ c s. rewriteAs c s buf) no (λ x n m p. writeWith x n m p buf) (λ s. refl) (λ r s. refl) (λ x n m p. write-refused x n m p buf) (written-alike buf) bytes r e
 
   read : (x : Edition) (n m : ℕ) → countsOf bytes ≡ Of x n m → {ws : List ℕ} → ws ≡ carriedOf bytes (replicate layout.largest 0)
       → rewriteOf bytes buf ≡ writeWith x n m (planIn n m ws) buf
   unfolding rewriteOf writeOf
-  read x n m e d = by-words (λ c s. rewriteAs c s buf) no (λ x n m p. writeWith x n m p buf) (λ s. refl) (λ r s. refl) (λ x n m p. write-refused x n m p buf) bytes x n m e d
+  read x n m e d = by-words (λ c s. rewriteAs c s buf) no (λ x n m p. writeWith x n m p buf) (λ s. refl) (λ r s. refl) (λ x n m p. write-refused x n m p buf) (written-alike buf) bytes x n m e d
 
 returns : tie.Need-returns
 returns c =

@@ -1,7 +1,8 @@
 -- A sheet is written as its words are. Assumes nothing.
-use mathlib.Core.Path.{sym, ap₂, _∙_}
+use mathlib.Core.Path.{sym, ap, _∙_}
 use borrow.Author.Needs.{needs}
 use denote.Ref.{now}
+use Rattle.carried.specs.declared.Edition.the-variants.{Three}
 use Rattle.carried.specs.Carried.{planIn}
 use Rattle.file.specs.File.{writeWith}
 use Rattle.file.proofs.Writing.{same-writing}
@@ -12,14 +13,13 @@ use Rattle.writer.proofs.write.Tie as tie
 returns : tie.Need-returns
 returns c =
     let w = c .before .before in
-    let e = w .before .before .before in
-    let x = e .before in
+    let x = w .before .before .before in
     let b = x .before .before in
     let s = b .args .sheet in
     let buf = now (b .args .buf) in
     let (p, q) =
-    both (sym (ap₂ (λ e ws. writeWith e (s .count) (s .sources) (planIn (s .count) (s .sources) ws) buf) (e .edition-for .ensures) (x .words-of .ensures) ∙ same-writing s (_, b .good .0 .1 .1) buf)) in
+    both (sym (ap (λ ws. writeWith Three (s .count) (s .sources) (planIn (s .count) (s .sources) ws) buf) (x .words-of .ensures) ∙ same-writing s (_, b .good .0 .1 .1) buf)) in
     (w .write-words .ensures .0 ∙ p, w .write-words .ensures .1 ∙ q)
 
 pub write-spec : {M : Type 1} → statement M
-write-spec = tie.close (tie.spec (λ c κs. search needs) (λ c κs. search needs) (λ c κs. search needs) (λ c. search needs) returns)
+write-spec = tie.close (tie.spec (λ c κs. search needs) (λ c κs. search needs) (λ c. search needs) returns)

@@ -60,7 +60,7 @@ put-file-requires c κs =
     let f = z .before in
     let b = f .before .before .before .before in
     let (n, m) = few (b .args .edition) (b .args .n) (b .args .m) (asked b) (fine f) in
-    (fine-if-right (b .args .edition) (b .args .n) (b .args .m) (asked b) .0 (fine f) .0, (search needs, (n, (m, omega (arith, i .if1 .left, z .size .ensures)))))
+    (search needs, (n, (m, omega (arith, i .if1 .left, z .size .ensures))))
 
 returns-3 : tie.Need-returns-3
 returns-3 c =
