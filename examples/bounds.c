@@ -16,8 +16,8 @@ int main(void)
         printf("refused %llu at %llu\n", (unsigned long long)said.refusal, (unsigned long long)said.value);
         return 2;
     }
-    /* n, the number of streams, stands in the file: the length of its second body, 24 bytes a stream */
-    size_t streams = (file[28] + 256 * (size_t)file[29]) / 24;
+    /* n, the number of streams, stands in the file: the length of its second body, 28 bytes a stream in edition 3 and 24 before */
+    size_t streams = (file[28] + 256 * (size_t)file[29]) / (file[0] == 3 ? 28 : 24);
     for (size_t row = 0; row < streams; row++) {
         const uint64_t *answer = words + ROW * row;
         unsigned long long bound = answer[1], instance = answer[2];

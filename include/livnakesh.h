@@ -3,8 +3,11 @@
  * A refusal hands back the number and place of documents 01 and 02, and leaves lent memory as it was. Rows count from 0. Where
  * several fit a plan, the first in this order is given: 1, 2, 3, 4, 5, 10, 6.
  *
- * A plan with a master node has P, from one pulse to the next, and its file is of edition 2; a plan without one has edition 1, and
- * its P, where it is lent, is 0. n is the number of streams, m the number of gaps.
+ * n is the number of streams, m the number of gaps. P is from one pulse of the master node to the next, and 0 in a plan without one.
+ * Files of three editions are read. Edition 1 has no P, which is then 0, and in edition 2 P is above 0; neither has acknowledgements,
+ * which are then 0. Edition 3 has both, and is the one that is written: of a file of edition 3 the same bytes, of an older one the
+ * file of edition 3 of the same plan, which is longer. The place of a wrong field is its byte in the file that was given, and for
+ * values lent without a file its byte in their file of edition 3.
  *
  * Every call returns, but livnakesh_answers and livnakesh_screen can take minutes: most plans take well under a millisecond, and
  * the slowest that are known more than three minutes. All other calls look at what they are lent once or a few times over. */
@@ -26,7 +29,8 @@ struct livnakesh_said {
 
 /* answer 0: the second plan is lighter; number and value are 0.
  * answer 1: the first file is refused; answer 2: the second is. number and value are the refusal's number and place.
- * answer 3: run it again; number is a condition that is broken, and value what breaks it. 9 is looked at first, then 1 to 8:
+ * answer 3: run it again; number is a condition that is broken, and value what breaks it. 9 is looked at first, then 1, then 2 to 6
+ * and 10 of each stream in turn, then 7 and 8:
  *   9 one plan has a master node and the other has none       0
  *   1 a timing constant is greater            its place, 0 to 9 for F, E, TFCS, SWX, H, G, ETG, LAG, NB, P
  *   2 a stream is not in the first plan       its label
@@ -34,6 +38,7 @@ struct livnakesh_said {
  *   4 its jitter is longer                    its label
  *   5 its payload is longer                   its label
  *   6 its deadline is shorter                 its label
+ *  10 its acknowledgement is longer           its label
  *   7 it comes after a stream that it came before: one of the second plan's streams is more urgent than this one,
  *     and was not in the first plan         its label
  *   8 more gaps of the second plan than of the first are this long or less      the gap */
@@ -43,7 +48,7 @@ struct livnakesh_weighed {
     uint64_t value;
 };
 
-/* A stream's six words, in the file's order. */
+/* A stream's seven words, in the file's order. acknowledgement is 0 to 65,535, and 0 where none is waited for. */
 struct livnakesh_stream {
     uint32_t label;
     uint32_t priority;
@@ -51,6 +56,7 @@ struct livnakesh_stream {
     uint32_t jitter;
     uint32_t payload;
     uint32_t deadline;
+    uint32_t acknowledgement;
 };
 
 /* A tournament after a call. refusal 0: done, and place is 0. Otherwise the refusal's number and place.
@@ -66,19 +72,17 @@ struct livnakesh_stepped {
 
 /* The answers of a plan file: three words a row in file order, verdict (0 met, 1 missed, 2 none), the bound (0 for none) and then
  * the instance q that gives it, counted from 0: the first of those with the largest term (0 for none). Words after 3n stay as
- * found; n is the word at byte 28 of the file, divided by 24, in both editions.
+ * found; n is the word at byte 28 of the file, divided by 24 in editions 1 and 2 and by 28 in edition 3.
  * Refusals 1 to 5, 10 and 6; 6 if fewer than 3n words are lent. value is 0. */
 struct livnakesh_said livnakesh_answers(const uint8_t *file, size_t file_length, uint64_t *words, size_t word_count);
 
-/* Reads a plan file and writes its plan's file at the start of the lent buffer; the rest of the buffer is kept.
- * value is the number of bytes written, 80 + 24n + 4m, or 84 + 24n + 4m with a master node. Refusals 1 to 5, 10 and 6; 6 if fewer
- * bytes than that are lent. */
+/* Reads a plan file of any edition and writes its plan's file of edition 3 at the start of the lent buffer; the rest of the buffer is
+ * kept. value is the number of bytes written, 84 + 28n + 4m. Refusals 1 to 5, 10 and 6; 6 if fewer bytes than that are lent. */
 struct livnakesh_said livnakesh_rewrite(const uint8_t *file, size_t file_length, uint8_t *buffer, size_t buffer_length);
 
-/* Writes the file of so many streams (n) and gaps (m) at the start of the lent buffer; the rest of the buffer is kept.
- * values are ten timing words, F to NB and P, then six words a stream and then the gaps. P is lent always: it is 0 where there is no
- * master node, and then not in the file. A word that is not lent is 0, and words after 10 + 6n + m are not looked at. value is the
- * number of bytes written, 80 + 24n + 4m, or 84 + 24n + 4m with a master node.
+/* Writes the file, of edition 3, of so many streams (n) and gaps (m) at the start of the lent buffer; the rest of the buffer is kept.
+ * values are ten timing words, F to NB and P, then seven words a stream and then the gaps. A word that is not lent is 0, and words
+ * after 10 + 7n + m are not looked at. value is the number of bytes written, 84 + 28n + 4m.
  * Refusals 2 to 5, 10 and 6, with the places that the file would have; 6 if fewer bytes than that are lent. */
 struct livnakesh_said livnakesh_write(size_t streams, size_t gaps, const uint32_t *values, size_t value_count,
                                       uint8_t *buffer, size_t buffer_length);

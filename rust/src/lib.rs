@@ -14,7 +14,7 @@ pub struct Priority(pub u32);
 #[derive(Clone, Copy, Debug, PartialEq, Eq, PartialOrd, Ord)]
 pub struct Row(pub u32);
 
-/// A stream's six words in the file's order, and in C's layout.
+/// A stream's seven words in the file's order, and in C's layout. A stream that waits for none has an acknowledgement of 0.
 #[derive(Clone, Copy, Debug, PartialEq, Eq)]
 #[repr(C)]
 pub struct Stream {
@@ -24,6 +24,7 @@ pub struct Stream {
     pub jitter: u32,
     pub payload: u32,
     pub deadline: u32,
+    pub acknowledgement: u32,
 }
 
 /// The number and place of the refusals of documents 01 and 02.
@@ -54,6 +55,7 @@ pub enum Reason {
     LongerJitter(Label),
     LongerPayload(Label),
     ShorterDeadline(Label),
+    LongerAcknowledgement(Label),
     LessUrgent(Label),
     MoreNoise(u32),
 }
@@ -196,16 +198,17 @@ pub fn answer_words(file: &[u8], words: &mut [u64]) -> Result<(), Refused> {
     said(unsafe { livnakesh_answers(file.as_ptr(), file.len(), words.as_mut_ptr(), words.len()) }).map(|_| ())
 }
 
-/// Reads a file's plan and writes it at the start of `buffer`; hands back how many bytes it wrote.
+/// Reads a file's plan, of any edition, and writes its file of edition 3 at the start of `buffer`; hands back how many bytes it
+/// wrote.
 pub fn rewrite(file: &[u8], buffer: &mut [u8]) -> Result<usize, Refused> {
     // SAFETY: both slices outlive the call, and the library stays within them.
     said(unsafe { livnakesh_rewrite(file.as_ptr(), file.len(), buffer.as_mut_ptr(), buffer.len()) }).map(|n| n as usize)
 }
 
-/// Writes the file of so many streams and gaps at the start of `buffer`; hands back how many bytes it wrote.
+/// Writes the file, of edition 3, of so many streams and gaps at the start of `buffer`; hands back how many bytes it wrote.
 ///
-/// `values` are the ten timing words, six words a stream and then the gaps. A word that is not lent is 0. The tenth is P, and 0 in a
-/// plan without a master node; the file then has nine.
+/// `values` are the ten timing words, seven words a stream and then the gaps. A word that is not lent is 0. The tenth is P, and 0 in
+/// a plan without a master node.
 pub fn write(streams: usize, gaps: usize, values: &[u32], buffer: &mut [u8]) -> Result<usize, Refused> {
     // SAFETY: both slices outlive the call, and the library stays within them.
     said(unsafe { livnakesh_write(streams, gaps, values.as_ptr(), values.len(), buffer.as_mut_ptr(), buffer.len()) })
@@ -270,6 +273,7 @@ fn reason(condition: u64, value: u64) -> Reason {
         7 => Reason::LessUrgent(label),
         8 => Reason::MoreNoise(word(value)),
         9 => Reason::MasterNode,
+        10 => Reason::LongerAcknowledgement(label),
         other => panic!("the library's contract has no condition {other}"),
     }
 }

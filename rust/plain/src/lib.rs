@@ -18,11 +18,13 @@ pub struct Plan {
 }
 
 const CONTENTS: usize = 44;
-const STREAM: usize = 24;
+const STREAM: usize = 28;
+/// Without an acknowledgement.
+const OLD_STREAM: usize = 24;
 const GAP: usize = 4;
 const MOST_STREAMS: usize = 64;
 const MOST_GAPS: usize = 8;
-const LARGEST: usize = Edition::Two.size(MOST_STREAMS, MOST_GAPS);
+const LARGEST: usize = WRITTEN.size(MOST_STREAMS, MOST_GAPS);
 const LONGEST_SLOT: u32 = 5_000_000;
 
 /// The words of a row's answer: its verdict, its bound, and the instance that gives it.
@@ -37,26 +39,24 @@ fn refused<T>(number: u64, place: usize) -> Result<T, Refused> {
 
 // ---- the plan file ----
 
-/// What a plan's file says first: without a master node or with one, whose P the timing then ends with.
+/// What a file says first. The first edition is for plans without a master node and the second for plans with one; the third is for
+/// both, and has acknowledgements.
 #[derive(Clone, Copy, Debug, PartialEq, Eq)]
 pub enum Edition {
     One = 1,
     Two = 2,
+    Three = 3,
 }
 
-impl Edition {
-    /// Of the file that a plan's values would have.
-    pub fn of(timing: &Timing) -> Edition {
-        match timing[P] {
-            0 => Edition::One,
-            _ => Edition::Two,
-        }
-    }
+/// The only edition that is written; lent values have its places.
+const WRITTEN: Edition = Edition::Three;
 
-    fn of_file(file: &[u8]) -> Option<Edition> {
+impl Edition {
+    fn of(file: &[u8]) -> Option<Edition> {
         match word(file) {
             1 => Some(Edition::One),
             2 => Some(Edition::Two),
+            3 => Some(Edition::Three),
             _ => None,
         }
     }
@@ -64,7 +64,23 @@ impl Edition {
     const fn timing_words(self) -> usize {
         match self {
             Edition::One => P,
-            Edition::Two => P + 1,
+            Edition::Two | Edition::Three => P + 1,
+        }
+    }
+
+    /// The least P, and 0 where there may be no master node.
+    const fn least_slot(self) -> u32 {
+        match self {
+            Edition::Two => 1,
+            Edition::One | Edition::Three => 0,
+        }
+    }
+
+    /// The bytes of a stream's record.
+    const fn record(self) -> usize {
+        match self {
+            Edition::One | Edition::Two => OLD_STREAM,
+            Edition::Three => STREAM,
         }
     }
 
@@ -74,13 +90,13 @@ impl Edition {
     }
 
     /// The bytes of a file of so many streams and gaps.
-    pub const fn size(self, streams: usize, gaps: usize) -> usize {
-        self.streams() + STREAM * streams + GAP * gaps
+    const fn size(self, streams: usize, gaps: usize) -> usize {
+        self.streams() + self.record() * streams + GAP * gaps
     }
 
     fn contents(self, streams: usize, gaps: usize) -> [u32; 11] {
         let start = self.streams() as u32;
-        let stream_bytes = (STREAM * streams) as u32;
+        let stream_bytes = (self.record() * streams) as u32;
         let gap_bytes = (GAP * gaps) as u32;
         [self as u32, 3, 1, 44, start - 44, 2, start, stream_bytes, 3, start + stream_bytes, gap_bytes]
     }
@@ -99,10 +115,10 @@ fn contents(file: &[u8]) -> Result<(Edition, usize), Refused> {
     if file.len() < CONTENTS || file.len() > LARGEST {
         return refused(1, 0);
     }
-    let Some(edition) = Edition::of_file(file) else {
+    let Some(edition) = Edition::of(file) else {
         return refused(2, 0);
     };
-    let streams = word(&file[28..]) as usize / STREAM;
+    let streams = word(&file[28..]) as usize / edition.record();
     let gaps = word(&file[40..]) as usize / GAP;
     if !counts_fit(streams, gaps) || file.len() != edition.size(streams, gaps) {
         return refused(2, 0);
@@ -123,7 +139,7 @@ fn timing(words: &[u8]) -> Timing {
 }
 
 /// Of a known length, so that the words need no checks of their own.
-fn stream(record: &[u8; STREAM]) -> Stream {
+fn stream<const LENGTH: usize>(record: &[u8; LENGTH]) -> Stream {
     Stream {
         label: Label(word(record)),
         priority: Priority(word(&record[4..])),
@@ -131,12 +147,14 @@ fn stream(record: &[u8; STREAM]) -> Stream {
         jitter: word(&record[12..]),
         payload: word(&record[16..]),
         deadline: word(&record[20..]),
+        // An old record ends here.
+        acknowledgement: record.get(OLD_STREAM..STREAM).map_or(0, word),
     }
 }
 
-fn streams(mut records: &[u8], count: usize) -> Vec<Stream> {
+fn streams<const LENGTH: usize>(mut records: &[u8], count: usize) -> Vec<Stream> {
     let mut streams = Vec::with_capacity(count);
-    while let Some((record, rest)) = records.split_first_chunk() {
+    while let Some((record, rest)) = records.split_first_chunk::<LENGTH>() {
         streams.push(stream(record));
         records = rest;
     }
@@ -146,10 +164,13 @@ fn streams(mut records: &[u8], count: usize) -> Vec<Stream> {
 pub fn read(file: &[u8]) -> Result<Plan, Refused> {
     let (edition, count) = contents(file)?;
     let (head, bodies) = file.split_at(edition.streams());
-    let (records, gaps) = bodies.split_at(STREAM * count);
+    let (records, gaps) = bodies.split_at(edition.record() * count);
     let plan = Plan {
         timing: timing(&head[CONTENTS..]),
-        streams: streams(records, count),
+        streams: match edition {
+            Edition::One | Edition::Two => streams::<OLD_STREAM>(records, count),
+            Edition::Three => streams::<STREAM>(records, count),
+        },
         gaps: gaps.chunks_exact(GAP).map(word).collect(),
     };
     check_as(edition, &plan)?;
@@ -167,6 +188,7 @@ fn bad_field(stream: &Stream, most_priority: u32) -> Option<usize> {
         s if s.period == 0 => Some(2),
         s if !fits(s.payload, 1, 65_535) => Some(4),
         s if s.deadline == 0 => Some(5),
+        s if s.acknowledgement > 65_535 => Some(6),
         _ => None,
     }
 }
@@ -181,7 +203,7 @@ fn bad_byte(edition: Edition, plan: &Plan) -> Option<usize> {
     if !fits(bits, 1, 32) {
         return Some(CONTENTS + 4 * NB);
     }
-    if edition == Edition::Two && !fits(plan.timing[P], 1, LONGEST_SLOT) {
+    if !fits(plan.timing[P], edition.least_slot(), LONGEST_SLOT) {
         return Some(CONTENTS + 4 * P);
     }
     let most_priority = u32::MAX >> (32 - bits);
@@ -210,15 +232,15 @@ fn repeat(values: impl Iterator<Item = u32>) -> Option<usize> {
 fn too_long(plan: &Plan) -> Option<usize> {
     let slot = slot(&plan.timing)?;
     let setup = setup(&plan.timing);
-    plan.streams.iter().position(|s| setup + u64::from(s.payload) > slot)
+    plan.streams.iter().position(|s| setup + acknowledged(s) > slot)
 }
 
 /// Refusals 2 to 5 and then 10, for lent values.
 pub fn check(plan: &Plan) -> Result<(), Refused> {
-    check_as(Edition::of(&plan.timing), plan)
+    check_as(WRITTEN, plan)
 }
 
-/// By the edition of a file, since its P may be 0 where that is wrong.
+/// By the edition of a file, which decides on its places and on whether its P may be 0.
 fn check_as(edition: Edition, plan: &Plan) -> Result<(), Refused> {
     if !counts_fit(plan.streams.len(), plan.gaps.len()) {
         return refused(2, 0);
@@ -245,20 +267,19 @@ fn put(buffer: &mut [u8], words: &[u32]) {
 }
 
 fn put_plan(plan: &Plan, file: &mut [u8]) {
-    let edition = Edition::of(&plan.timing);
-    let (head, bodies) = file.split_at_mut(edition.streams());
-    put(head, &edition.contents(plan.streams.len(), plan.gaps.len()));
+    let (head, bodies) = file.split_at_mut(WRITTEN.streams());
+    put(head, &WRITTEN.contents(plan.streams.len(), plan.gaps.len()));
     put(&mut head[CONTENTS..], &plan.timing);
     let (records, gaps) = bodies.split_at_mut(STREAM * plan.streams.len());
     for (record, s) in records.chunks_exact_mut(STREAM).zip(&plan.streams) {
-        put(record, &[s.label.0, s.priority.0, s.period, s.jitter, s.payload, s.deadline]);
+        put(record, &[s.label.0, s.priority.0, s.period, s.jitter, s.payload, s.deadline, s.acknowledgement]);
     }
     put(gaps, &plan.gaps);
 }
 
 /// Writes a plan whose values are known to be right.
 fn write_checked(plan: &Plan, buffer: &mut [u8]) -> Result<usize, Refused> {
-    let length = Edition::of(&plan.timing).size(plan.streams.len(), plan.gaps.len());
+    let length = WRITTEN.size(plan.streams.len(), plan.gaps.len());
     match buffer.get_mut(..length) {
         Some(file) => {
             put_plan(plan, file);
@@ -296,7 +317,12 @@ pub fn slot(timing: &Timing) -> Option<u64> {
     (timing[P] > 0).then_some(u64::from(timing[P]))
 }
 
-/// What C'' has beside the payload. A pulse stands for all of V but H.
+/// C + K, a message with its acknowledgement.
+pub fn acknowledged(stream: &Stream) -> u64 {
+    u64::from(stream.payload) + u64::from(stream.acknowledgement)
+}
+
+/// What C'' has beside C + K. A pulse stands for all of V but H.
 pub fn setup(timing: &Timing) -> u64 {
     let [_, _, _, _, h, ..] = timing.map(u64::from);
     let start = if slot(timing).is_some() { h } else { before(timing) };
@@ -320,7 +346,7 @@ impl Load {
     fn new(stream: &Stream, setup: u64, slot: Option<u64>) -> Load {
         let period = u64::from(stream.period);
         let jitter = u64::from(stream.jitter);
-        let last = setup + u64::from(stream.payload);
+        let last = setup + acknowledged(stream);
         Load { period, jitter, cost: slot.unwrap_or(last), last, slack: jitter + period - 1 }
     }
 
@@ -550,6 +576,7 @@ fn harder(old: &Stream, new: &Stream) -> Option<Reason> {
         s if s.jitter > old.jitter => Some(Reason::LongerJitter(label)),
         s if s.payload > old.payload => Some(Reason::LongerPayload(label)),
         s if s.deadline < old.deadline => Some(Reason::ShorterDeadline(label)),
+        s if s.acknowledgement > old.acknowledgement => Some(Reason::LongerAcknowledgement(label)),
         _ => None,
     }
 }
@@ -563,7 +590,7 @@ fn overtaken(places: &[(Priority, Priority)]) -> Option<usize> {
 }
 
 fn why_not_lighter(old: &Plan, new: &Plan) -> Option<Reason> {
-    if Edition::of(&old.timing) != Edition::of(&new.timing) {
+    if slot(&old.timing).is_some() != slot(&new.timing).is_some() {
         return Some(Reason::MasterNode);
     }
     if let Some(k) = (0..=P).find(|&k| new.timing[k] > old.timing[k]) {

@@ -4,9 +4,10 @@
 mod common;
 
 use common::{
-    bytes, drawn, edge_plan, edition_2_of, file_of, hex, in_slots, lent, lent_words, need_all, other_slot, plan, plan_in,
-    plan_of, repeat, shortest_slot, stream, tally_instance, tally_no_room, tally_refusal, tally_rows, tally_slot, tally_tie,
-    terms, words, work, ByEdition, Counts, Rng, Tally, BASE, H, LARGEST, LONGEST_SLOT, MOST_WORK,
+    any_file_of, bytes, drawn, edge_plan, editions_of, file_in, file_of, hex, in_slots, lent, lent_words, need_all, other_slot,
+    plan, plan_in, plan_of, repeat, shortest_slot, stream, tally_acknowledgements, tally_instance, tally_no_room, tally_refusal,
+    tally_rows, tally_slot, tally_tie, terms, words, work, ByEdition, Counts, Rng, Tally, BASE, EDITIONS, H, LARGEST,
+    LONGEST_SLOT, MOST_WORK,
 };
 use livnakesh::{Compared, Label, Priority, Reason, Refused, Stream};
 use plain::{self, Analysis, Edition, Plan, Worst, P, ROW};
@@ -34,8 +35,9 @@ fn answers_alike(rng: &mut Rng, file: &[u8], tally: &mut Tally) -> Option<Vec<u6
 }
 
 fn rewrite_alike(rng: &mut Rng, file: &[u8], tally: &mut Tally) {
-    // A plan has one file; a refused file needs no bytes, whatever is lent.
-    let needed = plain::read(file).map_or_else(|_| rng.within(104, LARGEST as u64) as usize, |_| file.len());
+    let wanted = plain::read(file).map(|plan| file_of(&plan));
+    // A refused file needs no bytes, whatever is lent.
+    let needed = wanted.as_ref().map_or_else(|_| rng.within(112, LARGEST as u64) as usize, Vec::len);
     let found = bytes(rng.next(), lent(rng, needed, tally));
     let (mut proved, mut ours) = (found.clone(), found.clone());
     // At an odd address, since lent bytes need not be aligned.
@@ -47,7 +49,21 @@ fn rewrite_alike(rng: &mut Rng, file: &[u8], tally: &mut Tally) {
     let kept = said.unwrap_or(0);
     assert_eq!(proved[kept..], found[kept..], "bytes after the file: {}", hex(file));
     if kept > 0 {
-        assert_eq!(proved[..kept], *file, "a plan has one file: {}", hex(file));
+        assert_eq!(wanted.as_deref(), Ok(&proved[..kept]), "one file is written of a plan: {}", hex(file));
+        assert_eq!(proved[..kept] == *file, file[0] == 3, "a file of edition 3 alone is written back: {}", hex(file));
+    } else if needed > file.len() && found.len() >= file.len() && wanted.is_ok() {
+        tally.count("refusal 6: room for the old file");
+    }
+}
+
+/// Both functions on a plan's file in each of its editions. Each is the same plan, and so has the same answers.
+fn plan_alike(rng: &mut Rng, plan: &Plan, tally: &mut Tally) {
+    for edition in editions_of(plan) {
+        tally.count(format!("edition {}", edition as u32));
+        let file = file_in(edition, plan);
+        assert_eq!(plain::read(&file).as_ref(), Ok(plan));
+        rewrite_alike(rng, &file, tally);
+        answers_alike(rng, &file, tally);
     }
 }
 
@@ -66,7 +82,7 @@ fn file_alike(rng: &mut Rng, file: &[u8], tally: &mut Tally) {
 
 fn load_in_percent(plan: &Plan) -> u64 {
     let (setup, slot) = (plain::setup(&plan.timing), plain::slot(&plan.timing));
-    let share = |s: &Stream| 1_000_000 * slot.unwrap_or(setup + u64::from(s.payload)) / u64::from(s.period);
+    let share = |s: &Stream| 1_000_000 * slot.unwrap_or(setup + plain::acknowledged(s)) / u64::from(s.period);
     plan.streams.iter().map(share).sum::<u64>() / 10_000
 }
 
@@ -90,6 +106,7 @@ fn tally_plan(tally: &mut Tally, plan: &Plan) {
         _ => "NB: 32",
     });
     tally_slot(tally, plan);
+    tally_acknowledgements(tally, plan);
 }
 
 #[test]
@@ -99,18 +116,21 @@ fn drawn_plans() {
         let plan = drawn(&mut rng, plan, &mut tallies);
         let tally = tallies.of(&plan);
         tally_plan(tally, &plan);
-        let file = file_of(&plan);
-        rewrite_alike(&mut rng, &file, tally);
-        answers_alike(&mut rng, &file, tally);
+        plan_alike(&mut rng, &plan, tally);
     }
     tallies.print("drawn plans");
     tallies.need_all(&["row: met", "row: missed", "row: none", "refusal 6"], 10_000);
     tallies.need_all(&["refusal 6: room but for the instances"], 5_000);
     tallies.need_all(&["worst: the first instance", "worst: the second instance", "worst: a later instance"], 1_000);
-    tallies.need_all(&["lent: too short", "lent: exact", "lent: longer", "streams: 1", "streams: 64"], 5_000);
+    tallies.need_all(&["lent: too short", "lent: exact", "lent: longer", "streams: 1"], 5_000);
+    tallies.need_all(&["streams: 64"], 3_000);
     tallies.need_all(&["load: below 50 %", "load: 50 to 89 %", "load: 90 to 99 %", "load: 100 % and above"], 5_000);
     tallies.need_all(&["gaps: 0", "gaps: 8", "NB: 1 to 4", "NB: 5 to 31", "NB: 32"], 1_000);
-    need_all(&tallies.slots, &["slot: just long enough", "slot: longer"], 10_000);
+    tallies.need_slotted(&["slot: just long enough", "slot: longer"], 10_000);
+    tallies.need_all(&["edition 3"], 50_000);
+    need_all(&tallies.one, &["edition 1", "refusal 6: room for the old file"], 1_000);
+    need_all(&tallies.two, &["edition 2", "refusal 6: room for the old file"], 1_000);
+    need_all(&tallies.three, &["slot: none", "K: 0", "K: 1 to 100", "K: 101 to 65,534", "K: 65,535"], 5_000);
 }
 
 #[test]
@@ -120,43 +140,48 @@ fn plans_at_the_limits() {
         let plan = drawn(&mut rng, edge_plan, &mut tallies);
         let tally = tallies.of(&plan);
         tally_slot(tally, &plan);
-        let file = file_of(&plan);
-        rewrite_alike(&mut rng, &file, tally);
-        answers_alike(&mut rng, &file, tally);
+        tally_acknowledgements(tally, &plan);
+        plan_alike(&mut rng, &plan, tally);
     }
     tallies.print("plans with every field at or next to a limit");
     tallies.need_all(&["row: met", "row: missed", "row: none"], 1_000);
-    need_all(&tallies.slots, &["slot: just long enough", "slot: longer"], 1_000);
+    tallies.need_slotted(&["slot: just long enough", "slot: longer"], 1_000);
+    need_all(&tallies.three, &["slot: none", "K: 0", "K: 1 to 100", "K: 101 to 65,534", "K: 65,535"], 1_000);
 }
 
 /// P next to C'' of every row: the lowest row that does not fit is told, also where too little memory is lent, and one that fits
 /// just so is not.
 #[test]
 fn slots_next_to_every_message() {
-    let (mut rng, mut tally) = (Rng(0x510757), Tally::default());
-    for _ in 0..3_000 {
+    let (mut rng, mut tallies) = (Rng(0x510757), ByEdition::default());
+    for _ in 0..4_000 {
         let (n, m) = (rng.pick(&[1, 2, 3, 5, 8, 64]), rng.below(9) as usize);
-        let mut plan = plan_in(&mut rng, Edition::Two, n, m);
+        let edition = rng.pick(&[Edition::Two, Edition::Three]);
+        let mut plan = plan_in(&mut rng, edition, n, m);
         let messages = in_slots(&plan);
         for slot in messages.iter().flat_map(|&message| [message - 1, message, message + 1]).filter(|&slot| slot > 0) {
             plan.timing[P] = slot;
-            tally_slot(&mut tally, &plan);
-            let file = file_of(&plan);
-            let too_long =
-                messages.iter().position(|&message| message > slot).map(|row| Refused { number: 10, place: row as u64 });
-            tally.count(match too_long {
+            let tally = tallies.of(&plan);
+            tally_slot(tally, &plan);
+            let (file, whole) = (file_in(edition, &plan), file_of(&plan));
+            let row = messages.iter().position(|&message| message > slot);
+            tally.count(match row {
                 None => "all fit",
-                Some(Refused { place: 0, .. }) => "the first row does not fit",
+                Some(0) => "the first row does not fit",
                 Some(_) => "a later row does not fit",
             });
-            for lent in [0, file.len() - 1, file.len()] {
-                let small = (lent < file.len()).then_some(Refused { number: 6, place: 0 });
-                let wanted = too_long.or(small).map_or(Ok(file.len()), Err);
+            if row.is_some_and(|row| messages[row] - plan.streams[row].acknowledgement <= slot) {
+                tally.count("a row does not fit for its acknowledgement");
+            }
+            let too_long = row.map(|row| Refused { number: 10, place: row as u64 });
+            for lent in [0, whole.len() - 1, whole.len()] {
+                let small = (lent < whole.len()).then_some(Refused { number: 6, place: 0 });
+                let wanted = too_long.or(small).map_or(Ok(whole.len()), Err);
                 let found = bytes(rng.next(), lent);
                 let (mut proved, mut ours) = (found.clone(), found.clone());
                 assert_eq!(livnakesh::rewrite(&file, &mut proved), wanted, "{lent} bytes lent: {}", hex(&file));
                 assert_eq!(plain::rewrite(&file, &mut ours), wanted, "{lent} bytes lent: {}", hex(&file));
-                let written = if wanted.is_ok() { &file } else { &found };
+                let written = if wanted.is_ok() { &whole } else { &found };
                 assert_eq!((&proved, &ours), (written, written), "{lent} bytes lent: {}", hex(&file));
             }
             let wanted = Err(too_long.unwrap_or(Refused { number: 6, place: 0 }));
@@ -166,9 +191,10 @@ fn slots_next_to_every_message() {
             assert_eq!(few, found, "{}", hex(&file));
         }
     }
-    tally.print("slots next to C'' of every row");
-    need_all(&tally, &["all fit", "the first row does not fit", "a later row does not fit"], 5_000);
-    need_all(&tally, &["slot: too short", "slot: just long enough", "slot: longer"], 1_000);
+    tallies.print("slots next to C'' of every row");
+    tallies.need_slotted(&["all fit", "the first row does not fit", "a later row does not fit"], 5_000);
+    tallies.need_slotted(&["slot: too short", "slot: just long enough", "slot: longer"], 1_000);
+    tallies.three.need("a row does not fit for its acknowledgement", 5_000);
 }
 
 /// Periods next to C'' and long jitters: hundreds of thousands of steps or instances each.
@@ -179,8 +205,10 @@ fn long_chains() {
         [(5, 0, 0), (5, 1, 0), (5, 1, 100_000), (5, 3, 1_000_000), (482, 0, 500), (4_982, 0, 1), (1, 2, 700_000)]
     {
         let period = payload + 20 + more;
+        let acknowledgement = payload / 2;
+        let late = Stream { acknowledgement, ..stream(7, 3, period, jitter, payload - acknowledgement, 1_000) };
         for gaps in [vec![], vec![u32::MAX]] {
-            let mut streams = vec![stream(7, 3, period, jitter, payload, 1_000)];
+            let mut streams = vec![late];
             for others in 0..2 {
                 let file = file_of(&Plan { timing: BASE, streams: streams.clone(), gaps: gaps.clone() });
                 tally.count("plans");
@@ -219,14 +247,19 @@ fn long_chains_in_slots() {
 #[test]
 fn busy_periods_at_the_horizon() {
     let (mut rng, mut tally) = (Rng(0x4022), Tally::default());
-    // With T one more than C'', L is J times C''. F makes C'' of the payload.
-    for (f, jitter, wanted) in [(0, 65_537, true), (0, 65_538, false), (1, 65_535, true), (1, 65_536, false)] {
-        let timing = [f, 0, 0, 0, 0, 0, 0, 0, 1, 0];
-        let plan = Plan { timing, streams: vec![stream(1, 0, 65_536 + f, jitter, 65_535, 1)], gaps: vec![] };
-        let length = u64::from(jitter) * u64::from(65_535 + f);
-        let busy_period = Analysis::new(&plan).levels().find_map(|level| level.busy_period());
-        assert_eq!(busy_period, wanted.then_some(length));
-        while answers_alike(&mut rng, &file_of(&plan), &mut tally).is_none() {}
+    // With T one more than C'', L is J times C''. F or K makes C'' of the payload.
+    for (f, k) in [(0, 0), (1, 0), (0, 1)] {
+        let cost = 65_535 + f + k;
+        let longest = u32::MAX / cost;
+        for (jitter, wanted) in [(longest, true), (longest + 1, false)] {
+            let timing = [f, 0, 0, 0, 0, 0, 0, 0, 1, 0];
+            let late = Stream { acknowledgement: k, ..stream(1, 0, cost + 1, jitter, 65_535, 1) };
+            let plan = Plan { timing, streams: vec![late], gaps: vec![] };
+            let length = u64::from(jitter) * u64::from(cost);
+            let busy_period = Analysis::new(&plan).levels().find_map(|level| level.busy_period());
+            assert_eq!(busy_period, wanted.then_some(length));
+            while answers_alike(&mut rng, &file_of(&plan), &mut tally).is_none() {}
+        }
     }
     tally.print("busy periods at the horizon");
     need_all(&tally, &["row: missed", "row: none"], 2);
@@ -260,7 +293,7 @@ fn terms_by_counting(plan: &Plan, row: usize, most: u64) -> Option<Vec<i64>> {
     let slots = plan.timing[P] > 0;
     let [p, h] = [P, H].map(|k| u64::from(plan.timing[k]));
     let v = if slots { 0 } else { plain::before(&plan.timing) };
-    let sent = |s: &Stream| u64::from(s.payload) + plain::overhead(&plan.timing);
+    let sent = |s: &Stream| u64::from(s.payload) + u64::from(s.acknowledgement) + plain::overhead(&plan.timing);
     let cost = |s: &Stream| if slots { p } else { v + sent(s) };
     let own = &plan.streams[row];
     let last = if slots { sent(own) + h } else { v + sent(own) };
@@ -294,12 +327,15 @@ fn small_plan(rng: &mut Rng) -> Plan {
     let slots = plan.timing[P] > 0;
     plan.timing = std::array::from_fn(|_| rng.below(4) as u32);
     plan.timing[plain::NB] = rng.within(2, 5) as u32;
-    plan.streams.iter_mut().for_each(|s| s.payload = rng.within(1, 9) as u32);
+    for s in &mut plan.streams {
+        s.payload = rng.within(1, 9) as u32;
+        s.acknowledgement = s.acknowledgement.min(rng.within(1, 9) as u32);
+    }
     plan.timing[P] = if slots { shortest_slot(&plan) + rng.below(4) as u32 } else { 0 };
     let (setup, slot) = (plain::setup(&plan.timing), plain::slot(&plan.timing));
     for (k, s) in plan.streams.iter_mut().enumerate() {
         s.priority = Priority(k as u32);
-        let even = slot.unwrap_or(setup + u64::from(s.payload)) * n as u64;
+        let even = slot.unwrap_or(setup + plain::acknowledged(s)) * n as u64;
         s.period = if rng.one_in(3) { rng.within(1, 2 * even) } else { rng.within(even, even + even / 4) } as u32;
         s.jitter = rng.below(3 * u64::from(s.period)) as u32 * rng.below(2) as u32;
     }
@@ -311,12 +347,12 @@ fn small_plan(rng: &mut Rng) -> Plan {
 /// Messages of one cost, and periods and jitters of whole and half costs, so that many instances are equally late.
 fn even_plan(rng: &mut Rng) -> Plan {
     let mut plan = small_plan(rng);
-    let payload = plan.streams[0].payload;
-    plan.streams.iter_mut().for_each(|s| s.payload = payload);
+    let longest = plan.streams.iter().map(|s| s.payload + s.acknowledgement).max().expect("a plan has streams");
+    plan.streams.iter_mut().for_each(|s| s.payload = longest - s.acknowledgement);
     if plan.timing[P] > 0 {
         plan.timing[P] = shortest_slot(&plan);
     }
-    let cost = plain::slot(&plan.timing).unwrap_or(plain::setup(&plan.timing) + u64::from(payload));
+    let cost = plain::slot(&plan.timing).unwrap_or(plain::setup(&plan.timing) + u64::from(longest));
     let n = plan.streams.len() as u64;
     for s in &mut plan.streams {
         let halves = rng.within((2 * n - 2).max(2), 2 * n + 3);
@@ -385,7 +421,7 @@ fn bad_word(rng: &mut Rng, file: &[u8], old: u32) -> u32 {
     let limits = [0, 1, 2, 32, 33, 65_535, 65_536, LONGEST_SLOT, LONGEST_SLOT + 1, u32::MAX];
     match rng.below(4) {
         0 => rng.pick(&limits),
-        1 => rng.pick(&[old.wrapping_add(1), old.wrapping_sub(1), old.wrapping_add(24), old.wrapping_sub(4)]),
+        1 => old.wrapping_add(rng.pick(&[1, 24, 28, 4_u32.wrapping_neg(), u32::MAX])),
         2 => copy,
         _ => rng.wide(),
     }
@@ -418,9 +454,9 @@ fn resize(rng: &mut Rng, file: &mut Vec<u8>, tally: &mut Tally) {
     let length = file.len();
     match rng.below(4) {
         0 => file.truncate(rng.below(length as u64) as usize),
-        1 => file.truncate(length - rng.pick(&[1, 4, 24])),
+        1 => file.truncate(length - rng.pick(&[1, 4, 24, 28])),
         2 => file.resize(length + rng.pick(&[1, 3, 4, 24, 28]), 1),
-        _ => file.resize(length + rng.within(1, 1_700) as usize, rng.next() as u8),
+        _ => file.resize(length + rng.within(1, 1_900) as usize, rng.next() as u8),
     }
     tally.count(if file.len() < length { "damage: truncated" } else { "damage: extended" });
 }
@@ -435,17 +471,17 @@ fn damaged(rng: &mut Rng, plan: &Plan, tally: &mut Tally) -> Vec<u8> {
     if (2..5).contains(&kind) {
         repeat(rng, &mut plan, tally);
     }
-    let mut file = file_of(&plan);
+    let mut file = any_file_of(rng, &plan);
     match kind {
         0..=4 => {}
         5 => {
             tally.count("damage: P of 0 in edition 2");
             plan.timing[P] = 0;
-            file = edition_2_of(&plan);
+            file = file_in(Edition::Two, &plan);
         }
         6 => {
-            tally.count("damage: the other edition's word");
-            file[0] ^= 3;
+            tally.count("damage: another edition's word");
+            file[0] = 1 + (file[0] + rng.below(2) as u8) % 3;
         }
         7..=8 => resize(rng, &mut file, tally),
         _ => damage(rng, &mut file, tally),
@@ -472,25 +508,26 @@ fn damaged_files() {
         &["refusal 1", "refusal 2", "refusal 3", "refusal 4", "refusal 5", "refusal 10", "refusal 6", "answered"],
         1_000,
     );
-    tallies.need_all(&["damage: P", "damage: P of 0 in edition 2", "damage: the other edition's word"], 1_000);
+    tallies.need_all(&["damage: P", "damage: P of 0 in edition 2", "damage: another edition's word"], 1_000);
 }
 
-/// Files of 1 to 64 streams with more or fewer in the contents, and counts that are out of range.
+/// Files of 1 to 64 streams with more or fewer in the contents, and counts that are out of range: 76 streams of an older edition are
+/// as long as the longest file.
 #[test]
 fn contents_of_all_sizes() {
     let (mut rng, mut tallies) = (Rng(0x512E5), ByEdition::default());
-    for edition in [Edition::One, Edition::Two] {
-        for n in 0..=67_usize {
+    for edition in EDITIONS {
+        for n in (0..=67_usize).chain(75..=77) {
             for m in 0..=10_usize {
                 let mut plan = plan_in(&mut rng, edition, n.clamp(1, 64), m);
                 let last = plan.streams[0];
                 plan.streams.truncate(n);
                 plan.streams.resize(n, last);
                 let tally = tallies.of(&plan);
-                let file = file_of(&plan);
+                let file = file_in(edition, &plan);
                 file_alike(&mut rng, &file, tally);
                 for place in 0..11 {
-                    for change in [1, 4, 24, u32::MAX, 0x8000_0000] {
+                    for change in [1, 4, 24, 28, u32::MAX, 0x8000_0000] {
                         file_alike(&mut rng, &with_more(&file, place, change), tally);
                     }
                 }
@@ -512,18 +549,18 @@ fn with_more(file: &[u8], place: usize, more: u32) -> Vec<u8> {
 #[test]
 fn random_bytes() {
     let (mut rng, mut tally) = (Rng(0xB17E5), Tally::default());
-    let starts = [Edition::One, Edition::Two].map(|edition| file_of(&plan_in(&mut rng, edition, 5, 2)));
+    let starts = EDITIONS.map(|edition| file_in(edition, &plan_in(&mut rng, edition, 5, 2)));
     for _ in 0..100_000 {
         let length = rng.within(0, 2_000) as usize;
         let mut file = bytes(rng.next(), length);
         if rng.one_in(2) {
-            let start = &starts[rng.below(2) as usize];
+            let start = &starts[rng.below(3) as usize];
             let right = length.min(rng.within(0, 84) as usize);
             file[..right].copy_from_slice(&start[..right]);
         }
         file_alike(&mut rng, &file, &mut tally);
     }
-    for length in [0, 1, 43, 44, 45, 79, 80, 83, 84, 85, 1_647, 1_648, 1_649, 1_651, 1_652, 1_653] {
+    for length in [0, 1, 43, 44, 45, 79, 80, 83, 84, 85, 1_648, 1_649, 1_652, 1_653, 1_907, 1_908, 1_909] {
         file_alike(&mut rng, &vec![0; length], &mut tally);
     }
     tally.print("random bytes, 0 to 2,000 of them");
@@ -536,12 +573,13 @@ fn plain_writer_and_reader_agree() {
     let (mut rng, mut tally) = (Rng(0x3217E), Tally::default());
     for _ in 0..50_000 {
         let mut plan = plan(&mut rng);
-        match rng.below(7) {
+        match rng.below(8) {
             0 => plan.timing[rng.below(9) as usize] = rng.wide(),
             1 => repeat(&mut rng, &mut plan, &mut tally),
-            4 => plan.timing[P] = other_slot(&mut rng, &plan),
             2 => plan.streams[0].payload = rng.wide(),
             3 => plan.gaps.extend([rng.wide(); 3]),
+            4 => plan.timing[P] = other_slot(&mut rng, &plan),
+            5 => plan.streams[0].acknowledgement = rng.wide(),
             _ => {}
         }
         let file = file_of(&plan);
@@ -591,11 +629,12 @@ fn renumber(rng: &mut Rng, plan: &mut Plan) {
 }
 
 fn ease_stream(rng: &mut Rng, s: &mut Stream) {
-    match rng.below(6) {
+    match rng.below(7) {
         0 => s.period = more(rng, s.period, u32::MAX),
         1 => s.jitter = less(rng, s.jitter, 0),
         2 => s.payload = less(rng, s.payload, 1),
         3 => s.deadline = more(rng, s.deadline, u32::MAX),
+        4 => s.acknowledgement = less(rng, s.acknowledgement, 0),
         _ => {}
     }
 }
@@ -692,7 +731,8 @@ fn hurt(rng: &mut Rng, old: &Plan, new: &mut Plan, condition: u64) {
             new.streams[other].priority = kept;
         }
         8 => hurt_noise(rng, new),
-        _ => new.timing[P] = if old.timing[P] > 0 { 0 } else { shortest_slot(new) },
+        9 => new.timing[P] = if old.timing[P] > 0 { 0 } else { shortest_slot(new) },
+        _ => stream.acknowledgement = more(rng, before.acknowledgement, 65_535),
     }
 }
 
@@ -700,8 +740,10 @@ fn hurt(rng: &mut Rng, old: &Plan, new: &mut Plan, condition: u64) {
 fn demand_3(old: &Plan, new: &Plan) -> bool {
     let find = |label: Label| old.streams.iter().find(|s| s.label == label);
     let no_harder = |s: &Stream| {
-        find(s.label)
-            .is_some_and(|o| s.period >= o.period && s.deadline >= o.deadline && s.jitter <= o.jitter && s.payload <= o.payload)
+        find(s.label).is_some_and(|o| {
+            let longer = s.period >= o.period && s.deadline >= o.deadline;
+            longer && s.jitter <= o.jitter && s.payload <= o.payload && s.acknowledgement <= o.acknowledgement
+        })
     };
     let in_order = |a: &Stream, b: &Stream| match (find(a.label), find(b.label)) {
         (Some(old_a), Some(old_b)) => (a.priority < b.priority) == (old_a.priority < old_b.priority),
@@ -744,6 +786,7 @@ fn condition(reason: Reason) -> String {
         Reason::LongerJitter(_) => "condition 4, longer jitter".into(),
         Reason::LongerPayload(_) => "condition 5, longer payload".into(),
         Reason::ShorterDeadline(_) => "condition 6, shorter deadline".into(),
+        Reason::LongerAcknowledgement(_) => "condition 10, longer acknowledgement".into(),
         Reason::LessUrgent(_) => "condition 7, less urgent".into(),
         Reason::MoreNoise(_) => "condition 8, more noise".into(),
     }
@@ -761,8 +804,9 @@ fn lighter_alike(first: &[u8], second: &[u8], tally: &mut Tally) -> Compared {
     said
 }
 
-fn pair_alike(old: &Plan, new: &Plan, tally: &mut Tally) {
-    let (first, second) = (file_of(old), file_of(new));
+fn pair_alike(rng: &mut Rng, old: &Plan, new: &Plan, tally: &mut Tally) {
+    let (first, second) = (any_file_of(rng, old), any_file_of(rng, new));
+    tally.count(format!("editions {} and {}", first[0], second[0]));
     let said = lighter_alike(&first, &second, tally);
     if plain::check(old).and(plain::check(new)).is_err() {
         return;
@@ -784,25 +828,24 @@ fn repeat_gaps(rng: &mut Rng, plan: &mut Plan) {
 #[test]
 fn pairs_of_plans() {
     let (mut rng, mut tallies) = (Rng(0x116473), ByEdition::default());
-    for _ in 0..30_000 {
+    for _ in 0..40_000 {
         let mut old = plan(&mut rng);
         if rng.one_in(3) {
             repeat_gaps(&mut rng, &mut old);
         }
         let tally = tallies.of(&old);
-        pair_alike(&old, &old, tally);
+        pair_alike(&mut rng, &old, &old, tally);
         let easy = eased(&mut rng, &old);
-        pair_alike(&old, &easy, tally);
-        pair_alike(&easy, &old, tally);
+        pair_alike(&mut rng, &old, &easy, tally);
+        pair_alike(&mut rng, &easy, &old, tally);
         for mut new in [old.clone(), easy.clone(), easy] {
-            let condition = rng.within(1, 9);
-            hurt(&mut rng, &old, &mut new, condition);
-            pair_alike(&old, &new, tally);
-            let condition = rng.within(1, 9);
-            hurt(&mut rng, &old, &mut new, condition);
-            pair_alike(&old, &new, tally);
+            for _ in 0..2 {
+                let condition = rng.within(1, 10);
+                hurt(&mut rng, &old, &mut new, condition);
+                pair_alike(&mut rng, &old, &new, tally);
+            }
         }
-        let (mut first, mut second) = (damaged(&mut rng, &old, &mut Tally::default()), file_of(&old));
+        let (mut first, mut second) = (damaged(&mut rng, &old, &mut Tally::default()), any_file_of(&mut rng, &old));
         lighter_alike(&first, &second, tally);
         std::mem::swap(&mut first, &mut second);
         lighter_alike(&first, &second, tally);
@@ -813,10 +856,13 @@ fn pairs_of_plans() {
     for k in 0..9 {
         tallies.need_all(&[&format!("condition 1, constant {k}")], 100);
     }
-    tallies.slots.need(&format!("condition 1, constant {P}"), 500);
+    tallies.need_slotted(&[&format!("condition 1, constant {P}")], 500);
     tallies.need_all(&["condition 2, new label", "condition 3, shorter period", "condition 4, longer jitter"], 500);
     tallies.need_all(&["condition 5, longer payload", "condition 6, shorter deadline", "condition 7, less urgent"], 500);
-    tallies.need_all(&["condition 8, more noise", "condition 9, master node"], 500);
+    tallies.need_all(&["condition 8, more noise", "condition 9, master node", "condition 10, longer acknowledgement"], 500);
+    need_all(&tallies.one, &["editions 1 and 1", "editions 1 and 2", "editions 1 and 3", "editions 3 and 1"], 1_000);
+    need_all(&tallies.two, &["editions 2 and 2", "editions 2 and 1", "editions 2 and 3", "editions 3 and 2"], 1_000);
+    need_all(&tallies.three, &["editions 3 and 1", "editions 3 and 2", "editions 3 and 3"], 200);
     tallies.need_all(&["promise: row was met", "promise: row was missed", "promise: row had none"], 500);
     tallies.need_all(&["promise: another instance is the worst"], 50);
     for number in [1, 2, 3, 4, 5, 10] {

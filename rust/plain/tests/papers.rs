@@ -345,15 +345,19 @@ fn slots_with_the_constants_of_000() {
     assert_eq!(sparse, [[(0, 712)]]);
 }
 
-/// After the message a slot of 000 also has SWX and an acknowledgement, 589 together, which are no part of C''. So the rules take
-/// slots from 9,158 on, where equation 1 asks for 9,747.
+/// After the message a slot of 000 also has SWX and an acknowledgement, 589 together, which are no part of its C''. So without a K
+/// the rules take slots from 9,158 on, where equation 1 asks for 9,747; and with these as K they ask for the same.
 #[test]
 fn the_shortest_slot() {
-    let says = |pulse| {
-        let file = file_of(&slotted(&Kit { pulse, ..CLASSICAL }, UNNAMED, 2));
+    let says = |pulse, acknowledgement| {
+        let mut plan = slotted(&Kit { pulse, ..CLASSICAL }, UNNAMED, 2);
+        plan.streams.iter_mut().for_each(|s| s.acknowledgement = acknowledgement);
+        let file = file_of(&plan);
         (livnakesh::answer_words(&file, &mut [0; ROW * 10]), plain::answers(&file, &mut [0; ROW * 10]))
     };
     let refused = Err(Refused { number: 10, place: 0 });
-    assert_eq!(says(9_157), (refused, refused));
-    assert_eq!(says(9_158), (Ok(()), Ok(())));
+    for (acknowledgement, shortest) in [(0, 9_158), (SWX + ACK, 9_747)] {
+        assert_eq!(says(shortest - 1, acknowledgement), (refused, refused));
+        assert_eq!(says(shortest, acknowledgement), (Ok(()), Ok(())));
+    }
 }

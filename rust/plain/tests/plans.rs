@@ -1,11 +1,13 @@
-//! Document 01's plans to run and plans in slots, with the figures that document 02 makes of them, worked out by hand: through the
-//! proved library and the plain planner.
+//! Document 01's plans to run, plans in slots and plans with acknowledgements, with the figures that document 02 makes of them, worked
+//! out by hand: through the proved library and the plain planner.
 
 mod common;
 
-use common::{edition_2_of, file_of, met, met_at, missed, missed_at, stream, terms, values_of, BASE, LONGEST_SLOT};
-use livnakesh::{Answer, Compared, Outcome, Phase, Priority, Reason, Refused, Row};
-use plain::{self, Analysis, Level, Plan, Tournament, NB, P, ROW};
+use common::{
+    editions_of, file_in, file_of, met, met_at, missed, missed_at, stream, terms, values_of, BASE, LARGEST, LONGEST_SLOT,
+};
+use livnakesh::{Answer, Compared, Label, Outcome, Phase, Priority, Reason, Refused, Row, Stream};
+use plain::{self, Analysis, Edition, Level, Plan, Tournament, NB, P, ROW};
 
 /// 10.1, 10.10 and 11.2.
 const LABELS: [u32; 3] = [0xa_0001, 0xa_000a, 0xb_0002];
@@ -40,6 +42,29 @@ const SLOTS: [u8; 156] = [
     2, 0, 11, 0,   3, 0, 0, 0,  144, 1, 0, 0,  0, 0, 0, 0,   2, 0, 0, 0,  200, 0, 0, 0,
 ];
 
+/// P1 with acknowledgements of 3, 2 and 0.
+#[rustfmt::skip]
+const ACKNOWLEDGED: [u8; 168] = [
+    3, 0, 0, 0,  3, 0, 0, 0,
+    1, 0, 0, 0,  44, 0, 0, 0,  40, 0, 0, 0,
+    2, 0, 0, 0,  84, 0, 0, 0,  84, 0, 0, 0,
+    3, 0, 0, 0,  168, 0, 0, 0,  0, 0, 0, 0,
+    // as in P1, and P 0
+    4, 0, 0, 0,  1, 0, 0, 0,  1, 0, 0, 0,  2, 0, 0, 0,  1, 0, 0, 0,  1, 0, 0, 0,  2, 0, 0, 0,  1, 0, 0, 0,  4, 0, 0, 0,
+    0, 0, 0, 0,
+    // label, priority, T, J, C, D, K
+    1, 0, 10, 0,   1, 0, 0, 0,  100, 0, 0, 0,  0, 0, 0, 0,   5, 0, 0, 0,  60, 0, 0, 0,   3, 0, 0, 0,
+    10, 0, 10, 0,  2, 0, 0, 0,  150, 0, 0, 0,  10, 0, 0, 0,  7, 0, 0, 0,  120, 0, 0, 0,  2, 0, 0, 0,
+    2, 0, 11, 0,   3, 0, 0, 0,  144, 1, 0, 0,  0, 0, 0, 0,   2, 0, 0, 0,  200, 0, 0, 0,  0, 0, 0, 0,
+];
+
+/// P1 as it is written.
+fn p1_written() -> [u8; 168] {
+    let mut file = ACKNOWLEDGED;
+    [file[108], file[136]] = [0, 0];
+    file
+}
+
 fn p1() -> Plan {
     let streams =
         vec![stream(LABELS[0], 1, 100, 0, 5, 60), stream(LABELS[1], 2, 150, 10, 7, 120), stream(LABELS[2], 3, 400, 0, 2, 200)];
@@ -55,6 +80,14 @@ fn in_slots(plan: Plan, slot: u32) -> Plan {
     let mut timing = plan.timing;
     timing[P] = slot;
     Plan { timing, ..plan }
+}
+
+/// With these acknowledgements of its first streams.
+fn acknowledged(mut plan: Plan, acknowledgements: &[u32]) -> Plan {
+    for (s, &k) in plan.streams.iter_mut().zip(acknowledgements) {
+        s.acknowledgement = k;
+    }
+    plan
 }
 
 fn p7() -> Plan {
@@ -124,12 +157,15 @@ fn screened(plan: &Plan) -> Result<Vec<Answer>, Refused> {
     Ok(rows)
 }
 
+/// By the plan's values and by its file in each of its editions.
 fn gives(plan: &Plan, wanted: &[Answer]) {
-    let file = file_of(plan);
-    assert_eq!(answers(&file), Ok(wanted.to_vec()));
     assert_eq!(screened(plan), Ok(wanted.to_vec()));
-    assert_eq!(written(plan).as_ref(), Ok(&file));
-    assert_eq!(rewritten(&file), Ok(file));
+    assert_eq!(written(plan), Ok(file_of(plan)));
+    for edition in editions_of(plan) {
+        let file = file_in(edition, plan);
+        assert_eq!(answers(&file), Ok(wanted.to_vec()));
+        assert_eq!(rewritten(&file), Ok(file_of(plan)));
+    }
 }
 
 fn values_are_refused(plan: &Plan, number: u64, place: u64) {
@@ -142,12 +178,17 @@ fn is_refused(file: &[u8], number: u64, place: u64) {
     let wanted = Refused { number, place };
     assert_eq!(answers(file), Err(wanted));
     assert_eq!(rewritten(file), Err(wanted));
-    for other in [&P1[..], &SLOTS[..]] {
+    for other in [&P1[..], &SLOTS[..], &ACKNOWLEDGED[..]] {
         for lighter in [livnakesh::lighter, plain::lighter] {
             assert_eq!(lighter(file, other), Compared::FirstRefused(wanted));
             assert_eq!(lighter(other, file), Compared::SecondRefused(wanted));
         }
     }
+}
+
+fn compared(old: &[u8], new: &[u8], wanted: Compared) {
+    assert_eq!(livnakesh::lighter(old, new), wanted);
+    assert_eq!(plain::lighter(old, new), wanted);
 }
 
 fn at_level<T>(plan: &Plan, row: usize, say: impl Fn(&Level) -> T) -> T {
@@ -158,11 +199,8 @@ fn at_level<T>(plan: &Plan, row: usize, say: impl Fn(&Level) -> T) -> T {
 
 #[test]
 fn p1_is_its_152_bytes_and_all_is_met() {
-    assert_eq!(file_of(&p1()), P1);
-    let mut buffer = [0; 152];
-    assert_eq!(plain::write(&p1(), &mut buffer), Ok(152));
-    assert_eq!(buffer, P1);
-    assert_eq!(written(&p1()), Ok(P1.to_vec()));
+    assert_eq!(file_in(Edition::One, &p1()), P1);
+    assert_eq!(include_bytes!("../../../examples/p1.plan"), &P1);
     gives(&p1(), &[met(43), met(75), met(74)]);
     assert_eq!((plain::before(&BASE), plain::overhead(&BASE)), (8, 12));
     assert_eq!([0, 1, 2].map(|row| at_level(&p1(), row, |level| level.own.cost)), [25, 27, 22]);
@@ -259,7 +297,7 @@ fn p11_has_a_payload_of_0() {
     is_refused(&file, 3, 96);
     let mut plan = p1();
     plan.streams[0].payload = 0;
-    values_are_refused(&plan, 3, 96);
+    values_are_refused(&plan, 3, 100);
 }
 
 // ---- slots ----
@@ -269,9 +307,8 @@ fn p11_has_a_payload_of_0() {
 #[test]
 fn p1_in_slots() {
     let plan = in_slots(p1(), 30);
-    assert_eq!(file_of(&plan), SLOTS);
+    assert_eq!(file_in(Edition::Two, &plan), SLOTS);
     assert_eq!(include_bytes!("../../../examples/slots.plan"), &SLOTS);
-    assert_eq!(written(&plan), Ok(SLOTS.to_vec()));
     gives(&plan, &[met(47), met(89), met(104)]);
     let level = |row: usize| at_level(&plan, row, |level| (level.own.last, level.own.cost, level.wait(0, 0)));
     assert_eq!([0, 1, 2].map(level), [(18, 30, 29), (20, 30, 59), (15, 30, 89)]);
@@ -351,33 +388,42 @@ fn a_slot_as_long_as_the_longest_message() {
     values_are_refused(&in_slots(p1(), 1), 10, 0);
 }
 
+/// In edition 3 it may also be 0, as it is wherever `gives` tries P1.
 #[test]
 fn p_is_1_to_5_000_000() {
     gives(&in_slots(p1(), LONGEST_SLOT), &[Answer::None; 3]);
-    values_are_refused(&in_slots(p1(), LONGEST_SLOT + 1), 3, 80);
-    values_are_refused(&in_slots(p1(), u32::MAX), 3, 80);
-    is_refused(&edition_2_of(&p1()), 3, 80);
+    for slot in [LONGEST_SLOT + 1, u32::MAX] {
+        values_are_refused(&in_slots(p1(), slot), 3, 80);
+        is_refused(&file_in(Edition::Two, &in_slots(p1(), slot)), 3, 80);
+    }
+    is_refused(&file_in(Edition::Two, &p1()), 3, 80);
 }
 
-/// A place is that of the file that the values would have, and with a master node the streams start 4 bytes later.
+/// A file has the places of its own edition, and lent values have those of edition 3, with a master node and without.
 #[test]
-fn the_lowest_wrong_field_in_slots() {
-    let mut plan = p1();
-    plan.streams[0].payload = 0;
-    values_are_refused(&plan, 3, 96);
-    values_are_refused(&in_slots(plan.clone(), 30), 3, 100);
+fn the_lowest_wrong_field() {
+    let mut plan = Plan { gaps: vec![9, 0], ..p1() };
+    is_refused(&file_in(Edition::One, &plan), 3, 80 + 72 + 4);
+    is_refused(&file_in(Edition::Two, &in_slots(plan.clone(), 30)), 3, 84 + 72 + 4);
+    values_are_refused(&plan, 3, 84 + 84 + 4);
+    values_are_refused(&in_slots(plan.clone(), 30), 3, 84 + 84 + 4);
+    plan.streams[1].payload = 0;
+    is_refused(&file_in(Edition::One, &plan), 3, 80 + 24 + 16);
+    is_refused(&file_in(Edition::Two, &in_slots(plan.clone(), 30)), 3, 84 + 24 + 16);
+    values_are_refused(&plan, 3, 84 + 28 + 16);
+    values_are_refused(&in_slots(plan.clone(), 30), 3, 84 + 28 + 16);
     values_are_refused(&in_slots(plan.clone(), LONGEST_SLOT + 1), 3, 80);
-    is_refused(&edition_2_of(&plan), 3, 80);
+    is_refused(&file_in(Edition::Two, &plan), 3, 80);
     plan.timing[NB] = 33;
     values_are_refused(&in_slots(plan.clone(), LONGEST_SLOT + 1), 3, 76);
-    is_refused(&edition_2_of(&plan), 3, 76);
+    is_refused(&file_in(Edition::Two, &plan), 3, 76);
 }
 
 /// 3, 4, 5, 10 and then 6, though 10 is the greatest number.
 #[test]
 fn the_stated_order_decides() {
     let mut plan = in_slots(p1(), 15);
-    let (mut bytes, mut words) = ([77; 155], [77; 3 * ROW - 1]);
+    let (mut bytes, mut words) = ([77; 167], [77; 3 * ROW - 1]);
     for refused in [
         livnakesh::write(3, 0, &values_of(&plan), &mut bytes).map(|_| ()),
         livnakesh::rewrite(&file_of(&plan), &mut bytes).map(|_| ()),
@@ -386,20 +432,21 @@ fn the_stated_order_decides() {
     ] {
         assert_eq!(refused, Err(Refused { number: 10, place: 0 }));
     }
-    assert_eq!((bytes, words), ([77; 155], [77; 3 * ROW - 1]));
+    assert_eq!((bytes, words), ([77; 167], [77; 3 * ROW - 1]));
     plan.streams[2].label = plan.streams[0].label;
     values_are_refused(&plan, 5, 2);
     plan.streams[1].priority = plan.streams[0].priority;
     values_are_refused(&plan, 4, 1);
     plan.streams[2].deadline = 0;
-    values_are_refused(&plan, 3, 152);
+    values_are_refused(&plan, 3, 160);
 }
 
 /// Without a master node C'' may be as great as it will.
 #[test]
 fn no_slot_is_too_short_without_a_master_node() {
-    let streams = vec![stream(1, 1, 1_000_000, 0, 65_535, 1_000_000)];
-    gives(&Plan { streams, ..p1() }, &[met(65_555)]);
+    let plan = Plan { streams: vec![stream(1, 1, 1_000_000, 0, 65_535, 1_000_000)], ..p1() };
+    gives(&plan, &[met(65_555)]);
+    gives(&acknowledged(plan, &[65_535]), &[met(131_090)]);
 }
 
 #[test]
@@ -412,23 +459,43 @@ fn nine_timing_words_are_no_master_node() {
     assert_eq!((nine, none), (wanted, wanted));
 }
 
-/// The largest of either edition, and a few bytes more or less.
-#[test]
-fn the_largest_files() {
-    let streams = (0..64).map(|row| stream(row, row, 4_000_000, 0, 5, 4_000_000)).collect();
+/// So many streams that hardly ever send, and 8 gaps.
+fn crowd(streams: u32) -> Plan {
     let mut timing = BASE;
     timing[NB] = 6;
-    let plan = Plan { timing, streams, gaps: vec![4_000_000; 8] };
-    for (plan, length) in [(plan.clone(), 1_648), (in_slots(plan, 30), 1_652)] {
-        let file = file_of(&plan);
+    let streams = (0..streams).map(|row| stream(row, row, 4_000_000, 0, 5, 4_000_000)).collect();
+    Plan { timing, streams, gaps: vec![4_000_000; 8] }
+}
+
+/// The largest of each edition, and a few bytes more or less.
+#[test]
+fn the_largest_files() {
+    let slots = in_slots(crowd(64), 30);
+    for (edition, plan, length) in
+        [(Edition::One, crowd(64), 1_648), (Edition::Two, slots.clone(), 1_652), (Edition::Three, slots, LARGEST)]
+    {
+        let file = file_in(edition, &plan);
         assert_eq!(file.len(), length);
-        assert_eq!(rewritten(&file), Ok(file.clone()));
+        assert_eq!(rewritten(&file), Ok(file_of(&plan)));
         assert!(answers(&file).is_ok_and(|rows| rows.len() == 64));
         is_refused(&file[..length - 1], 2, 0);
-        for more in [1, 4, 5] {
-            let longer = [&file[..], &[0; 5][..more]].concat();
-            is_refused(&longer, if longer.len() > 1_652 { 1 } else { 2 }, 0);
+        for long in [length + 1, length + 4, LARGEST - 1, LARGEST, LARGEST + 1].into_iter().filter(|&long| long > length) {
+            let mut longer = file.clone();
+            longer.resize(long, 0);
+            is_refused(&longer, if long > LARGEST { 1 } else { 2 }, 0);
         }
+    }
+}
+
+/// No file of an older edition is as long as these.
+#[test]
+fn files_of_1_653_to_1_908_bytes() {
+    for streams in 56..=64 {
+        let plan = acknowledged(crowd(streams), &[7]);
+        let file = file_of(&plan);
+        assert!(file.len() > 1_652 && file.len() <= 1_908);
+        assert_eq!(rewritten(&file), Ok(file.clone()));
+        assert!(answers(&file).is_ok_and(|rows| rows.len() == streams as usize));
     }
 }
 
@@ -436,23 +503,162 @@ fn the_largest_files() {
 fn lighter_in_slots() {
     let faster = in_slots(p1(), 29);
     let mut slower = in_slots(p1(), 31);
-    let again = |reason| Compared::RunAgain(reason);
-    let alike = |old: &[u8], new: &[u8], wanted| {
-        assert_eq!(livnakesh::lighter(old, new), wanted);
-        assert_eq!(plain::lighter(old, new), wanted);
-    };
-    alike(&SLOTS, &SLOTS, Compared::Lighter);
-    alike(&SLOTS, &file_of(&faster), Compared::Lighter);
-    alike(&file_of(&faster), &SLOTS, again(Reason::GreaterConstant(P)));
-    alike(&SLOTS, &P1, again(Reason::MasterNode));
-    alike(&P1, &SLOTS, again(Reason::MasterNode));
+    let again = Compared::RunAgain;
+    compared(&SLOTS, &SLOTS, Compared::Lighter);
+    compared(&SLOTS, &file_of(&faster), Compared::Lighter);
+    compared(&file_of(&faster), &SLOTS, again(Reason::GreaterConstant(P)));
+    compared(&SLOTS, &P1, again(Reason::MasterNode));
+    compared(&P1, &SLOTS, again(Reason::MasterNode));
     // The master node comes before the constants, and P after NB.
     slower.timing[NB] = 5;
-    alike(&P1, &file_of(&slower), again(Reason::MasterNode));
-    alike(&SLOTS, &file_of(&slower), again(Reason::GreaterConstant(NB)));
+    compared(&P1, &file_of(&slower), again(Reason::MasterNode));
+    compared(&SLOTS, &file_of(&slower), again(Reason::GreaterConstant(NB)));
     slower.timing[NB] = 4;
     slower.streams[0].jitter = 1;
-    alike(&SLOTS, &file_of(&slower), again(Reason::GreaterConstant(P)));
+    compared(&SLOTS, &file_of(&slower), again(Reason::GreaterConstant(P)));
+}
+
+// ---- acknowledgements ----
+
+/// C' is 20, 21 and 14, and C'' 28, 29 and 22. 10.1 is blocked by 10.10 (20) and sent (28); 10.10 has a jitter of 10, is blocked by
+/// 11.2 (13), waits for 10.1 (28) and is sent (29); 11.2 waits for both (57) and is sent (22).
+#[test]
+fn p1_acknowledged() {
+    let plan = acknowledged(p1(), &[3, 2, 0]);
+    assert_eq!(file_of(&plan), ACKNOWLEDGED);
+    assert_eq!(include_bytes!("../../../examples/acknowledged.plan"), &ACKNOWLEDGED);
+    gives(&plan, &[met(48), met(80), met(79)]);
+    assert_eq!([0, 1, 2].map(|row| at_level(&plan, row, |level| level.own.cost)), [28, 29, 22]);
+}
+
+/// A hit costs the longest of a stream and the more urgent ones, its acknowledgement too: 28, 29 and 29.
+#[test]
+fn p2_acknowledged() {
+    let plan = acknowledged(Plan { gaps: vec![1_000], ..p1() }, &[3, 2, 0]);
+    gives(&plan, &[missed(76), met(109), met(108)]);
+}
+
+/// C'' is 21, 22 and 15: 29 + 21, 10 + 29 + 30 + 22, 29 + 60 + 15.
+#[test]
+fn p1_acknowledged_in_slots() {
+    let slots = |slot| in_slots(acknowledged(p1(), &[3, 2, 0]), slot);
+    gives(&slots(30), &[met(50), met(91), met(104)]);
+    gives(&slots(22), &[met(42), met(75), met(80)]);
+    values_are_refused(&slots(21), 10, 1);
+    values_are_refused(&slots(20), 10, 0);
+}
+
+/// Messages of 18, 20 and 15 ticks fit in a slot of 20, as long as no acknowledgement makes one longer than that.
+#[test]
+fn an_acknowledgement_is_part_of_the_slot() {
+    let slots = |acknowledgements: &[u32]| in_slots(acknowledged(p1(), acknowledgements), 20);
+    gives(&slots(&[2, 0, 5]), &[met(39), met(69), met(79)]);
+    values_are_refused(&slots(&[2, 0, 6]), 10, 2);
+    values_are_refused(&slots(&[2, 1, 6]), 10, 1);
+    values_are_refused(&slots(&[65_535, 0, 0]), 10, 0);
+    gives(&acknowledged(p1(), &[65_535, 0, 0]), &[Answer::None; 3]);
+}
+
+/// K stands last in its record, and is at most 65,535.
+#[test]
+fn k_is_0_to_65_535() {
+    for (row, byte) in [(0, 108), (1, 136), (2, 164)] {
+        let mut plan = p1();
+        plan.streams[row].acknowledgement = 65_535;
+        assert_eq!(rewritten(&file_of(&plan)), Ok(file_of(&plan)));
+        for k in [65_536, u32::MAX] {
+            plan.streams[row].acknowledgement = k;
+            values_are_refused(&plan, 3, byte);
+            values_are_refused(&in_slots(plan.clone(), 20), 3, byte);
+        }
+        // After the deadline, and before the next row and the gaps.
+        plan.gaps = vec![0];
+        values_are_refused(&plan, 3, byte);
+        plan.streams[row].deadline = 0;
+        values_are_refused(&plan, 3, byte - 4);
+    }
+    let mut plan = acknowledged(p1(), &[65_536]);
+    plan.streams[1].period = 0;
+    values_are_refused(&plan, 3, 108);
+}
+
+/// With every constant at its limit V is 4, U 67, and C'' 73 times 65,535; in slots it is 70 times that.
+#[test]
+fn the_largest_costs() {
+    let mut timing = [65_535; 10];
+    [timing[NB], timing[P]] = [32, 0];
+    let streams = [1, 2].map(|k| Stream { acknowledgement: 65_535, ..stream(k, k, u32::MAX, 0, 65_535, u32::MAX) });
+    let plan = Plan { timing, streams: streams.to_vec(), gaps: vec![] };
+    gives(&plan, &[met(9_305_969), met(9_568_110)]);
+    gives(&in_slots(plan.clone(), 4_587_450), &[met(9_174_899), met(13_762_349)]);
+    values_are_refused(&in_slots(plan, 4_587_449), 10, 0);
+}
+
+/// An older file is written back as the file of edition 3 of the same plan, which is longer.
+#[test]
+fn older_files_are_rewritten() {
+    assert_eq!(rewritten(&P1), Ok(p1_written().to_vec()));
+    assert_eq!(include_bytes!("../../../examples/p1-rewritten.plan"), &p1_written());
+    assert_eq!(rewritten(&SLOTS), Ok(file_of(&in_slots(p1(), 30))));
+    for file in [&P1[..], &SLOTS[..], &p1_written()[..], &ACKNOWLEDGED[..]] {
+        for rewrite in [livnakesh::rewrite, plain::rewrite] {
+            let mut buffer = [77; 169];
+            assert_eq!(rewrite(file, &mut buffer[..167]), Err(Refused { number: 6, place: 0 }));
+            assert_eq!(buffer, [77; 169]);
+            assert_eq!(rewrite(file, &mut buffer), Ok(168));
+            assert_eq!(buffer[168], 77);
+        }
+    }
+}
+
+/// 42 words are seven streams in edition 2 and six in edition 3. Small words that are all different are right in every place.
+#[test]
+fn the_first_word_tells_the_records_apart() {
+    let mut timing = BASE;
+    [timing[NB], timing[P]] = [32, 200];
+    let record = |k: u32| stream(6 * k + 1, 6 * k + 2, 6 * k + 3, 6 * k + 4, 6 * k + 5, 6 * k + 6);
+    let seven = Plan { timing, streams: (0..7).map(record).collect(), gaps: vec![9] };
+    let mut file = file_in(Edition::Two, &seven);
+    assert_eq!(answers(&file), Ok(vec![Answer::None; 7]));
+    assert_eq!(rewritten(&file), Ok(file_of(&seven)));
+    file[0] = 3;
+    assert_eq!(answers(&file), Ok(vec![Answer::None; 6]));
+    assert_eq!(rewritten(&file), Ok(file));
+}
+
+#[test]
+fn lighter_with_acknowledgements() {
+    let longer = |row: usize| Compared::RunAgain(Reason::LongerAcknowledgement(Label(LABELS[row])));
+    let with = |acknowledgements: &[u32]| acknowledged(p1(), acknowledgements);
+    compared(&ACKNOWLEDGED, &ACKNOWLEDGED, Compared::Lighter);
+    compared(&ACKNOWLEDGED, &file_of(&with(&[3, 1, 0])), Compared::Lighter);
+    compared(&ACKNOWLEDGED, &file_of(&with(&[3, 3, 0])), longer(1));
+    compared(&ACKNOWLEDGED, &file_of(&with(&[2, 1, 1])), longer(2));
+    // What a shorter payload gains is not counted.
+    let mut shorter = with(&[4, 2, 0]);
+    shorter.streams[0].payload = 1;
+    compared(&ACKNOWLEDGED, &file_of(&shorter), longer(0));
+    // It comes after the deadline of its own stream, and before the next stream.
+    shorter.streams[1].label = Label(1);
+    compared(&ACKNOWLEDGED, &file_of(&shorter), longer(0));
+    shorter.streams[0].deadline = 59;
+    compared(&ACKNOWLEDGED, &file_of(&shorter), Compared::RunAgain(Reason::ShorterDeadline(Label(LABELS[0]))));
+}
+
+/// Their plans are compared and not their editions: an acknowledgement that is not in the file is 0, and P alone tells a master node.
+#[test]
+fn lighter_across_editions() {
+    let (slots, without) = (file_of(&in_slots(p1(), 30)), p1_written());
+    for (old, new) in [(&P1[..], &without[..]), (&SLOTS[..], &slots[..])] {
+        compared(old, new, Compared::Lighter);
+        compared(new, old, Compared::Lighter);
+    }
+    compared(&ACKNOWLEDGED, &P1, Compared::Lighter);
+    compared(&P1, &ACKNOWLEDGED, Compared::RunAgain(Reason::LongerAcknowledgement(Label(LABELS[0]))));
+    for (old, new) in [(&without[..], &slots[..]), (&ACKNOWLEDGED[..], &SLOTS[..]), (&P1[..], &slots[..])] {
+        compared(old, new, Compared::RunAgain(Reason::MasterNode));
+        compared(new, old, Compared::RunAgain(Reason::MasterNode));
+    }
 }
 
 // ---- the tournament ----

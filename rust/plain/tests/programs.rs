@@ -6,7 +6,7 @@
 
 mod common;
 
-use common::{file_of, need_all, stream, terms, work, Rng, Tally, BASE, MOST_WORK};
+use common::{any_file_of, file_of, need_all, stream, terms, work, Rng, Tally, BASE, LARGEST, MOST_WORK};
 use livnakesh::{Compared, Label, Phase, Priority, Reason, Refused};
 use plain::{self, Analysis, Plan, Tournament, NB, ROW};
 use std::io::Write;
@@ -104,9 +104,9 @@ fn fine(file: &[u8]) -> String {
     plain::read(file).map_or_else(refusal, |_| "fine\n".into())
 }
 
-/// A plan has one file, so what is written back is what was read.
+/// One file is written of a plan, of edition 3: so what is written back of such a file is what was read.
 fn rewritten(file: &[u8]) -> Vec<u8> {
-    plain::read(file).map_or_else(|refused| refusal(refused).into_bytes(), |_| file.to_vec())
+    plain::read(file).map_or_else(|refused| refusal(refused).into_bytes(), |plan| file_of(&plan))
 }
 
 fn status(file: &[u8]) -> i32 {
@@ -124,6 +124,7 @@ fn reason(reason: Reason) -> String {
         Reason::LongerJitter(l) => format!("{} has a longer jitter", label(l)),
         Reason::LongerPayload(l) => format!("{} has a longer payload", label(l)),
         Reason::ShorterDeadline(l) => format!("{} has a shorter deadline", label(l)),
+        Reason::LongerAcknowledgement(l) => format!("{} has a longer acknowledgement", label(l)),
         Reason::LessUrgent(l) => format!("{} comes after a stream that it came before", label(l)),
         Reason::MoreNoise(gap) => format!("more noise sources with a gap of {gap} or less"),
     }
@@ -187,7 +188,7 @@ fn cases() -> Vec<Case> {
         std::fs::read_dir(folder).expect("the cases").map(|entry| entry.expect("a case").path()).collect();
     plans.retain(|path| path.extension().is_some_and(|kind| kind == "plan"));
     plans.sort();
-    assert!(plans.len() >= 401, "only {} cases", plans.len());
+    assert!(plans.len() >= 570, "only {} cases", plans.len());
     let case = |path: PathBuf| Case {
         name: path.file_stem().expect("a name").to_string_lossy().into_owned(),
         plan: std::fs::read(&path).expect("a plan file"),
@@ -223,7 +224,7 @@ fn refusals_on_all_cases() {
 
 #[test]
 fn rewrite_on_all_cases() {
-    on_all_cases("rewrite", |case| if case.shown.starts_with(b"refused ") { case.shown.clone() } else { case.plan.clone() });
+    on_all_cases("rewrite", |case| if case.shown.starts_with(b"refused ") { case.shown.clone() } else { rewritten(&case.plan) });
 }
 
 // ---- drawn plans, damaged plans, random bytes, pipes ----
@@ -244,7 +245,7 @@ fn drawn_and_damaged_plans() {
         if work(&plan, MOST_WORK).is_none() {
             continue;
         }
-        let mut file = file_of(&plan);
+        let mut file = any_file_of(&mut rng, &plan);
         on_file(&file, usize::MAX);
         let at = rng.below(file.len() as u64) as usize;
         file[at] ^= 1 << rng.below(8);
@@ -257,7 +258,7 @@ fn drawn_and_damaged_plans() {
 #[test]
 fn random_bytes_and_files_of_any_length() {
     let mut rng = Rng(0xb17e5);
-    for length in [0, 1, 43, 44, 79, 80, 103, 104, 107, 108, 1_647, 1_648, 1_649, 1_652, 1_653, 4_095, 4_096, 4_097, 70_000] {
+    for length in [0, 1, 43, 44, 79, 80, 103, 104, 111, 112, 1_648, 1_652, 1_653, 1_908, 1_909, 4_095, 4_096, 4_097, 70_000] {
         let bytes: Vec<u8> = (0..length).map(|_| rng.next() as u8).collect();
         on_file(&bytes, usize::MAX);
     }
@@ -267,9 +268,9 @@ fn random_bytes_and_files_of_any_length() {
 fn input_that_comes_byte_by_byte() {
     let cases = cases();
     let largest = cases.iter().filter(|case| status(&case.plan) == ANSWERED).max_by_key(|case| case.plan.len()).expect("a plan");
-    assert_eq!(largest.plan.len(), 1_652);
+    assert_eq!(largest.plan.len(), LARGEST);
     on_file(&largest.plan, 1);
-    on_file(&largest.plan[..1_651], 1);
+    on_file(&largest.plan[..LARGEST - 1], 1);
     let one_more = [&largest.plan[..], &[0]].concat();
     on_file(&one_more, 1);
 }
@@ -330,19 +331,36 @@ fn lighter_on_the_pairs_of_the_gate() {
     assert_eq!(run_in(&folder, "lighter", &[], list.trim_end().as_bytes(), usize::MAX), (wanted.into_bytes(), worst));
 }
 
+/// What is told of pairs of examples.
+fn lighter_on(pairs: &[(&str, &str, &str, i32)]) {
+    let folder = top().join("examples/lighter");
+    for &(old, new, line, ended) in pairs {
+        assert_eq!(run_in(&folder, "lighter", &[old, new], b"", 1), (line.as_bytes().to_vec(), ended), "{old} {new}");
+    }
+}
+
 #[test]
 fn lighter_with_a_master_node() {
-    let folder = top().join("examples/lighter");
     let other = "run again: one plan has a master node and the other has none\n";
-    for (old, new, line, ended) in [
+    lighter_on(&[
         ("slots-desk.plan", "slots-desk.plan", "lighter\n", ANSWERED),
         ("slots-desk.plan", "slots-faster.plan", "lighter\n", ANSWERED),
         ("slots-desk.plan", "slots-slower.plan", "run again: P is greater\n", RUN_AGAIN),
         ("desk.plan", "slots-desk.plan", other, RUN_AGAIN),
         ("slots-desk.plan", "desk.plan", other, RUN_AGAIN),
-    ] {
-        assert_eq!(run_in(&folder, "lighter", &[old, new], b"", 1), (line.as_bytes().to_vec(), ended), "{old} {new}");
-    }
+    ]);
+}
+
+#[test]
+fn lighter_with_acknowledgements() {
+    let longer = "run again: 10.10 has a longer acknowledgement\n";
+    lighter_on(&[
+        ("desk.plan", "rewritten.plan", "lighter\n", ANSWERED),
+        ("rewritten.plan", "desk.plan", "lighter\n", ANSWERED),
+        ("acknowledged.plan", "desk.plan", "lighter\n", ANSWERED),
+        ("desk.plan", "acknowledged.plan", longer, RUN_AGAIN),
+        ("rewritten.plan", "acknowledged.plan", longer, RUN_AGAIN),
+    ]);
 }
 
 /// A name is never cut: a file under the first bytes of another's name is not taken for it.
@@ -461,6 +479,13 @@ fn sham_programs_are_seen() {
         Ok(())
     };
     assert!(seen(&|case| listing_by(&case.plan, last_instance).into_bytes()));
+    // of ours: leaves the acknowledgements out
+    let no_acknowledgements = |file: &[u8], words: &mut [u64]| {
+        let mut plan = plain::read(file)?;
+        plan.streams.iter_mut().for_each(|s| s.acknowledgement = 0);
+        plain::screen(&plan, words)
+    };
+    assert!(seen(&|case| listing_by(&case.plan, no_acknowledgements).into_bytes()));
     // writes no answers
     assert!(seen(&|case| listing_by(&case.plan, |file, _| plain::read(file).map(|_| ())).into_bytes()));
     // prints the same listing, whatever it reads, and copies its input, whatever that is

@@ -4,15 +4,15 @@
 mod common;
 
 use common::{
-    bytes, drawn, edge_plan, file_of, lent, lent_words, need_all, other_slot, plan, plan_in, plan_of, repeat, stream,
-    tally_no_room, tally_refusal, tally_rows, values_of, words, work, ByEdition, Counts, Rng, Tally, LARGEST, MOST_WORK,
+    bytes, drawn, edge_plan, file_of, lent, lent_words, other_slot, plan, plan_in, plan_of, repeat, stream, tally_no_room,
+    tally_refusal, tally_rows, values_of, words, work, ByEdition, Counts, Rng, Tally, EDITIONS, LARGEST, MOST_WORK,
 };
-use livnakesh::Refused;
-use plain::{self, Edition, Plan, P, ROW};
+use livnakesh::{Refused, Stream};
+use plain::{self, Plan, P, ROW};
 
 /// Counts that no plan has, among them some that a cut to fewer bits or a product that wraps would take for a plan's.
 const WRONG_COUNTS: [usize; 10] =
-    [65, 66, 128, 256 + 3, 65_536 + 1, (1 << 32) + 2, usize::MAX / 24 + 2, usize::MAX / 4 + 2, 1 << 63, usize::MAX];
+    [65, 66, 128, 256 + 3, 65_536 + 1, (1 << 32) + 2, usize::MAX / 28 + 2, usize::MAX / 4 + 2, 1 << 63, usize::MAX];
 
 fn tally_counts(tally: &mut Tally, n: usize, m: usize) {
     tally.count(match n {
@@ -28,21 +28,25 @@ fn tally_counts(tally: &mut Tally, n: usize, m: usize) {
     });
 }
 
+/// Without streams there are no acknowledgements.
+fn need_no_streams(tallies: &ByEdition, least: u64) {
+    tallies.one.need("counts: no streams", least);
+    tallies.two.need("counts: no streams", least);
+}
+
 fn size(plan: &Plan) -> usize {
-    Edition::of(&plan.timing).size(plan.streams.len(), plan.gaps.len())
+    84 + 28 * plan.streams.len() + 4 * plan.gaps.len()
 }
 
 /// What was said, and for 3 the kind of field.
 fn tally_said<T>(tally: &mut Tally, plan: &Plan, said: Result<T, Refused>) {
     if let Err(Refused { number: 3, place }) = said {
-        let slots = plan.timing[P] > 0;
-        let streams = if slots { 84 } else { 80 };
         let kind = match place as usize {
             44..=75 => "constant",
             76 => "NB",
-            80 if slots => "P",
-            byte if byte >= streams + 24 * plan.streams.len() => "gap",
-            byte => ["label", "priority", "period", "jitter", "payload", "deadline"][(byte - streams) / 4 % 6],
+            80 => "P",
+            byte if byte >= 84 + 28 * plan.streams.len() => "gap",
+            byte => ["label", "priority", "period", "jitter", "payload", "deadline", "acknowledgement"][(byte - 84) / 4 % 7],
         };
         tally.count(format!("refusal 3: {kind}"));
     }
@@ -66,14 +70,15 @@ fn hurt(rng: &mut Rng, plan: &mut Plan, tallies: &mut ByEdition) {
     let row = rng.below(plan.streams.len() as u64) as usize;
     let gap = rng.below(plan.gaps.len().max(1) as u64) as usize;
     let stream = &mut plan.streams[row];
-    match rng.below(9) {
+    match rng.below(10) {
         0 => plan.timing[rng.below(8) as usize] = word,
         1 => plan.timing[plain::NB] = word,
         2 => stream.priority.0 = word,
         3 => stream.period = word,
         4 => stream.payload = word,
         5 => stream.deadline = word,
-        6 if !plan.gaps.is_empty() => plan.gaps[gap] = word,
+        6 => stream.acknowledgement = word,
+        7 if !plan.gaps.is_empty() => plan.gaps[gap] = word,
         _ => repeat(rng, plan, tallies),
     }
 }
@@ -100,10 +105,11 @@ fn plan_from(n: usize, m: usize, values: &[u32]) -> Plan {
     let (n, m) = (n.min(65), m.min(9));
     let word = |k: usize| values.get(k).copied().unwrap_or(0);
     let streams = (0..n).map(|row| {
-        let [label, priority, period, jitter, payload, deadline] = std::array::from_fn(|k| word(10 + 6 * row + k));
-        stream(label, priority, period, jitter, payload, deadline)
+        let [label, priority, period, jitter, payload, deadline, acknowledgement] =
+            std::array::from_fn(|k| word(10 + 7 * row + k));
+        Stream { acknowledgement, ..stream(label, priority, period, jitter, payload, deadline) }
     });
-    Plan { timing: std::array::from_fn(word), streams: streams.collect(), gaps: (0..m).map(|k| word(10 + 6 * n + k)).collect() }
+    Plan { timing: std::array::from_fn(word), streams: streams.collect(), gaps: (0..m).map(|k| word(10 + 7 * n + k)).collect() }
 }
 
 fn reads_back(plan: &Plan, file: &[u8]) {
@@ -144,11 +150,11 @@ fn write_alike(rng: &mut Rng, n: usize, m: usize, values: &[u32], tallies: &mut 
 #[test]
 fn values_of_drawn_plans() {
     let (mut rng, mut tallies) = (Rng(0x7A1E5), ByEdition::default());
-    for _ in 0..80_000 {
+    for _ in 0..120_000 {
         let plan = if rng.one_in(4) { edge_plan(&mut rng) } else { plan(&mut rng) };
         let (n, m) = (plan.streams.len(), plan.gaps.len());
         let mut values = values_of(&plan);
-        let more = rng.pick(&[0, 0, 1, 6, 500]);
+        let more = rng.pick(&[0, 0, 1, 7, 500]);
         tallies.of(&plan).count(if more == 0 { "words: as many as needed" } else { "words: more" });
         values.extend((0..more).map(|_| rng.wide()));
         let said = write_alike(&mut rng, n, m, &values, &mut tallies);
@@ -163,11 +169,11 @@ fn values_of_drawn_plans() {
 #[test]
 fn buffers_a_byte_short() {
     let (mut rng, mut tallies) = (Rng(0xB17E), ByEdition::default());
-    for (edition, least) in [(Edition::One, 80), (Edition::Two, 84)] {
+    for edition in EDITIONS {
         for n in 1..=64 {
             for m in 0..=8 {
                 let values = values_of(&plan_in(&mut rng, edition, n, m));
-                let needed = least + 24 * n + 4 * m;
+                let needed = 84 + 28 * n + 4 * m;
                 for length in [0, needed - 1, needed, needed + 1] {
                     let said = write_into(&bytes(rng.next(), length), n, m, &values, &mut tallies);
                     let wanted = if length < needed { Err(Refused { number: 6, place: 0 }) } else { Ok(needed) };
@@ -195,7 +201,7 @@ fn other_count(rng: &mut Rng, count: usize, most: usize) -> usize {
 #[test]
 fn values_with_other_counts() {
     let (mut rng, mut tallies) = (Rng(0xC0047), ByEdition::default());
-    for _ in 0..80_000 {
+    for _ in 0..120_000 {
         let plan = plan(&mut rng);
         let (mut n, mut m) = (plan.streams.len(), plan.gaps.len());
         match rng.below(4) {
@@ -206,7 +212,8 @@ fn values_with_other_counts() {
         _ = write_alike(&mut rng, n, m, &values_of(&plan), &mut tallies);
     }
     tallies.print("values with other counts to the writer");
-    tallies.need_all(&["counts: no streams", "counts: 65 to 1,000 streams", "counts: more streams"], 1_000);
+    tallies.need_all(&["counts: 65 to 1,000 streams", "counts: more streams"], 1_000);
+    need_no_streams(&tallies, 1_000);
     tallies.need_all(&["counts: 9 to 1,000 gaps", "counts: more gaps", "refusal 2", "refusal 3", "read back"], 1_000);
 }
 
@@ -214,15 +221,17 @@ fn values_with_other_counts() {
 #[test]
 fn too_few_words() {
     let (mut rng, mut tallies) = (Rng(0xFE3), ByEdition::default());
-    for _ in 0..600 {
+    for _ in 0..900 {
         let plan = plan(&mut rng);
         let (n, m) = (plan.streams.len(), plan.gaps.len());
         let values = values_of(&plan);
         let found = bytes(rng.next(), size(&plan));
         for count in 0..values.len() {
             let said = write_into(&found, n, m, &values[..count], &mut tallies);
-            // Not every word may be 0, but at least a deadline and a gap may not, and one of them is last.
-            assert!(matches!(said, Err(Refused { number: 3, .. })), "{said:?} for {count} words of {values:?}");
+            // Not every word may be 0. A deadline and a gap may not, and one of them is last but for an acknowledgement.
+            let right = m == 0 && count + 1 == values.len();
+            let refused = matches!(said, Err(Refused { number: 3, .. }));
+            assert!(if right { said == Ok(found.len()) } else { refused }, "{said:?} for {count} words of {values:?}");
         }
         assert_eq!(write_into(&found, n, m, &values, &mut tallies), Ok(found.len()));
     }
@@ -230,20 +239,21 @@ fn too_few_words() {
     tallies.need_all(&["refusal 3", "refusal 3: period", "refusal 3: payload", "refusal 3: deadline"], 1_000);
     tallies.need_all(&["refusal 3: gap", "answered"], 200);
     // P is lent after NB, so that without an NB there is no P either.
-    tallies.without.need("refusal 3: NB", 600);
+    tallies.one.need("refusal 3: NB", 900);
 }
 
 #[test]
 fn wrong_values_to_the_writer() {
     let (mut rng, mut tallies) = (Rng(0x3F0), ByEdition::default());
-    for _ in 0..150_000 {
+    for _ in 0..250_000 {
         let plan = hurt_plan(&mut rng, &mut tallies);
         _ = write_alike(&mut rng, plan.streams.len(), plan.gaps.len(), &values_of(&plan), &mut tallies);
     }
     tallies.print("wrong values to the writer");
     tallies.need_all(&["refusal 3", "refusal 4", "refusal 5", "refusal 6", "answered"], 1_000);
     tallies.need_all(&ALL_OF_3, 500);
-    need_all(&tallies.slots, &["refusal 3: P", "refusal 10"], 1_000);
+    tallies.need_slotted(&["refusal 3: P", "refusal 10"], 1_000);
+    tallies.three.need("refusal 3: acknowledgement", 500);
 }
 
 // ---- the screen ----
@@ -285,7 +295,7 @@ fn screen_alike(rng: &mut Rng, plan: &Plan, timing: &[u32], tallies: &mut ByEdit
 #[test]
 fn screens_of_drawn_plans() {
     let (mut rng, mut tallies) = (Rng(0x5C4EE), ByEdition::default());
-    for _ in 0..60_000 {
+    for _ in 0..90_000 {
         let draw = if rng.one_in(4) { edge_plan } else { plan };
         let plan = drawn(&mut rng, draw, &mut tallies);
         let said = screen_alike(&mut rng, &plan, &plan.timing, &mut tallies);
@@ -301,7 +311,7 @@ fn screens_of_drawn_plans() {
 #[test]
 fn words_one_short() {
     let (mut rng, mut tallies) = (Rng(0x3085), ByEdition::default());
-    for (edition, n) in [Edition::One, Edition::Two].into_iter().flat_map(|edition| (1..=64).map(move |n| (edition, n))) {
+    for (edition, n) in EDITIONS.into_iter().flat_map(|edition| (1..=64).map(move |n| (edition, n))) {
         let plan = loop {
             let plan = plan_in(&mut rng, edition, n, n % 9);
             if work(&plan, MOST_WORK).is_some() {
@@ -321,7 +331,7 @@ fn words_one_short() {
 #[test]
 fn screens_of_wrong_values() {
     let (mut rng, mut tallies) = (Rng(0x5C4E3), ByEdition::default());
-    for _ in 0..150_000 {
+    for _ in 0..250_000 {
         let plan = hurt_plan(&mut rng, &mut tallies);
         if plain::check(&plan).is_ok() && work(&plan, MOST_WORK).is_none() {
             tallies.of(&plan).count("(chains too long, not run)");
@@ -332,14 +342,15 @@ fn screens_of_wrong_values() {
     tallies.print("screens of wrong values");
     tallies.need_all(&["refusal 3", "refusal 4", "refusal 5", "refusal 6", "answered"], 1_000);
     tallies.need_all(&ALL_OF_3, 500);
-    need_all(&tallies.slots, &["refusal 3: P", "refusal 10"], 1_000);
+    tallies.need_slotted(&["refusal 3: P", "refusal 10"], 1_000);
+    tallies.three.need("refusal 3: acknowledgement", 500);
 }
 
 /// Lists that are empty or too long, whatever else is wrong with them.
 #[test]
 fn screens_of_other_lengths() {
     let (mut rng, mut tallies) = (Rng(0x1E46), ByEdition::default());
-    for _ in 0..40_000 {
+    for _ in 0..60_000 {
         let mut plan = drawn(&mut rng, plan, &mut tallies);
         let (n, last) = (plan.streams.len(), plan.streams[0]);
         match rng.below(4) {
@@ -360,7 +371,8 @@ fn screens_of_other_lengths() {
         _ = screen_alike(&mut rng, &plan, &plan.timing, &mut tallies);
     }
     tallies.print("screens with other numbers of streams and gaps");
-    tallies.need_all(&["counts: no streams", "counts: 65 to 1,000 streams", "counts: more streams"], 500);
+    tallies.need_all(&["counts: 65 to 1,000 streams", "counts: more streams"], 500);
+    need_no_streams(&tallies, 500);
     tallies.need_all(&["counts: 9 to 1,000 gaps", "counts: more gaps", "refusal 2"], 500);
     tallies.need_all(&["answered"], 200);
 }
@@ -381,7 +393,7 @@ fn short_either_way(rng: &mut Rng) -> Plan {
 #[test]
 fn timings_of_other_lengths() {
     let (mut rng, mut tallies) = (Rng(0x717), ByEdition::default());
-    for _ in 0..2_000 {
+    for _ in 0..3_000 {
         let plan = drawn(&mut rng, short_either_way, &mut tallies);
         let more = [rng.wide(), rng.wide(), rng.wide()];
         let timing = [&plan.timing[..], &more].concat();
@@ -394,6 +406,7 @@ fn timings_of_other_lengths() {
         }
     }
     tallies.print("timings of other lengths");
-    need_all(&tallies.without, &["refusal 3: NB", "answered", "row: met"], 3_000);
-    need_all(&tallies.slots, &["answered", "row: met"], 3_000);
+    tallies.need_all(&["answered", "row: met"], 3_000);
+    tallies.one.need("refusal 3: NB", 3_000);
+    tallies.three.need("refusal 3: NB", 3_000);
 }

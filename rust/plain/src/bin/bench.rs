@@ -5,7 +5,7 @@
 //! tournament every step is a call of its own, in which both sides check the whole state again.
 
 use livnakesh::{Label, Outcome, Phase, Priority, Row, Stream};
-use plain::{self, Edition, Plan, Timing, Tournament, ROW};
+use plain::{self, Plan, Timing, Tournament, ROW};
 use std::hint::black_box;
 use std::time::{Duration, Instant};
 
@@ -17,6 +17,9 @@ const BASE_6: Timing = [4, 1, 1, 2, 1, 1, 2, 1, 6, 0];
 /// As `BASE_6` with a master node.
 const SLOTS_6: Timing = [4, 1, 1, 2, 1, 1, 2, 1, 6, 30];
 
+/// The longest file, that of 64 streams and 8 gaps.
+const LARGEST: usize = 1_908;
+
 const ROUNDS: u32 = 60;
 
 /// How long a round of one side should take: long beside the clock's own step, short enough to go through undisturbed.
@@ -24,20 +27,20 @@ const ROUND: Duration = Duration::from_millis(2);
 
 fn stream(row: u32, period: u32, jitter: u32, payload: u32) -> Stream {
     let (label, priority) = (Label(0xa_0000 + row), Priority(row));
-    Stream { label, priority, period, jitter, payload, deadline: period }
+    Stream { label, priority, period, jitter, payload, deadline: period, acknowledgement: 0 }
 }
 
 /// 64 streams whose periods lie apart by up to a factor of 16, with a load of so many in 10,000.
 fn full(timing: Timing, load: u64, gaps: Vec<u32>) -> Plan {
-    let cost = |payload: u32| plain::slot(&timing).unwrap_or(plain::setup(&timing) + u64::from(payload));
+    let cost = |sent: u32| plain::slot(&timing).unwrap_or(plain::setup(&timing) + u64::from(sent));
     let weight = |row: u32| u64::from(16 - row / 4);
     let all: u64 = (0..64).map(weight).sum();
     // Rows stand in no order of priority, as on the desk.
     let streams = (0..64).map(|k| {
         let row = k * 37 % 64;
-        let payload = 5 + row % 7;
-        let period = cost(payload) * 10_000 * all / (load * weight(row));
-        stream(row, period as u32, 3 * row, payload)
+        let (payload, acknowledgement) = (5, row % 7);
+        let period = cost(payload + acknowledgement) * 10_000 * all / (load * weight(row));
+        Stream { acknowledgement, ..stream(row, period as u32, 3 * row, payload) }
     });
     Plan { timing, streams: streams.collect(), gaps }
 }
@@ -63,9 +66,9 @@ fn longest_busy_period(plan: &Plan) -> Option<u64> {
 }
 
 fn file(plan: &Plan) -> Vec<u8> {
-    let mut file = vec![0; Edition::of(&plan.timing).size(plan.streams.len(), plan.gaps.len())];
-    let wrote = plain::write(plan, &mut file);
-    assert_eq!(wrote, Ok(file.len()), "a plan of the benchmark is right");
+    let mut file = vec![0; LARGEST];
+    let length = plain::write(plan, &mut file).expect("a plan of the benchmark is right");
+    file.truncate(length);
     file
 }
 
@@ -118,7 +121,7 @@ fn answers_row(name: &str, rounds: u32, plan: &Plan) {
 }
 
 fn rewrite_row(name: &str, file: &[u8]) {
-    let (mut proved, mut ours) = ([0; 1_648], [0; 1_648]);
+    let (mut proved, mut ours) = ([0; LARGEST], [0; LARGEST]);
     assert_eq!(livnakesh::rewrite(file, &mut proved), plain::rewrite(file, &mut ours));
     assert_eq!(proved, ours);
     row(name, ROUNDS, &mut || _ = black_box(livnakesh::rewrite(black_box(file), black_box(&mut proved))), &mut || {
@@ -201,7 +204,7 @@ fn main() {
     answers_row("64 streams, the last of 32,757 evaluations, none", ROUNDS, &crowded());
     rewrite_row("read and write 64 streams, 8 gaps", &file(&noisy));
     let mut refused = file(&noisy);
-    refused[1_644..].fill(0);
+    refused[LARGEST - 4..].fill(0);
     rewrite_row("refuse 64 streams for their last gap", &refused);
     let mut light = noisy.clone();
     light.streams.reverse();

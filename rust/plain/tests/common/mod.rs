@@ -9,20 +9,23 @@ use std::io::Write;
 
 pub const BASE: plain::Timing = [4, 1, 1, 2, 1, 1, 2, 1, 4, 0];
 
+pub const EDITIONS: [Edition; 3] = [Edition::One, Edition::Two, Edition::Three];
+
 /// H's place in the timing.
 pub const H: usize = 4;
 
 /// The longest P.
 pub const LONGEST_SLOT: u32 = 5_000_000;
 
-/// The longest file, that of 64 streams, 8 gaps and a master node.
-pub const LARGEST: usize = 1_652;
+/// The longest file, that of 64 streams and 8 gaps in edition 3.
+pub const LARGEST: usize = 1_908;
 
 /// The terms that one plan may sum up; longer chains have a test of their own.
 pub const MOST_WORK: u64 = 60_000;
 
+/// Without an acknowledgement.
 pub fn stream(label: u32, priority: u32, period: u32, jitter: u32, payload: u32, deadline: u32) -> Stream {
-    Stream { label: Label(label), priority: Priority(priority), period, jitter, payload, deadline }
+    Stream { label: Label(label), priority: Priority(priority), period, jitter, payload, deadline, acknowledgement: 0 }
 }
 
 /// Met, with a bound that the first instance gives.
@@ -43,43 +46,66 @@ pub fn missed_at(bound: u64, instance: u64) -> Answer {
     Answer::Missed { bound, instance }
 }
 
-/// A plan's values as plain words, P among them whether there is a master node or not.
+/// A plan's values as plain words, P and K among them whether they are 0 or not.
 pub fn values_of(plan: &Plan) -> Vec<u32> {
-    let mut values = plan.timing.to_vec();
+    words_of(plan, 10, 7)
+}
+
+/// A plan's values with so many words of the timing and so many of each stream.
+fn words_of(plan: &Plan, timing: usize, stream: usize) -> Vec<u32> {
+    let mut words = plan.timing[..timing].to_vec();
     for s in &plan.streams {
-        values.extend([s.label.0, s.priority.0, s.period, s.jitter, s.payload, s.deadline]);
+        let all = [s.label.0, s.priority.0, s.period, s.jitter, s.payload, s.deadline, s.acknowledgement];
+        words.extend(&all[..stream]);
     }
-    values.extend(&plan.gaps);
-    values
+    words.extend(&plan.gaps);
+    words
 }
 
-/// The file of a plan, whether its values are right or not.
+/// The file that is written of a plan, whether its values are right or not.
 pub fn file_of(plan: &Plan) -> Vec<u8> {
+    file_in(Edition::Three, plan)
+}
+
+/// The file of a plan in an edition, whether its values are right or not. What the edition has no words for is left out.
+pub fn file_in(edition: Edition, plan: &Plan) -> Vec<u8> {
+    let (n, m) = (plan.streams.len() as u32, plan.gaps.len() as u32);
+    let (contents, values) = match edition {
+        Edition::One => ([1, 3, 1, 44, 36, 2, 80, 24 * n, 3, 80 + 24 * n, 4 * m], words_of(plan, 9, 6)),
+        Edition::Two => ([2, 3, 1, 44, 40, 2, 84, 24 * n, 3, 84 + 24 * n, 4 * m], words_of(plan, 10, 6)),
+        Edition::Three => ([3, 3, 1, 44, 40, 2, 84, 28 * n, 3, 84 + 28 * n, 4 * m], words_of(plan, 10, 7)),
+    };
+    contents.into_iter().chain(values).flat_map(u32::to_le_bytes).collect()
+}
+
+/// The oldest edition that has words for all of a plan.
+pub fn oldest(plan: &Plan) -> Edition {
+    if plan.streams.iter().any(|s| s.acknowledgement > 0) {
+        return Edition::Three;
+    }
     match plan.timing[plain::P] {
-        0 => edition_1_of(plan),
-        _ => edition_2_of(plan),
+        0 => Edition::One,
+        _ => Edition::Two,
     }
 }
 
-fn edition_1_of(plan: &Plan) -> Vec<u8> {
-    let (n, m) = (plan.streams.len() as u32, plan.gaps.len() as u32);
-    let mut words = vec![1, 3, 1, 44, 36, 2, 80, 24 * n, 3, 80 + 24 * n, 4 * m];
-    words.extend(values_of(plan));
-    words.remove(11 + plain::P);
-    words.into_iter().flat_map(u32::to_le_bytes).collect()
+/// The editions in which a plan has a file: its oldest one, and the one that is written.
+pub fn editions_of(plan: &Plan) -> Vec<Edition> {
+    match oldest(plan) {
+        Edition::Three => vec![Edition::Three],
+        old => vec![old, Edition::Three],
+    }
 }
 
-/// The same with P in it, also where that is 0.
-pub fn edition_2_of(plan: &Plan) -> Vec<u8> {
-    let (n, m) = (plan.streams.len() as u32, plan.gaps.len() as u32);
-    let contents = [2, 3, 1, 44, 40, 2, 84, 24 * n, 3, 84 + 24 * n, 4 * m];
-    contents.into_iter().chain(values_of(plan)).flat_map(u32::to_le_bytes).collect()
+/// The file of a plan in any of its editions.
+pub fn any_file_of(rng: &mut Rng, plan: &Plan) -> Vec<u8> {
+    file_in(rng.pick(&editions_of(plan)), plan)
 }
 
 /// C'' with a master node, of each row: C' + H. Of right constants alone, as others may be too great for the sum.
 pub fn in_slots(plan: &Plan) -> Vec<u32> {
     let beside = plain::overhead(&plan.timing) as u32 + plan.timing[H];
-    plan.streams.iter().map(|s| beside + s.payload).collect()
+    plan.streams.iter().map(|s| beside + s.payload + s.acknowledgement).collect()
 }
 
 /// The shortest slot that all messages fit in.
@@ -181,8 +207,24 @@ fn slot(rng: &mut Rng, shortest: u64) -> u32 {
     (shortest + more).min(u64::from(LONGEST_SLOT)) as u32
 }
 
-fn edition(rng: &mut Rng) -> Edition {
-    rng.pick(&[Edition::One, Edition::Two])
+/// Whether a plan of the edition is to have a master node.
+fn master_node(rng: &mut Rng, edition: Edition) -> bool {
+    match edition {
+        Edition::One => false,
+        Edition::Two => true,
+        Edition::Three => rng.one_in(2),
+    }
+}
+
+/// All 0 in an older edition; in edition 3 about half of them, and never all.
+fn acknowledgements(rng: &mut Rng, edition: Edition, count: usize) -> Vec<u32> {
+    let mut drawn = vec![0; count];
+    if edition == Edition::Three {
+        let most = rng.pick(&[1, 10, 100, 1_000, 65_535]);
+        drawn.fill_with(|| rng.within(0, most) as u32 * rng.below(2) as u32);
+        drawn[rng.below(count as u64) as usize] = rng.pick(&[1, most as u32]);
+    }
+    drawn
 }
 
 fn jitter(rng: &mut Rng, habit: u64, period: u64) -> u32 {
@@ -211,28 +253,32 @@ fn word(ticks: u64) -> u32 {
     ticks.clamp(1, u64::from(u32::MAX)) as u32
 }
 
-/// A plan that would be accepted, with a load from light to well above all of the channel.
+/// A plan that would be accepted, with a load from light to well above all of the channel. Each edition is the oldest for a third of
+/// them.
 pub fn plan(rng: &mut Rng) -> Plan {
     let (n, m) = counts(rng);
     plan_of(rng, n, m)
 }
 
 pub fn plan_of(rng: &mut Rng, n: usize, m: usize) -> Plan {
-    let edition = edition(rng);
+    let edition = rng.pick(&EDITIONS);
     plan_in(rng, edition, n, m)
 }
 
+/// One that the edition is the oldest for.
 pub fn plan_in(rng: &mut Rng, edition: Edition, n: usize, m: usize) -> Plan {
     let mut timing = timing(rng, n);
     let most_payload = rng.pick(&[1, 10, 100, 1_000, 65_535]);
     let payloads: Vec<u64> = (0..n).map(|_| rng.within(1, most_payload)).collect();
+    let acknowledgements = acknowledgements(rng, edition, n);
+    let sent = |k: usize| payloads[k] + u64::from(acknowledgements[k]);
+    let longest = (0..n).map(sent).max().expect("a plan has streams");
     let overhead = plain::overhead(&timing);
-    if edition == Edition::Two {
-        let longest = payloads.iter().max().expect("a plan has streams");
+    if master_node(rng, edition) {
         timing[plain::P] = slot(rng, longest + overhead + u64::from(timing[H]));
     }
-    let cost = |payload: u64| match timing[plain::P] {
-        0 => plain::before(&timing) + overhead + payload,
+    let cost = |sent: u64| match timing[plain::P] {
+        0 => plain::before(&timing) + overhead + sent,
         slot => u64::from(slot),
     };
     let load = rng.pick(&[50, 300, 600, 800, 900, 950, 980, 990, 1_000, 1_010, 1_100, 1_500, 4_000]);
@@ -244,12 +290,13 @@ pub fn plan_in(rng: &mut Rng, edition: Edition, n: usize, m: usize) -> Plan {
     let priorities = rng.distinct(n, u32::MAX >> (32 - timing[plain::NB]));
     let mut streams: Vec<Stream> = Vec::new();
     for k in 0..n {
-        let period = cost(payloads[k]) * 1_000 * all / (load * weights[k]) + rng.below(3);
+        let period = cost(sent(k)) * 1_000 * all / (load * weights[k]) + rng.below(3);
         let period = period.clamp(1, u64::from(u32::MAX));
         let jitter = jitter(rng, habit, period);
-        streams.push(stream(labels[k], priorities[k], period as u32, jitter, payloads[k] as u32, deadline(rng, period)));
+        let stream = stream(labels[k], priorities[k], period as u32, jitter, payloads[k] as u32, deadline(rng, period));
+        streams.push(Stream { acknowledgement: acknowledgements[k], ..stream });
     }
-    let hit = cost(most_payload);
+    let hit = cost(longest);
     let share = rng.pick(&[5, 20, 50, 200]);
     let gap = |rng: &mut Rng| match rng.below(8) {
         0 => rng.wide().max(1),
@@ -270,17 +317,20 @@ pub fn edge_plan(rng: &mut Rng) -> Plan {
     timing[plain::P] = 0;
     let priorities = rng.distinct(n, most);
     let labels = rng.distinct(n, u32::MAX);
+    let edition = rng.pick(&EDITIONS);
+    let acknowledgements: &[u32] = if edition == Edition::Three { &[0, 1, 65_534, 65_535] } else { &[0] };
     let wide = [1, 2, u32::MAX - 1, u32::MAX];
     let streams = (0..n).map(|k| {
         let priority = if k == 0 && !priorities.contains(&most) { most } else { priorities[k] };
         let jitter = rng.pick(&[0, 1, u32::MAX - 1, u32::MAX]);
         let period = rng.pick(&[1, 2, u32::MAX, u32::MAX, u32::MAX - 1, u32::MAX]);
-        stream(labels[k], priority, period, jitter, rng.pick(&[1, 2, 65_534, 65_535]), rng.pick(&wide))
+        let stream = stream(labels[k], priority, period, jitter, rng.pick(&[1, 2, 65_534, 65_535]), rng.pick(&wide));
+        Stream { acknowledgement: rng.pick(acknowledgements), ..stream }
     });
     let streams = streams.collect();
     let gaps = (0..m).map(|_| rng.pick(&[1, u32::MAX, u32::MAX, u32::MAX - 1])).collect();
     let mut plan = Plan { timing, streams, gaps };
-    if edition(rng) == Edition::Two {
+    if master_node(rng, edition) {
         let shortest = shortest_slot(&plan);
         plan.timing[plain::P] = rng.pick(&[shortest, shortest + 1, LONGEST_SLOT - 1, LONGEST_SLOT]);
     }
@@ -307,6 +357,18 @@ pub fn tally_slot(tally: &mut Tally, plan: &Plan) {
             Ordering::Greater => "slot: longer",
         },
     });
+}
+
+/// How long each stream's acknowledgement is.
+pub fn tally_acknowledgements(tally: &mut Tally, plan: &Plan) {
+    for s in &plan.streams {
+        tally.count(match s.acknowledgement {
+            0 => "K: 0",
+            1..=100 => "K: 1 to 100",
+            101..=65_534 => "K: 101 to 65,534",
+            _ => "K: 65,535",
+        });
+    }
 }
 
 /// The terms summed up in a plan's chains, or nothing if they are more than `most`; so that no case takes for ever.
@@ -439,31 +501,41 @@ impl Counts for Tally {
     }
 }
 
-/// A tally for plans without a master node and one for plans in slots, so that neither stands in for the other.
+/// A tally for each edition that is the oldest for a plan: without a master node, in slots, and with acknowledgements, so that none
+/// stands in for another.
 #[derive(Default)]
 pub struct ByEdition {
-    pub without: Tally,
-    pub slots: Tally,
+    pub one: Tally,
+    pub two: Tally,
+    pub three: Tally,
 }
 
 impl Counts for ByEdition {
     fn of(&mut self, plan: &Plan) -> &mut Tally {
-        match Edition::of(&plan.timing) {
-            Edition::One => &mut self.without,
-            Edition::Two => &mut self.slots,
+        match oldest(plan) {
+            Edition::One => &mut self.one,
+            Edition::Two => &mut self.two,
+            Edition::Three => &mut self.three,
         }
     }
 }
 
 impl ByEdition {
     pub fn need_all(&self, kinds: &[&str], least: u64) {
-        need_all(&self.without, kinds, least);
-        need_all(&self.slots, kinds, least);
+        need_all(&self.one, kinds, least);
+        self.need_slotted(kinds, least);
+    }
+
+    /// Of the plans that can have a master node.
+    pub fn need_slotted(&self, kinds: &[&str], least: u64) {
+        need_all(&self.two, kinds, least);
+        need_all(&self.three, kinds, least);
     }
 
     pub fn print(&self, title: &str) {
-        self.without.print(&format!("{title}, no master node"));
-        self.slots.print(&format!("{title}, in slots"));
+        self.one.print(&format!("{title}, no master node"));
+        self.two.print(&format!("{title}, in slots"));
+        self.three.print(&format!("{title}, acknowledged"));
     }
 }
 
