@@ -7,7 +7,7 @@ use Rattle.names.specs.declared.Refusal.{Refusal}
 use Rattle.judge.specs.declared.Checked.{Checked, the-variants.Refused}
 use Rattle.carried.specs.declared.Edition.{Edition}
 use Rattle.carried.specs.Layout as layout
-use Rattle.carried.specs.Carried.{planIn}
+use Rattle.carried.specs.Carried.{enteredIn}
 use Rattle.file.specs.declared.Counts.the-variants.{Of, Refused as Counts·Refused}
 use Rattle.file.specs.File.{countsOf, carriedOf}
 use Rattle.file.proofs.Carried.{not-counted, by-words}
@@ -27,7 +27,7 @@ module _ (bs out : List ℕ) where
 
   -- whose contents say the edition, n streams and m gaps, by its words
   pub file-is : (x : Edition) (n m : ℕ) → countsOf bs ≡ Of x n m → {ws : List ℕ} → ws ≡ carriedOf bs (replicate layout.largest 0)
-      → answerFileOf bs out ≡ answerWith x n m (planIn n m ws) out
+      → answerFileOf bs out ≡ answerWith x n m (enteredIn n m ws) out
   unfolding answerOf answerFileOf
   file-is x n m e d =
       by-words (λ c s. answerRead c s out) no (λ x n m p. answerWith x n m p out) (λ s. refl) (λ r s. refl) (λ x n m p. outcome.refused-is x n m p out) (outcome.answered-alike out) bs x n m e d

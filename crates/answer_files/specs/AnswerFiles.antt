@@ -7,9 +7,10 @@ use Rattle.names.specs.Limits.{streams, sources}
 use Rattle.words.specs.Words.{Below}
 use Rattle.judge.specs.declared.Checked.{Checked, the-variants.Fine, the-variants.Refused}
 use Rattle.plan.specs.declared.Sheet.{Sheet}
-use Rattle.plan.specs.Plan.{Plan}
-use Rattle.file.specs.File.{readOf, fileWords, fileOf}
-use Rattle.answers.specs.Answers.{answerOf, SheetOf}
+use Rattle.carried.specs.declared.Edition.the-variants.{Three}
+use Rattle.carried.specs.Carried.{Entered}
+use Rattle.file.specs.File.{readOf, fileWords, enteredFile}
+use Rattle.answers.specs.Answers.{answerWith, answerOf}
 
 -- a refused file is refused, and what was read is answered
 abbrev pub answerRead : Checked → Sheet → List ℕ → Checked × List ℕ
@@ -21,8 +22,8 @@ answerFileOf bs out = answerRead (readOf bs .answer) (readOf bs .sheet) out
 
 -- ---- What is proved of the answers of a file; the proof is in proofs/Alike.antt.
 
--- a plan's file is answered as its values are: the same answers, or the same refusal at the same place
+-- the file of whatever is entered is answered as the values are: the same answers, or the same refusal at the same place
 abbrev pub FileAlike : Type 0
 FileAlike =
-    (p : Plan) → length (p .streams) ≤ streams → length (p .gaps) ≤ sources → Below (2 ^ 32) (fileWords p)
-    → (s : Sheet) → SheetOf s p → (out : List ℕ) → answerFileOf (fileOf p) out ≡ answerOf s out
+    (v : Entered) → length (v .streams) ≤ streams → length (v .gaps) ≤ sources → Below (2 ^ 32) (fileWords v)
+    → (out : List ℕ) → answerFileOf (enteredFile v) out ≡ answerWith Three (length (v .streams)) (length (v .gaps)) v out

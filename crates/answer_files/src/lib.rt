@@ -10,7 +10,7 @@ use file::Counts;
 use judge::Checked;
 use reader::carry;
 
-// The answers of a file's plan, or the first refusal of 1, 2, 3, 4, 5, 10, 6 that applies.
+// The answers of a file's plan, or the first refusal of 1, 2, 3, 11, 4, 5, 10, 6 that applies.
 pub fn answer_file(bytes: &[u8], out: &mut [u64]) -> Checked
     ensures { λ r. ⌜ r ≡ answerFileOf (now (bytes .entry)) (now (out .entry)) .0 ⌝ }
     ensures { λ _. ⌜ now (out .exit) ≡ answerFileOf (now (bytes .entry)) (now (out .entry)) .1 ⌝ }

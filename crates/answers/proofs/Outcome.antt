@@ -7,46 +7,53 @@ use lib.ListN.{length, drop}
 use Rattle.names.specs.declared.Refusal.{Refusal}
 use Rattle.row_words.specs.RowWords.{wordsPerRow}
 use Rattle.plan.specs.declared.Sheet.{Sheet}
-use Rattle.plan.specs.Plan.{Plan, planOf}
+use Rattle.plan.specs.Plan.{planOf}
 use Rattle.judge.specs.declared.Checked.{Checked, the-variants.Fine, the-variants.Refused}
 use Rattle.judge.specs.Table.{judge, unless}
 use Rattle.carried.specs.declared.Edition.{Edition, the-variants.Three}
+use Rattle.carried.specs.Carried.{Entered, meant, plainly}
+use Rattle.carried.proofs.Plans.{meant-plainly}
 use Rattle.checks.specs.Checks.{lines}
 use Rattle.judge.proofs.Table.{given, passed, nothing-given, fine-then, refused-then}
-use Rattle.checks.proofs.Fine.{fine-in-three}
-use Rattle.checks.proofs.Words.{planInWords, same-lines, same-plan-if-fine}
+use Rattle.checks.proofs.Fine.{fine-when-meant}
+use Rattle.checks.proofs.Words.{enteredInWords, same-lines, same-entered-if-fine}
 use Rattle.plan.proofs.Places.{Owned}
 use Rattle.answers.specs.Answers.{answerWords, tooFew, answerAs, answerWith}
 
-module _ (edition : Edition) (n m : ℕ) (p : Plan) (out : List ℕ) where
-  pub refused-is : (r : Refusal) → judge (lines edition n m p) ≡ Refused r → answerWith edition n m p out ≡ (Refused r, out)
+module _ (edition : Edition) (n m : ℕ) (v : Entered) (out : List ℕ) where
+  pub refused-is : (r : Refusal) → judge (lines edition n m v) ≡ Refused r → answerWith edition n m v out ≡ (Refused r, out)
   unfolding answerWith
-  refused-is r e = ap (λ k. answerAs k n p out) (refused-then (lines edition n m p) (tooFew n out) r e)
+  refused-is r e = ap (λ k. answerAs k n (meant v) out) (refused-then (lines edition n m v) (tooFew n out) r e)
 
-  module _ (e : judge (lines edition n m p) ≡ Fine) where
-    pub too-few-is : length out < wordsPerRow * n → answerWith edition n m p out ≡ (Refused (record { number = 6; place = 0 }), out)
+  module _ (e : judge (lines edition n m v) ≡ Fine) where
+    pub too-few-is : length out < wordsPerRow * n → answerWith edition n m v out ≡ (Refused (record { number = 6; place = 0 }), out)
     unfolding answerWith
     too-few-is h =
-        ap (λ k. answerAs k n p out) (fine-then (lines edition n m p) (tooFew n out) e ∙ given _ [] 0 (ap unless (lt-leb _ _ h)))
+        ap (λ k. answerAs k n (meant v) out) (fine-then (lines edition n m v) (tooFew n out) e ∙ given _ [] 0 (ap unless (lt-leb _ _ h)))
 
-    pub words-are : wordsPerRow * n ≤ length out → answerWith edition n m p out ≡ (Fine, answerWords p ++ drop (wordsPerRow * n) out)
+    pub words-are : wordsPerRow * n ≤ length out → answerWith edition n m v out ≡ (Fine, answerWords (meant v) ++ drop (wordsPerRow * n) out)
     unfolding answerWith
     words-are h =
-        ap (λ k. answerAs k n p out) (fine-then (lines edition n m p) (tooFew n out) e ∙ passed _ [] (ap unless (le-leb _ _ h)) ∙ nothing-given)
+        ap (λ k. answerAs k n (meant v) out) (fine-then (lines edition n m v) (tooFew n out) e ∙ passed _ [] (ap unless (le-leb _ _ h)) ∙ nothing-given)
 
--- what is fine is answered alike, in whatever edition it was read
-pub answered-alike : (out : List ℕ) (edition : Edition) (n m : ℕ) (p : Plan) → judge (lines edition n m p) ≡ Fine
-    → answerWith Three n m p out ≡ answerWith edition n m p out
+-- what is fine is answered alike, in whatever edition it was read, and with a LAG as its plan with none
+pub answered-alike : (out : List ℕ) (edition : Edition) (n m : ℕ) (v : Entered) → judge (lines edition n m v) ≡ Fine
+    → answerWith Three n m (plainly (meant v)) out ≡ answerWith edition n m v out
 unfolding answerWith
-answered-alike out edition n m p e =
-    ap (λ k. answerAs k n p out) (fine-then (lines Three n m p) (tooFew n out) (fine-in-three edition n m p e) ∙ sym (fine-then (lines edition n m p) (tooFew n out) e))
+answered-alike out edition n m v e =
+    let w = plainly (meant v) in
+    ap (λ k. answerAs k n (meant w) out) (fine-then (lines Three n m w) (tooFew n out) (fine-when-meant edition n m v e) ∙ sym (fine-then (lines edition n m v) (tooFew n out) e))
+    ∙ ap (λ p. answerAs (judge (lines edition n m v ++ tooFew n out)) n p out) (meant-plainly (meant v))
 
 -- ---- a sheet, by its words
-module _ (s : Sheet) (o : Owned s) (edition : Edition) (out : List ℕ) where
-  pub same-answer : answerWith edition (s .count) (s .sources) (planInWords s o edition) out ≡ answerWith edition (s .count) (s .sources) (planOf s) out
+module _ (s : Sheet) (o : Owned s) (out : List ℕ) where
+  abbrev plain : Entered
+  plain = plainly (planOf s)
+
+  pub same-answer : answerWith Three (s .count) (s .sources) (enteredInWords s o) out ≡ answerWith Three (s .count) (s .sources) plain out
   unfolding answerWith
-  same-answer = ap (λ k. answerAs k (s .count) (planInWords s o edition) out) (same-lines s o edition (tooFew (s .count) out)) ∙ go (judge (lines edition (s .count) (s .sources) (planOf s) ++ tooFew (s .count) out)) refl
+  same-answer = ap (λ k. answerAs k (s .count) (meant (enteredInWords s o)) out) (same-lines s o (tooFew (s .count) out)) ∙ go (judge (lines Three (s .count) (s .sources) plain ++ tooFew (s .count) out)) refl
     where
-      go : (k : Checked) → judge (lines edition (s .count) (s .sources) (planOf s) ++ tooFew (s .count) out) ≡ k → answerAs k (s .count) (planInWords s o edition) out ≡ answerAs k (s .count) (planOf s) out
-      go Fine e = ap (λ p. answerAs Fine (s .count) p out) (same-plan-if-fine s o edition (tooFew (s .count) out) e)
+      go : (k : Checked) → judge (lines Three (s .count) (s .sources) plain ++ tooFew (s .count) out) ≡ k → answerAs k (s .count) (meant (enteredInWords s o)) out ≡ answerAs k (s .count) (meant plain) out
+      go Fine e = ap (λ v. answerAs Fine (s .count) (meant v) out) (same-entered-if-fine s o (tooFew (s .count) out) e)
       go (Refused r) e = refl

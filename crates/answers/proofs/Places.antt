@@ -12,13 +12,13 @@ use Rattle.checks.specs.Checks.{lines}
 use Rattle.checks.proofs.Fine.{fine-if-right}
 use Rattle.carried.specs.declared.Edition.{Edition}
 use Rattle.carried.specs.Layout as layout
-use Rattle.carried.specs.Carried.{planIn}
+use Rattle.carried.specs.Carried.{enteredIn}
 use Rattle.answers.specs.private.Gather.{PlacesWithin, rowStream}
 
-pub fine-places : (edition : Edition) (ws : List ℕ) (n m : ℕ) → judge (lines edition n m (planIn n m ws)) ≡ Fine → PlacesWithin ws n m
-unfolding planIn
+pub fine-places : (edition : Edition) (ws : List ℕ) (n m : ℕ) → judge (lines edition n m (enteredIn n m ws)) ≡ Fine → PlacesWithin ws n m
+unfolding enteredIn
 fine-places edition ws n m e =
-    let r = fine-if-right edition n m (planIn n m ws) .0 e .1 in
+    let r = fine-if-right edition n m (enteredIn n m ws) .0 e .1 in
     let w = r .within in
     record {
       rows =

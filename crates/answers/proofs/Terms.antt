@@ -23,7 +23,7 @@ use Rattle.plan.specs.Plan.{Plan}
 use Rattle.plan.specs.Rules as rule
 use Rattle.plan.proofs.Rules.{terms-sound}
 use Rattle.carried.specs.Layout as layout
-use Rattle.carried.specs.Carried.{timingIn, planIn}
+use Rattle.carried.specs.Carried.{enteredIn, timingIn, planIn}
 use Rattle.costs.specs.declared.Overheads.{Overheads}
 use Rattle.costs.specs.Costs.{Overhead}
 use Rattle.answers.specs.declared.Others.{Others}
@@ -49,7 +49,7 @@ module _ (ws : List ℕ) (n m k : ℕ) (c : Overheads) (slot : ℕ) (fine : Plac
   either-is e d = λ z. rule.selfOrSlotted (slot-is z) (e z) (d z)
 
   blocking-is : largestOf (blocks (c .u) (i .priority)) (rows n (rowStream ws)) ≡ largestOf (λ j. rule.C′ t j - 1) (rule.lp p i)
-  unfolding planIn
+  unfolding enteredIn
   blocking-is =
       largest-those (λ j. sent j + c .u - 1) (λ j. ltb (i .priority .0) (j .priority .0)) (rows n (rowStream ws))
       ∙ ap (λ u. largestOf (λ j. sent j + u - 1) (rule.lp p i)) (framed .u-is)
@@ -86,7 +86,7 @@ module _ (ws : List ℕ) (n m k : ℕ) (c : Overheads) (slot : ℕ) (fine : Plac
     share-at j h = rw (ec .front j h, ep .front j h, es .costs j (omega (arith, es .urgent))) refl
 
     shares-are : rows (o .urgent) (lentShare costs periods jitters) ≡ map (rule.share t) (rule.hp p i)
-    unfolding planIn
+    unfolding enteredIn
     shares-are =
         rows-same (o .urgent) _ _ share-at
         ∙ ap (λ r. rows r (λ j. aired (lentShare costs₀ periods₀ jitters j))) (es .urgent)
@@ -95,7 +95,7 @@ module _ (ws : List ℕ) (n m k : ℕ) (c : Overheads) (slot : ℕ) (fine : Plac
         ∙ urgent-is
 
     costs-are : largestOf (λ x. x) (rows (found .urgent) (λ j. getD costs₀ j 0)) ≡ largestOf (rule.C″ t) (rule.hp p i)
-    unfolding planIn
+    unfolding enteredIn
     costs-are =
         ap (largestOf (λ x. x)) (sym (rows-map (λ (j : bound.Share). j .C″) (found .urgent) (lentShare costs₀ periods₀ jitters)))
         ∙ largest-map (λ x. x) (λ (j : bound.Share). j .C″) (rows (found .urgent) (lentShare costs₀ periods₀ jitters))
@@ -110,15 +110,15 @@ module _ (ws : List ℕ) (n m k : ℕ) (c : Overheads) (slot : ℕ) (fine : Plac
     own-is = eo ∙ either-is last-is slot-is
 
     blocked-is : o .blocking ≡ rule.B p i
-    unfolding rule.B planIn
+    unfolding rule.B enteredIn
     blocked-is = es .blocking ∙ either-is (ex .blocking ∙ blocking-is) (ap (λ s. s - 1) slot-is)
 
     hit-is : o .hit ≡ rule.hit p i
-    unfolding rule.hit largestOf planIn
+    unfolding rule.hit largestOf enteredIn
     hit-is = es .hit ∙ either-is (ex .hit ∙ ap₂ max (whole-is i) costs-are) slot-is
 
     terms-are : termsOf given ≡ rule.terms p i
-    unfolding rule.terms planIn
+    unfolding rule.terms enteredIn
     terms-are = λ j.
         record {
           B = blocked-is j;
@@ -132,7 +132,7 @@ module _ (ws : List ℕ) (n m k : ℕ) (c : Overheads) (slot : ℕ) (fine : Plac
 
     -- they are sound, since the stream fits its slot
     sound : Sound (termsOf given)
-    unfolding planIn
+    unfolding enteredIn
     sound = rw terms-are (terms-sound p i (fine .rows .stream k among) (fine .slots k among))
 
     row-fits : rowFits row ≡ true

@@ -1,4 +1,4 @@
--- The answers of a plan's values into lent memory, and the refusals that go with them.
+-- The answers of what is entered into lent memory, and the refusals that go with them.
 use mathlib.Core.Path.{_≡_}
 use mathlib.Core.List.{List, [], _∷_, _++_, flatMap}
 use Prim.Native.Nat.{ℕ, _*_, _≤_}
@@ -11,6 +11,7 @@ use Rattle.plan.specs.declared.Sheet.{Sheet}
 use Rattle.plan.specs.Plan.{Plan, planOf}
 use Rattle.plan.specs.Rules.{answers}
 use Rattle.carried.specs.declared.Edition.{Edition, the-variants.Three}
+use Rattle.carried.specs.Carried.{Entered, meant, plainly}
 use Rattle.checks.specs.Checks.{lines, checkedOf}
 
 -- the words of a plan's rows, in file order
@@ -26,13 +27,14 @@ abbrev pub answerAs : Checked → ℕ → Plan → List ℕ → Checked × List 
 answerAs Fine n p out = (Fine, answerWords p ++ drop (wordsPerRow * n) out)
 answerAs (Refused r) n p out = (Refused r, out)
 
--- of a plan in a file of an edition that is said to have n streams and m gaps: the lines of its values, then 6
-unfoldable pub answerWith : Edition → ℕ → ℕ → Plan → List ℕ → Checked × List ℕ
-answerWith edition n m p out = answerAs (judge (lines edition n m p ++ tooFew n out)) n p out
+-- of what is entered in a file of an edition and said to be n streams and m gaps: the lines of its values, then 6; it is the plan that is
+-- meant that is answered
+unfoldable pub answerWith : Edition → ℕ → ℕ → Entered → List ℕ → Checked × List ℕ
+answerWith edition n m v out = answerAs (judge (lines edition n m v ++ tooFew n out)) n (meant v) out
 
 -- of a sheet: by its counts and its plan, with the places of edition 3
 unfoldable pub answerOf : Sheet → List ℕ → Checked × List ℕ
-answerOf s out = answerWith Three (s .count) (s .sources) (planOf s) out
+answerOf s out = answerWith Three (s .count) (s .sources) (plainly (planOf s)) out
 
 -- ---- What is proved of the answers of values; the proofs are in proofs/Values.antt.
 
@@ -48,6 +50,8 @@ pub record SheetOf (s : Sheet) (p : Plan) : Type 0 where
   pub count : s .count ≡ length (p .streams)
   pub sources : s .sources ≡ length (p .gaps)
 
--- two sheets of one plan are answered alike
-abbrev pub SheetsAlike : Type 0
-SheetsAlike = (p : Plan) (s t : Sheet) → SheetOf s p → SheetOf t p → (out : List ℕ) → answerOf s out ≡ answerOf t out
+-- each sheet of a plan is answered as the plan is when it is entered, and so alike
+abbrev pub SheetAnswered : Type 0
+SheetAnswered =
+    (p : Plan) (s : Sheet) → SheetOf s p → (out : List ℕ)
+    → answerOf s out ≡ answerWith Three (length (p .streams)) (length (p .gaps)) (plainly p) out

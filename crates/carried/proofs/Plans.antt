@@ -1,39 +1,40 @@
--- A plan and its words: the plan in a plan's words is that plan, whatever stands after them; the words of the plan in some words are those
--- words; a plan's one sheet; and words that are laid one after the other. Assumes nothing.
+-- What is entered, and its words: what is entered in its words is it, whatever stands after them; the words of what is entered in some words
+-- are those words; what is meant by it; a plan's one sheet; and words that are laid one after the other. Assumes nothing.
 use mathlib.Core.Path.{_≡_, refl, sym, ap, ap₂, _∙_}
 use mathlib.Core.List.{List, [], _∷_, _++_, flatMap, append-nil}
-use Prim.Native.Nat.{ℕ, zero, suc, _+_, _-_, _*_, _≤_, _<_}
+use Prim.Native.Nat.{ℕ, zero, suc, _+_, _-_, _*_, _≤_, _<_, min}
 use native.Mathlib.Nat.{le-refl, add-zero, add-assoc}
 use native.Mathlib.Numerals.{add-one}
 use native.Mathlib.Omega.{arith}
 use lib.ListN.{length, getD, take, drop, replicate, length-append, List·getD-append, getD-replicate}
 use lib.Seq.{getD-drop, getD-append-add, length-take-le, take-at, take-add, take-suc, take-length, drop-drop, drop-append-add, paste}
-use Rattle.names.specs.Limits.{streams, sources}
+use Rattle.names.specs.Limits.{streams, sources, ticks}
 use Rattle.laws.specs.Lists.{rows}
 use Rattle.laws.proofs.Lists.{rows-same, rows-take}
 use Rattle.laws.proofs.Pieces.{rows-part, flat-append, length-flat, in-piece}
 use Rattle.laws.proofs.Placed.{placed-front, placed-short, placed-reads, drop-replicate}
-use Rattle.plan.specs.declared.Timing.{Timing}
 use Rattle.plan.specs.declared.Stream.{Stream}
 use Rattle.plan.specs.Plan.{Plan, blank}
+use Rattle.carried.specs.declared.EnteredTiming.{EnteredTiming}
 use Rattle.carried.specs.Layout as layout
-use Rattle.carried.specs.Carried.{timingIn, streamIn, planIn, timingWords, streamWords, valuesOf, inPlaces, sheetOf, noSheet, PlanInValues, ValuesBack, OneSheet}
+use Rattle.carried.specs.Carried.{Entered, meant, held, heldTiming, meantTiming, enteredTimingIn, streamIn, enteredIn, timingWords, streamWords, enteredWords, valuesOf, inPlaces, sheetOf, noSheet}
+use Rattle.carried.specs.Carried.{EnteredInWords, WordsBack, MeantPlainly, PlainlyMeant, OneSheet}
 
 seven : (s : Stream) → length (streamWords s) ≡ layout.streamLength
 seven s = refl
 
 -- the words after those of the timing
-abbrev tail : Plan → List ℕ
+abbrev tail : Entered → List ℕ
 tail p = flatMap streamWords (p .streams) ++ p .gaps
 
-pub length-values : (p : Plan) → length (valuesOf p) ≡ layout.gapAt (length (p .streams)) (length (p .gaps))
-length-values p =
+pub length-words : (p : Entered) → length (enteredWords p) ≡ layout.gapAt (length (p .streams)) (length (p .gaps))
+length-words p =
     omega (arith, length-append (flatMap streamWords (p .streams)) (p .gaps), length-flat layout.streamLength streamWords seven (p .streams))
 
--- ---- from a plan to its words and back
-module _ (p : Plan) (after : List ℕ) where
+-- ---- from what is entered to its words and back
+module _ (p : Entered) (after : List ℕ) where
   abbrev among : List ℕ
-  among = valuesOf p ++ after
+  among = enteredWords p ++ after
 
   past-timing : (i : ℕ) → getD among (layout.timingLength + i) 0 ≡ getD (tail p ++ after) i 0
   past-timing i = sym (getD-drop layout.timingLength among i 0)
@@ -64,19 +65,19 @@ module _ (p : Plan) (after : List ℕ) where
       ap (λ n. getD among n 0) (sym (add-zero (layout.streamAt r))) ∙ stream-word r 0 h (omega arith) in
       rw (first, stream-word r 1 h (omega arith), stream-word r 2 h (omega arith), stream-word r 3 h (omega arith), stream-word r 4 h (omega arith), stream-word r 5 h (omega arith), stream-word r 6 h (omega arith)) refl
 
-pub plan-in-values : PlanInValues
-unfolding planIn
-plan-in-values p after =
-    let ws = valuesOf p ++ after in
+pub entered-in-words : EnteredInWords
+unfolding enteredIn
+entered-in-words p after =
+    let ws = enteredWords p ++ after in
     let streams : rows (length (p .streams)) (λ r. streamIn ws (layout.streamAt r)) ≡ p .streams =
     rows-same (length (p .streams)) _ _ (stream-is p after) ∙ rows-take (p .streams) blank (length (p .streams)) (le-refl _) ∙ take-length (p .streams) in
     let gaps : rows (length (p .gaps)) (λ k. getD ws (layout.gapAt (length (p .streams)) k) 0) ≡ p .gaps =
     rows-same (length (p .gaps)) _ _ (gap-word p after) ∙ rows-take (p .gaps) 0 (length (p .gaps)) (le-refl _) ∙ take-length (p .gaps) in
     rw (streams, gaps) refl
 
--- ---- from words to their plan and back
+-- ---- from words to what is entered in them and back
 module _ (ws : List ℕ) where
-  pub timing-back : layout.timingLength ≤ length ws → timingWords (timingIn ws) ≡ take layout.timingLength ws
+  pub timing-back : layout.timingLength ≤ length ws → timingWords (enteredTimingIn ws) ≡ take layout.timingLength ws
   unfolding rows
   timing-back h = rows-part 0 layout.timingLength ws 0 h
 
@@ -100,7 +101,7 @@ module _ (ws : List ℕ) where
   gaps-back n m long = rows-part (layout.streamAt n) m ws 0 long
 
   -- all words after the timing's
-  tail-back : (n m : ℕ) → layout.gapAt n m ≤ length ws
+  pub tail-back : (n m : ℕ) → layout.gapAt n m ≤ length ws
       → flatMap streamWords (rows n (λ r. streamIn ws (layout.streamAt r))) ++ rows m (λ k. getD ws (layout.gapAt n k) 0)
       ≡ take (layout.streamLength * n + m) (drop layout.timingLength ws)
   tail-back n m long =
@@ -108,18 +109,18 @@ module _ (ws : List ℕ) where
       let s = layout.streamLength * n in
       ap₂ _++_ (streams-back n (omega arith)) (gaps-back n m long ∙ ap (take m) (sym (drop-drop s t ws))) ∙ sym (take-add s m (drop t ws))
 
-pub values-back : ValuesBack
-unfolding planIn
-values-back n m ws long =
+pub words-back : WordsBack
+unfolding enteredIn
+words-back n m ws long =
     let t = layout.timingLength in
     let s = layout.streamLength * n in
     let k : t + (s + m) ≡ layout.gapAt n m = omega arith in
     ap₂ _++_ (timing-back ws (omega arith)) (tail-back ws n m long) ∙ sym (take-add t (s + m) ws) ∙ ap (λ j. take j ws) k
 
--- ---- a plan is what is read from its words
-pub plan-reads : (n m : ℕ) (vs ws : List ℕ) → ((k : ℕ) → k < layout.gapAt n m → getD vs k 0 ≡ getD ws k 0) → planIn n m vs ≡ planIn n m ws
-unfolding planIn
-plan-reads n m vs ws e =
+-- ---- what is entered is what is read from its words
+pub entered-reads : (n m : ℕ) (vs ws : List ℕ) → ((k : ℕ) → k < layout.gapAt n m → getD vs k 0 ≡ getD ws k 0) → enteredIn n m vs ≡ enteredIn n m ws
+unfolding enteredIn
+entered-reads n m vs ws e =
     let t : (k : ℕ) → k < layout.timingLength → getD vs k 0 ≡ getD ws k 0 = λ k h. e k (omega arith) in
     let stream : (r : ℕ) → r < n → streamIn vs (layout.streamAt r) ≡ streamIn ws (layout.streamAt r) =
     (λ r h.
@@ -128,20 +129,39 @@ plan-reads n m vs ws e =
     let gaps : rows m (λ k. getD vs (layout.gapAt n k) 0) ≡ rows m (λ k. getD ws (layout.gapAt n k) 0) = rows-same m _ _ (λ k h. e (layout.gapAt n k) (omega arith)) in
     rw (t 0 (omega arith), t 1 (omega arith), t 2 (omega arith), t 3 (omega arith), t 4 (omega arith), t 5 (omega arith), t 6 (omega arith), t 7 (omega arith), t 8 (omega arith), t 9 (omega arith), rows-same n _ _ stream, gaps) refl
 
--- in places, where they have room, words hold the plan that they held
-pub plan-in-places : (n m : ℕ) (ws : List ℕ) → n ≤ streams → m ≤ sources → planIn n m (inPlaces ws) ≡ planIn n m ws
-plan-in-places n m ws few quiet = plan-reads n m (inPlaces ws) ws (λ k h. placed-reads layout.largest 0 ws k (omega arith))
+-- in places, where they have room, words hold what they held
+pub entered-in-places : (n m : ℕ) (ws : List ℕ) → n ≤ streams → m ≤ sources → enteredIn n m (inPlaces ws) ≡ enteredIn n m ws
+entered-in-places n m ws few quiet = entered-reads n m (inPlaces ws) ws (λ k h. placed-reads layout.largest 0 ws k (omega arith))
 
-pub timing-in-places : (ws : List ℕ) → timingIn (inPlaces ws) ≡ timingIn ws
-unfolding planIn
-timing-in-places ws = ap (λ (p : Plan). p .timing) (plan-in-places 0 0 ws (omega arith) (omega arith))
+pub timing-in-places : (ws : List ℕ) → enteredTimingIn (inPlaces ws) ≡ enteredTimingIn ws
+unfolding enteredIn
+timing-in-places ws = ap (λ (v : Entered). v .timing) (entered-in-places 0 0 ws (omega arith) (omega arith))
+
+-- ---- what is meant
+pub meant-plainly : MeantPlainly
+meant-plainly p = rw (add-zero (p .timing .etg)) refl
+
+pub plainly-meant : PlainlyMeant
+plainly-meant v e =
+    let sum : v .timing .etg + v .timing .lag ≡ v .timing .etg = omega arith in
+    rw (sum, e) refl
+
+-- where a word holds the sum of ETG and LAG, what is held is what is meant
+pub timing-held : (t : EnteredTiming) → t .etg + t .lag ≤ ticks → heldTiming t ≡ meantTiming t
+timing-held t h = let e : min (t .etg + t .lag) ticks ≡ t .etg + t .lag = omega arith in rw e refl
+
+pub plan-held : (v : Entered) → v .timing .etg + v .timing .lag ≤ ticks → held v ≡ meant v
+plan-held v h = ap (λ t. record { timing = t; streams = v .streams; gaps = v .gaps }) (timing-held (v .timing) h)
 
 -- ---- a plan's one sheet
 pub one-sheet : OneSheet
 one-sheet p few quiet = rw (placed-front streams blank (p .streams) few, placed-front sources 0 (p .gaps) quiet) refl
 
-pub no-sheet : {ws : List ℕ} → ws ≡ replicate layout.largest 0 → sheetOf (planIn 0 0 ws) ≡ noSheet
-no-sheet {ws} e = ap sheetOf (plan-reads 0 0 ws [] (λ k h. ap (λ l. getD l k 0) e ∙ getD-replicate layout.largest k 0 0 (omega arith)))
+pub no-sheet : {ws : List ℕ} → ws ≡ replicate layout.largest 0 → sheetOf (held (enteredIn 0 0 ws)) ≡ noSheet
+unfolding enteredIn
+no-sheet {ws} e =
+    ap (λ v. sheetOf (held v)) (entered-reads 0 0 ws [] (λ k h. ap (λ l. getD l k 0) e ∙ getD-replicate layout.largest k 0 0 (omega arith)))
+    ∙ ap sheetOf (plan-held (enteredIn 0 0 []) (omega arith))
 
 -- ---- words that are laid one after the other, over places that hold 0
 abbrev pub padded : List ℕ → List ℕ
@@ -155,11 +175,11 @@ lay-next ws vs k e d =
     rw (← e) (drop-append-add ws z (length vs)) ∙ drop-replicate (length vs) (layout.largest - length ws) 0 ∙ ap (λ c. replicate c 0) n in
     rw (d, take-at ws z k e, take-length vs, after) refl
 
-pub lay-timing : (t : Timing) {ws o : List ℕ} → o ≡ replicate layout.largest 0 → ws ≡ timingWords t → paste o 0 ws (length ws) ≡ padded (timingWords t)
+pub lay-timing : (t : EnteredTiming) {ws o : List ℕ} → o ≡ replicate layout.largest 0 → ws ≡ timingWords t → paste o 0 ws (length ws) ≡ padded (timingWords t)
 lay-timing t e d = rw d (lay-next [] (timingWords t) 0 refl e)
 
 -- the words of the first r streams are laid, and those of stream r are laid after them
-module _ (t : Timing) (streams : List Stream) (r : ℕ) where
+module _ (t : EnteredTiming) (streams : List Stream) (r : ℕ) where
   abbrev pub first-laid : List ℕ
   first-laid = timingWords t ++ flatMap streamWords (take r streams)
 
@@ -176,11 +196,11 @@ module _ (t : Timing) (streams : List Stream) (r : ℕ) where
       rw (d, all) (lay-next first-laid last (layout.streamAt r) (first-long (omega arith)) e)
 
 -- .. and the gaps after the last of them
-pub lay-gaps : (p : Plan) (streams : List Stream) (n : ℕ) {ws o : List ℕ} → n ≤ length streams → take n streams ≡ p .streams → ws ≡ p .gaps
-    → length (valuesOf p) ≤ layout.largest → o ≡ padded (first-laid (p .timing) streams n) → paste o (layout.streamAt n) ws (length ws) ≡ inPlaces (valuesOf p)
+pub lay-gaps : (p : Entered) (streams : List Stream) (n : ℕ) {ws o : List ℕ} → n ≤ length streams → take n streams ≡ p .streams → ws ≡ p .gaps
+    → length (enteredWords p) ≤ layout.largest → o ≡ padded (first-laid (p .timing) streams n) → paste o (layout.streamAt n) ws (length ws) ≡ inPlaces (enteredWords p)
 lay-gaps p places n {ws} {o} h d g few e =
     let laid : paste o (layout.streamAt n) ws (length ws) ≡ padded (first-laid (p .timing) places n ++ p .gaps) =
     rw g (lay-next (first-laid (p .timing) places n) (p .gaps) (layout.streamAt n) (first-long (p .timing) places n h) e) in
     laid
     ∙ ap (λ s. padded (timingWords (p .timing) ++ (flatMap streamWords s ++ p .gaps))) d
-    ∙ sym (placed-short layout.largest 0 (valuesOf p) few)
+    ∙ sym (placed-short layout.largest 0 (enteredWords p) few)

@@ -13,6 +13,8 @@ use Rattle.carried.proofs.in_bodies.Kinds as in-bodies-kinds
 use Rattle.carried.proofs.in_bodies.Reads as in-bodies
 use Rattle.carried.proofs.timing_words.Kinds as timing-words-kinds
 use Rattle.carried.proofs.timing_words.Reads as timing-words
+use Rattle.carried.proofs.words_entered.Kinds as words-entered-kinds
+use Rattle.carried.proofs.words_entered.Reads as words-entered
 use Rattle.carried.proofs.words_of.Kinds as words-of-kinds
 use Rattle.carried.proofs.words_of.Reads as words-of
 use Rattle.carried.proofs.words_from.Kinds as words-from-kinds
@@ -43,6 +45,9 @@ in-bodies-one κs a x y ws us p q = (p .0 ∙ sym (q .0), refl)
 
 pub timing-words-one : OneOutcome 0 timing-words-kinds.ps timing-words-kinds.r timing-words.Post
 timing-words-one κs a x y ws us p q = (p ∙ sym q, refl)
+
+pub words-entered-one : OneOutcome 0 words-entered-kinds.ps words-entered-kinds.r words-entered.Post
+words-entered-one κs a x y ws us p q = (p ∙ sym q, refl)
 
 pub words-of-one : OneOutcome 0 words-of-kinds.ps words-of-kinds.r words-of.Post
 words-of-one κs a x y ws us p q = (p ∙ sym q, refl)

@@ -1,21 +1,68 @@
--- A plan as it is carried: its words, lent, with its counts beside them; and a plan's one sheet.
+-- What is entered, in a file or by a caller, and the plan that is meant by it; both as the words that are carried, lent with their counts
+-- beside them; and a plan's one sheet.
 use mathlib.Core.Path.{_≡_}
 use mathlib.Core.List.{List, [], _∷_, _++_, flatMap}
-use Prim.Native.Nat.{ℕ, _+_, _≤_}
+use Prim.Native.Nat.{ℕ, _+_, min, _≤_}
 use lib.ListN.{length, getD, take}
-use Rattle.names.specs.Limits.{streams, sources}
+use Rattle.names.specs.Limits.{streams, sources, ticks}
 use Rattle.laws.specs.Lists.{rows, placed}
 use Rattle.plan.specs.declared.Timing.{Timing}
 use Rattle.plan.specs.declared.Stream.{Stream}
 use Rattle.plan.specs.declared.Sheet.{Sheet}
 use Rattle.plan.specs.Plan.{Plan, blank, planOf}
+use Rattle.carried.specs.declared.EnteredTiming.{EnteredTiming}
 use Rattle.carried.specs.Layout as layout
 
--- ---- from words to a plan; a word past the end is 0
+-- ---- what is entered: the values of a plan, with a LAG beside ETG
+
+pub record Entered : Type 0 where
+  pub timing : EnteredTiming
+  pub streams : List Stream
+  pub gaps : List ℕ
+
+-- the timing of a plan has no LAG, but some ETG in place of both
+abbrev pub withETG : ℕ → EnteredTiming → Timing
+withETG etg t =
+    record { f = t .f; e = t .e; tfcs = t .tfcs; swx = t .swx; h = t .h; g = t .g; etg = etg; nb = t .nb; p = t .p }
+
+-- reading adds LAG to ETG: this is the plan that is meant, ..
+abbrev pub meantTiming : EnteredTiming → Timing
+meantTiming t = withETG (t .etg + t .lag) t
+
+abbrev pub meant : Entered → Plan
+meant v = record { timing = meantTiming (v .timing); streams = v .streams; gaps = v .gaps }
+
+-- .. this is it where a word is to hold the sum, as much of it as a word holds; where that is less, the values are refused 11, ..
+abbrev pub heldTiming : EnteredTiming → Timing
+heldTiming t = withETG (min (t .etg + t .lag) ticks) t
+
+abbrev pub held : Entered → Plan
+held v = record { timing = heldTiming (v .timing); streams = v .streams; gaps = v .gaps }
+
+-- .. and a plan is entered with a LAG of 0
+abbrev pub plainTiming : Timing → EnteredTiming
+plainTiming t =
+    record {
+      f = t .f;
+      e = t .e;
+      tfcs = t .tfcs;
+      swx = t .swx;
+      h = t .h;
+      g = t .g;
+      etg = t .etg;
+      lag = 0;
+      nb = t .nb;
+      p = t .p;
+    }
+
+abbrev pub plainly : Plan → Entered
+plainly p = record { timing = plainTiming (p .timing); streams = p .streams; gaps = p .gaps }
+
+-- ---- from words to what is entered; a word past the end is 0
 
 -- F, E, TFCS, SWX, H, G, ETG, LAG, NB, P
-abbrev pub timingIn : List ℕ → Timing
-timingIn ws =
+abbrev pub enteredTimingIn : List ℕ → EnteredTiming
+enteredTimingIn ws =
     record {
       f = getD ws 0 0;
       e = getD ws 1 0;
@@ -23,10 +70,10 @@ timingIn ws =
       swx = getD ws 3 0;
       h = getD ws 4 0;
       g = getD ws 5 0;
-      etg = getD ws 6 0;
-      lag = getD ws 7 0;
+      etg = getD ws layout.etgAt 0;
+      lag = getD ws layout.lagAt 0;
       nb = getD ws 8 0;
-      p = getD ws 9 0;
+      p = getD ws layout.slotAt 0;
     }
 
 -- label, priority, T, J, C, D, K from word k on
@@ -49,20 +96,30 @@ streamsIn n ws = rows n (λ r. streamIn ws (layout.streamAt r))
 abbrev pub gapsIn : ℕ → ℕ → List ℕ → List ℕ
 gapsIn n m ws = rows m (λ k. getD ws (layout.gapAt n k) 0)
 
--- the plan of n streams and m gaps
-unfoldable pub planIn : ℕ → ℕ → List ℕ → Plan
-planIn n m ws = record { timing = timingIn ws; streams = streamsIn n ws; gaps = gapsIn n m ws }
+-- what is entered of n streams and m gaps, ..
+unfoldable pub enteredIn : ℕ → ℕ → List ℕ → Entered
+enteredIn n m ws = record { timing = enteredTimingIn ws; streams = streamsIn n ws; gaps = gapsIn n m ws }
 
--- ---- from a plan to its words
+-- .. and the plan that is meant
+abbrev pub timingIn : List ℕ → Timing
+timingIn ws = meantTiming (enteredTimingIn ws)
 
-abbrev pub timingWords : Timing → List ℕ
+abbrev pub planIn : ℕ → ℕ → List ℕ → Plan
+planIn n m ws = meant (enteredIn n m ws)
+
+-- ---- from what is entered, or from a plan, to its words
+
+abbrev pub timingWords : EnteredTiming → List ℕ
 timingWords t = t .f ∷ t .e ∷ t .tfcs ∷ t .swx ∷ t .h ∷ t .g ∷ t .etg ∷ t .lag ∷ t .nb ∷ t .p ∷ []
 
 abbrev pub streamWords : Stream → List ℕ
 streamWords s = s .label .0 ∷ s .priority .0 ∷ s .period ∷ s .jitter ∷ s .payload ∷ s .deadline ∷ s .acknowledgement ∷ []
 
+abbrev pub enteredWords : Entered → List ℕ
+enteredWords v = timingWords (v .timing) ++ (flatMap streamWords (v .streams) ++ v .gaps)
+
 abbrev pub valuesOf : Plan → List ℕ
-valuesOf p = timingWords (p .timing) ++ (flatMap streamWords (p .streams) ++ p .gaps)
+valuesOf p = enteredWords (plainly p)
 
 -- in as many places as the largest plan has words, 0 in the unused ones
 abbrev pub inPlaces : List ℕ → List ℕ
@@ -86,13 +143,22 @@ noSheet = sheetOf (planIn 0 0 [])
 
 -- ---- What is proved of a plan's words and its sheet, in proofs/Plans.antt.
 
--- a plan's words hold that plan, whatever stands after them, ..
-abbrev pub PlanInValues : Type 0
-PlanInValues = (p : Plan) (after : List ℕ) → planIn (length (p .streams)) (length (p .gaps)) (valuesOf p ++ after) ≡ p
+-- the words of what is entered hold it, whatever stands after them, ..
+abbrev pub EnteredInWords : Type 0
+EnteredInWords =
+    (v : Entered) (after : List ℕ) → enteredIn (length (v .streams)) (length (v .gaps)) (enteredWords v ++ after) ≡ v
 
--- .. and the words of the plan in some words are these words
-abbrev pub ValuesBack : Type 0
-ValuesBack = (n m : ℕ) (ws : List ℕ) → layout.gapAt n m ≤ length ws → valuesOf (planIn n m ws) ≡ take (layout.gapAt n m) ws
+-- .. and the words of what is entered in some words are these words
+abbrev pub WordsBack : Type 0
+WordsBack = (n m : ℕ) (ws : List ℕ) → layout.gapAt n m ≤ length ws → enteredWords (enteredIn n m ws) ≡ take (layout.gapAt n m) ws
+
+-- what is meant by a plan that is entered is that plan, ..
+abbrev pub MeantPlainly : Type 0
+MeantPlainly = (p : Plan) → meant (plainly p) ≡ p
+
+-- .. and what was entered with a LAG of 0 is its plan, entered
+abbrev pub PlainlyMeant : Type 0
+PlainlyMeant = (v : Entered) → v .timing .lag ≡ 0 → plainly (meant v) ≡ v
 
 -- the plan on a plan's sheet is that plan, if it is no larger than a sheet
 abbrev pub OneSheet : Type 0

@@ -18,6 +18,13 @@ streamLength = 7
 abbrev pub slotAt : ℕ
 slotAt = 9
 
+-- ETG is word 6, and LAG is word 7
+abbrev pub etgAt : ℕ
+etgAt = 6
+
+abbrev pub lagAt : ℕ
+lagAt = 7
+
 -- the stream of row r starts at word 10 + 7r, ..
 abbrev pub streamAt : ℕ → ℕ
 streamAt r = timingLength + streamLength * r

@@ -1,6 +1,7 @@
-// A plan as it is carried: the words of its timing, its streams and its noise gaps, one after the other, lent with its counts beside
-// them. Only plain numbers can be lent, and a sheet is copied whenever it is handed on.
+// A plan as it is carried: the words that are entered of its timing, its streams and its noise gaps, one after the other, lent with its
+// counts beside them. Only plain numbers can be lent, and a sheet is copied whenever it is handed on.
 //
+// A file, and a caller who lends words, may have a LAG beside ETG; a plan has none. What a LAG means is said here and nowhere else.
 // Records are made of words and words of records here and nowhere else. Every public function answers for every input, and its
 // contract determines the answer; nothing is checked. Nothing is assumed. This crate knows of a plan's values; it must not know of
 // bytes or refusals.
@@ -9,20 +10,22 @@ use names::Label;
 use names::Priority;
 use names::SOURCES;
 use names::STREAMS;
+use names::TICKS;
 use plan::Sheet;
 use plan::Stream;
 use plan::Timing;
 ghost use mathlib.Core.Path.{_≡_};
 ghost use Prim.Native.Nat.{_+_, _≤_, min};
-ghost use lib.ListN.{length, replicate};
+ghost use lib.ListN.{length, replicate, take};
 ghost use lib.Seq.{paste};
 ghost use Rattle.names.specs.Limits as limit;
 ghost use Rattle.laws.specs.Lists.{placed};
 ghost use Rattle.plan.specs.Plan.{planOf};
 ghost use Rattle.plan.specs.Plan.{blank as noStream};
 ghost use Rattle.carried.specs.Layout as layout;
-ghost use Rattle.carried.specs.Carried.{timingIn, streamIn, streamsIn, gapsIn, planIn};
-ghost use Rattle.carried.specs.Carried.{timingWords, streamWords, valuesOf, inPlaces, sheetOf};
+ghost use Rattle.carried.specs.Carried.{heldTiming, held, plainTiming};
+ghost use Rattle.carried.specs.Carried.{enteredTimingIn, streamIn, streamsIn, gapsIn, enteredIn};
+ghost use Rattle.carried.specs.Carried.{timingWords, streamWords, enteredWords, valuesOf, inPlaces, sheetOf};
 
 // A file of edition 1 has a plan without a master node, and no word for P; one of edition 2 has a plan with one; neither has a word for K.
 // One of edition 3 has either, with both words. It is the one that is written, and the one whose places lent values have.
@@ -30,6 +33,20 @@ pub enum Edition {
     One,
     Two,
     Three,
+}
+
+// A timing as it is entered: the ten words in the file's order, LAG among them.
+pub struct EnteredTiming {
+    pub f: u32,
+    pub e: u32,
+    pub tfcs: u32,
+    pub swx: u32,
+    pub h: u32,
+    pub g: u32,
+    pub etg: u32,
+    pub lag: u32,
+    pub nb: u32,
+    pub p: u32,
 }
 
 // A word's bytes, and the words of a file's contents, of the timing and of a stream. A noise gap is one word.
@@ -41,7 +58,11 @@ pub const TIMING: usize = 10;
 
 pub const STREAM: usize = 7;
 
-// The timing's word that has P.
+// The timing's words that have ETG, LAG and P.
+pub const ETG: usize = 6;
+
+pub const LAG: usize = 7;
+
 pub const SLOT: usize = TIMING - 1;
 
 // The words of the largest plan.
@@ -140,11 +161,35 @@ pub fn in_bodies(edition: Edition, n: usize, k: usize) -> usize
     }
 }
 
-// The words of a timing, in their order.
-pub fn timing_words(t: Timing) -> [u32; TIMING]
+// A plan's timing is entered with a LAG of 0.
+fn entered(t: Timing) -> EnteredTiming
+    ensures { λ r. ⌜ r ≡ plainTiming t ⌝ }
+{
+    EnteredTiming {
+        f: t.f,
+        e: t.e,
+        tfcs: t.tfcs,
+        swx: t.swx,
+        h: t.h,
+        g: t.g,
+        etg: t.etg,
+        lag: 0,
+        nb: t.nb,
+        p: t.p,
+    }
+}
+
+fn entered_words(t: EnteredTiming) -> [u32; TIMING]
     ensures { λ r. ⌜ r ≡ timingWords t ⌝ }
 {
     [t.f, t.e, t.tfcs, t.swx, t.h, t.g, t.etg, t.lag, t.nb, t.p]
+}
+
+// The words of a plan's timing, in their order.
+pub fn timing_words(t: Timing) -> [u32; TIMING]
+    ensures { λ r. ⌜ r ≡ timingWords (plainTiming t) ⌝ }
+{
+    entered_words(entered(t))
 }
 
 fn stream_words(s: Stream) -> [u32; STREAM]
@@ -171,23 +216,38 @@ fn lay<'a>(out: &'a mut [u32], k: usize, words: &'a [u32])
     }
 }
 
-// The words of a sheet's plan. Of counts past the places all places are taken.
+// The words of a timing, of the first of these streams and of the first of these gaps, as many as are counted. Of counts past the places
+// all places are taken.
+pub fn words_entered(
+    timing: EnteredTiming,
+    streams: [Stream; STREAMS],
+    count: usize,
+    gaps: [u32; SOURCES],
+    sources: usize,
+) -> [u32; CARRIED]
+    ensures { λ r. ⌜ r ≡ inPlaces (enteredWords (record { timing = timing; streams = take count streams; gaps = take sources gaps })) ⌝ }
+{
+    let n = smaller(count, STREAMS);
+    let m = smaller(sources, SOURCES);
+    let mut out = [0; CARRIED];
+    let words = entered_words(timing);
+    lay(&mut out, 0, &words);
+    for r in 0..n {
+        let words = stream_words(streams[r]);
+        lay(&mut out, TIMING + STREAM * r, &words);
+    }
+    lay(&mut out, TIMING + STREAM * n, &gaps[..m]);
+    out
+}
+
+// The words of a sheet's plan.
 pub fn words_of(sheet: Sheet) -> [u32; CARRIED]
     ensures { λ r. ⌜ r ≡ inPlaces (valuesOf (planOf sheet)) ⌝ }
 {
-    let n = smaller(sheet.count, STREAMS);
-    let m = smaller(sheet.sources, SOURCES);
-    let mut out = [0; CARRIED];
-    let timing = timing_words(sheet.timing);
-    lay(&mut out, 0, &timing);
-    for r in 0..n {
-        let s = sheet.streams[r];
-        let words = stream_words(s);
-        lay(&mut out, TIMING + STREAM * r, &words);
-    }
+    let timing = entered(sheet.timing);
+    let streams = sheet.streams;
     let gaps = sheet.gaps;
-    lay(&mut out, TIMING + STREAM * n, &gaps[..m]);
-    out
+    words_entered(timing, streams, sheet.count, gaps, sheet.sources)
 }
 
 // The words that a caller lends. What has no place is not taken, and a word that is not lent is 0.
@@ -202,9 +262,47 @@ pub fn words_from(values: &[u32]) -> [u32; CARRIED]
     out
 }
 
-// The timing in the words.
+// The timing that is entered in the words.
+fn entered_in(words: &[u32; CARRIED]) -> EnteredTiming
+    ensures { λ r. ⌜ r ≡ enteredTimingIn (now (words .entry)) ⌝ }
+{
+    EnteredTiming {
+        f: words[0],
+        e: words[1],
+        tfcs: words[2],
+        swx: words[3],
+        h: words[4],
+        g: words[5],
+        etg: words[ETG],
+        lag: words[LAG],
+        nb: words[8],
+        p: words[SLOT],
+    }
+}
+
+// The timing that is entered in the first ten words that a caller lends; who lends nine has no master node.
+pub fn timing_from(values: &[u32]) -> EnteredTiming
+    ensures { λ r. ⌜ r ≡ enteredTimingIn (now (values .entry)) ⌝ }
+{
+    let words = words_from(values);
+    entered_in(&words)
+}
+
+// ETG and LAG as the one ETG of a plan, as much of it as a word holds.
+fn joined(etg: u32, lag: u32) -> u32
+    ensures { λ r. ⌜ r ≡ min (etg + lag) limit.ticks ⌝ }
+{
+    let sum = etg as u64 + lag as u64;
+    if TICKS < sum {
+        TICKS as u32
+    } else {
+        sum as u32
+    }
+}
+
+// The timing that is meant by the words.
 pub fn timing_in(words: &[u32; CARRIED]) -> Timing
-    ensures { λ r. ⌜ r ≡ timingIn (now (words .entry)) ⌝ }
+    ensures { λ r. ⌜ r ≡ heldTiming (enteredTimingIn (now (words .entry))) ⌝ }
 {
     Timing {
         f: words[0],
@@ -213,19 +311,10 @@ pub fn timing_in(words: &[u32; CARRIED]) -> Timing
         swx: words[3],
         h: words[4],
         g: words[5],
-        etg: words[6],
-        lag: words[7],
+        etg: joined(words[ETG], words[LAG]),
         nb: words[8],
-        p: words[9],
+        p: words[SLOT],
     }
-}
-
-// The timing of the first ten words that a caller lends; who lends nine has no master node.
-pub fn timing_from(values: &[u32]) -> Timing
-    ensures { λ r. ⌜ r ≡ timingIn (now (values .entry)) ⌝ }
-{
-    let words = words_from(values);
-    timing_in(&words)
 }
 
 // The one place where a stream is built. It starts at word k.
@@ -275,9 +364,9 @@ fn gaps_in(words: &[u32; CARRIED], n: usize, m: usize) -> [u32; SOURCES]
     out
 }
 
-// The sheet of the plan of n streams and m gaps in the words; of counts past the places it has as many as there are.
+// The sheet of the plan that is meant by the words of n streams and m gaps; of counts past the places it has as many as there are.
 pub fn sheet_in(words: &[u32; CARRIED], n: usize, m: usize) -> Sheet
-    ensures { λ r. ⌜ r ≡ sheetOf (planIn (min n limit.streams) (min m limit.sources) (now (words .entry))) ⌝ }
+    ensures { λ r. ⌜ r ≡ sheetOf (held (enteredIn (min n limit.streams) (min m limit.sources) (now (words .entry)))) ⌝ }
 {
     let count = smaller(n, STREAMS);
     let sources = smaller(m, SOURCES);

@@ -1,7 +1,7 @@
 // Runs plan files and compares what the desk is shown of each with what it must be.
 //
 // Standard input has two names a line: a plan file, and a file with its listing or with the line of its refusal. Of a plan that is not
-// refused the desk must be shown that listing, `fine`, and a file of edition 3: the file's own bytes again, if it has that edition, and else
+// refused the desk must be shown that listing, `fine`, and a file of edition 3 with no LAG: the file's own bytes again, if it is one, and else
 // one of which it is shown the same listing and the same file; of a refused one the same line three times. What differs is printed, and the
 // last line counts. This program must not know of plans.
 mod list;
@@ -47,11 +47,22 @@ fn file_is(file: &[u8], must: &[u8]) -> bool {
     }
 }
 
-// Whether a file that was written again is the file itself, if that begins as one of edition 3 does, or else means the same and is written
-// again as it is.
+// Whether a file begins as one of edition 3 does, and its LAG, from byte 72 on, is 0.
+fn is_newest(file: &[u8]) -> bool {
+    if file.len() < 76 {
+        return false;
+    }
+    first_are(file, 4, b"\x03\x00\x00\x00") & check::same(&file[72..76], b"\x00\x00\x00\x00")
+}
+
+// Whether a file that was written again is the file itself, if that is of the newest form, or else is of that form, means the same and is
+// written again as it is.
 fn again_is(file: &[u8], again: &[u8], must: &[u8]) -> bool {
-    if first_are(file, 4, b"\x03\x00\x00\x00") {
+    if is_newest(file) {
         return check::same(again, file);
+    }
+    if !is_newest(again) {
+        return false;
     }
     let listing = listing_is(again, must);
     file_is(again, again) & listing

@@ -13,10 +13,9 @@ use Rattle.laws.proofs.Tests.{both}
 use Rattle.judge.specs.declared.Checked.{Checked, the-variants.Fine, the-variants.Refused}
 use Rattle.judge.specs.Table.{Line, judge, unless, _then_}
 use Rattle.judge.proofs.Table.{given, passed, nothing-given, not-given, unless-not, refused-not-fine, refused-then, judged-in-turn}
-use Rattle.plan.specs.Plan.{Plan}
 use Rattle.carried.specs.declared.Edition.{Edition}
-use Rattle.carried.specs.Carried.{planIn}
-use Rattle.checks.specs.Checks.{inRange, rangeLines, counted, fieldLines, rowLines, slotLines, valueLines, lines}
+use Rattle.carried.specs.Carried.{Entered, meantTiming, enteredIn}
+use Rattle.checks.specs.Checks.{inRange, rangeLines, counted, fieldLines, lagLines, rowLines, slotLines, valueLines, lines}
 
 pub and-true : (t : Bool) → t && true ≡ t
 and-true true = refl
@@ -57,12 +56,12 @@ module _ (n m : ℕ) where
   pub fine-range : judge (rangeLines n m) ≡ Fine → (1 ≤ n) × (n ≤ streams) × (m ≤ sources)
   fine-range e = range-within (unless-not (inRange n m) (not-given _ _ e .0))
 
-  -- counts out of range are refused 2 at 0, whatever the plan and whatever comes after its lines
-  pub out-of-range : inRange n m ≡ false → (edition : Edition) (p : Plan) (more : List Line) → judge (lines edition n m p ++ more) ≡ Refused (record { number = 2; place = 0 })
+  -- counts out of range are refused 2 at 0, whatever is entered and whatever comes after its lines
+  pub out-of-range : inRange n m ≡ false → (edition : Edition) (p : Entered) (more : List Line) → judge (lines edition n m p ++ more) ≡ Refused (record { number = 2; place = 0 })
   out-of-range e edition p more = refused-then (lines edition n m p) more _ (given _ _ 0 (ap (λ t. unless (t && eqb (length (p .streams)) n && eqb (length (p .gaps)) m)) e))
 
-  -- a plan that has as many streams and gaps as are said
-  module _ (p : Plan) (n-is : length (p .streams) ≡ n) (m-is : length (p .gaps) ≡ m) where
+  -- what has as many streams and gaps as are said
+  module _ (p : Entered) (n-is : length (p .streams) ≡ n) (m-is : length (p .gaps) ≡ m) where
     pub counted-so : counted n m p ≡ inRange n m
     counted-so = rw (eq-eqb (length (p .streams)) n n-is, eq-eqb (length (p .gaps)) m m-is) (and-true (inRange n m && true) ∙ and-true (inRange n m))
 
@@ -71,15 +70,18 @@ module _ (n m : ℕ) where
 
   -- of the words that are carried as many streams and gaps are taken as are said, so their table is judged part by part
   pub carried-in-parts : (edition : Edition) (ws : List ℕ)
-      → let p = planIn n m ws in
-      judge (lines edition n m p)
-      ≡ judge (rangeLines n m) then judge (fieldLines edition p) then judge (rowLines (p .streams)) then judge (slotLines (p .timing) (p .streams))
-  unfolding planIn
+      → let v = enteredIn n m ws in
+      judge (lines edition n m v)
+      ≡ judge (rangeLines n m) then judge (fieldLines edition v) then judge (lagLines (v .timing)) then judge (rowLines (v .streams)) then judge (slotLines (meantTiming (v .timing)) (v .streams))
+  unfolding enteredIn
   carried-in-parts edition ws =
-      let p = planIn n m ws in
-      let slots = slotLines (p .timing) (p .streams) in
-      sym (ranges-counted p (length-rows n _) (length-rows m _) edition)
-      ∙ judged-in-turn (rangeLines n m) (valueLines edition p)
+      let v = enteredIn n m ws in
+      let slots = slotLines (meantTiming (v .timing)) (v .streams) in
+      let rows = rowLines (v .streams) in
+      sym (ranges-counted v (length-rows n _) (length-rows m _) edition)
+      ∙ judged-in-turn (rangeLines n m) (valueLines edition v)
       ∙ ap (λ c. judge (rangeLines n m) then c)
-      (judged-in-turn (fieldLines edition p) (rowLines (p .streams) ++ slots)
-      ∙ ap (λ c. judge (fieldLines edition p) then c) (judged-in-turn (rowLines (p .streams)) slots))
+      (judged-in-turn (fieldLines edition v) (lagLines (v .timing) ++ rows ++ slots)
+      ∙ ap (λ c. judge (fieldLines edition v) then c)
+      (judged-in-turn (lagLines (v .timing)) (rows ++ slots)
+      ∙ ap (λ c. judge (lagLines (v .timing)) then c) (judged-in-turn rows slots)))

@@ -1,11 +1,11 @@
--- The values are fine exactly if they are a right plan: each line that is not given says its part of it. Assumes nothing.
+-- What is entered is fine exactly if a right plan is meant: each line that is not given says its part of it. Assumes nothing.
 use mathlib.Core.Path.{_≡_, refl, sym, ap, _∙_}
-use mathlib.Core.Bool.{false, _&&_, and-false}
-use Prim.Native.Nat.{ℕ, zero-le}
+use mathlib.Core.Bool.{Bool, true, false, cond, _&&_, and-false}
+use Prim.Native.Nat.{ℕ, _+_, _≤_, zero-le}
 use native.Mathlib.Nat.{lt-of-not-le}
 use native.Mathlib.Decide.{decLe}
 use native.Mathlib.Omega.{arith}
-use borrow.Author.Tests.{eqb-true, le-leb, lt-leb, le-ltb, ltb-false}
+use borrow.Author.Tests.{eqb-true, leb-true, le-leb, lt-leb, le-ltb, ltb-false}
 use lib.Dec.{leb, ltb, eqb}
 use lib.ListN.{length}
 use Rattle.laws.specs.declared.Found.{Found, the-variants.At, the-variants.Nothing}
@@ -14,12 +14,17 @@ use Rattle.repeats.proofs.Repeats.{nothing-if-distinct}
 use Rattle.laws.proofs.Rows.{finds-nothing}
 use Rattle.plan.specs.declared.Timing.{Timing}
 use Rattle.plan.specs.declared.Stream.{Stream}
-use Rattle.plan.specs.Plan.{Plan, planOf, at}
+use Rattle.plan.specs.Plan.{Plan, planOf, at, TimingWithin}
 use Rattle.plan.specs.Rules.{C″, exceedsSlot, FitsSlot}
+use Rattle.names.specs.Limits.{constant}
 use Rattle.carried.specs.declared.Edition.{Edition, the-variants.Three}
-use Rattle.fields.specs.Fields.{fields, SlotWithin}
+use Rattle.carried.specs.declared.EnteredTiming.{EnteredTiming}
+use Rattle.carried.specs.Layout as layout
+use Rattle.carried.specs.Carried.{Entered, meantTiming, meant, plainly}
+use Rattle.carried.proofs.Plans.{meant-plainly}
+use Rattle.fields.specs.Fields.{fields, SlotWithin, ConstantsWithin}
 use Rattle.fields.proofs.Inside.{nothing-if-inside}
-use Rattle.fields.proofs.Limits.{inside-if-fields-within, slot-three}
+use Rattle.fields.proofs.Limits.{inside-if-fields-within, slot-most, slot-three}
 use Rattle.judge.specs.declared.Checked.the-variants.{Fine}
 use Rattle.judge.specs.Table.{judge, unless, rowIn}
 use Rattle.checks.specs.Checks.{inRange, counted, byteIn, priorities, labels, lines, checkedOf, Right, FineIfRight, FineWithin}
@@ -30,6 +35,41 @@ use Rattle.checks.proofs.Counts.{range-within, within-range, counted-so
 pub byte-not : (edition : Edition) (n : ℕ) (f : Found) → byteIn edition n f ≡ Nothing → f ≡ Nothing
 byte-not edition n (At k) e = absurd (apart e)
 byte-not edition n Nothing e = refl
+
+pub place-not : (t : Bool) (k : ℕ) → cond t Nothing (At k) ≡ Nothing → t ≡ true
+place-not true k e = refl
+place-not false k e = absurd (apart e)
+
+-- the timing that is meant is within the limits exactly if each constant is, and ETG + LAG too
+pub timing-meant : (edition : Edition) (t : EnteredTiming) → ConstantsWithin t → SlotWithin edition (t .p) → t .etg + t .lag ≤ constant → TimingWithin (meantTiming t)
+timing-meant edition t w slot sum =
+    record {
+      f = w .f;
+      e = w .e;
+      tfcs = w .tfcs;
+      swx = w .swx;
+      h = w .h;
+      g = w .g;
+      etg = sum;
+      some-bit = w .some-bit;
+      nb = w .nb;
+      p = slot-most edition (t .p) (slot .1);
+    }
+
+constants-within : (t : EnteredTiming) → TimingWithin (meantTiming t) → ConstantsWithin t
+constants-within t w =
+    record {
+      f = w .f;
+      e = w .e;
+      tfcs = w .tfcs;
+      swx = w .swx;
+      h = w .h;
+      g = w .g;
+      etg = omega (arith, w .etg);
+      lag = omega (arith, w .etg);
+      some-bit = w .some-bit;
+      nb = w .nb;
+    }
 
 -- no stream exceeds its slot exactly if each fits it
 not-exceeding : (t : Timing) (j : Stream) → exceedsSlot t j ≡ false → FitsSlot t j
@@ -43,19 +83,24 @@ fitting t j fits =
     ]
 
 pub fine-if-right : FineIfRight
-fine-if-right edition n m p = (right, fine)
+fine-if-right edition n m v = (right, fine)
   where
-    right : judge (lines edition n m p) ≡ Fine → SlotWithin edition (p .timing .p) × Right n m p
+    p : Plan
+    p = meant v
+
+    right : judge (lines edition n m v) ≡ Fine → SlotWithin edition (v .timing .p) × Right n m p
     right e =
         let (two, e₃) = not-given _ _ e in
-        let (three, e₄) = not-given _ _ e₃ in
+        let (three, e₁₁) = not-given _ _ e₃ in
+        let (eleven, e₄) = not-given _ _ e₁₁ in
         let (four, e₅) = not-given _ _ e₄ in
         let (five, e₁₀) = not-given _ _ e₅ in
         let (ten, e₆) = not-given _ _ e₁₀ in
-        let (range-n, m-are) = both (inRange n m && eqb (length (p .streams)) n) (eqb (length (p .gaps)) m) (unless-not (counted n m p) two) in
+        let (range-n, m-are) = both (inRange n m && eqb (length (p .streams)) n) (eqb (length (p .gaps)) m) (unless-not (counted n m v) two) in
         let (range, n-are) = both (inRange n m) (eqb (length (p .streams)) n) range-n in
         let (some, few, quiet) = range-within n m range in
-        let w = inside-if-fields-within edition p .0 (nothing-if-inside 0 (fields edition p) .0 (byte-not edition (length (p .streams)) _ three)) in
+        let w = inside-if-fields-within edition v .0 (nothing-if-inside 0 (fields edition v) .0 (byte-not edition (length (p .streams)) _ three)) in
+        let sum : v .timing .etg + v .timing .lag ≤ constant = leb-true _ constant (place-not _ _ eleven) in
         let n-is : length (p .streams) ≡ n = eqb-true _ _ n-are in
         let m-is : length (p .gaps) ≡ m = eqb-true _ _ m-are in
         let short = finds-nothing (λ k. exceedsSlot (p .timing) (at p k)) 0 (length (p .streams)) .0 ten in (
@@ -66,7 +111,7 @@ fine-if-right edition n m p = (right, fine)
                   some-stream = omega (arith, some);
                   count = omega (arith, few);
                   sources = omega (arith, quiet);
-                  timing = w .timing;
+                  timing = timing-meant edition (v .timing) (w .timing) (w .slot) sum;
                   stream = w .stream;
                   gap = w .gap;
                 };
@@ -79,23 +124,29 @@ fine-if-right edition n m p = (right, fine)
           },
         )
 
-    fine : SlotWithin edition (p .timing .p) × Right n m p → judge (lines edition n m p) ≡ Fine
+    fine : SlotWithin edition (v .timing .p) × Right n m p → judge (lines edition n m v) ≡ Fine
     fine (is, r) =
         let w = r .within in
         let range = within-range n m (omega (arith, w .some-stream, r .count)) (omega (arith, w .count, r .count)) (omega (arith, w .sources, r .sources)) in
-        let inside = inside-if-fields-within edition p .1 (record { slot = is; timing = w .timing; stream = w .stream; label = r .label; gap = w .gap }) in
-        passed _ _ (ap unless (counted-so n m p (r .count) (r .sources) ∙ range))
-        ∙ passed _ _ (ap (byteIn edition (length (p .streams))) (nothing-if-inside 0 (fields edition p) .1 inside))
+        let inside = inside-if-fields-within edition v .1 (record { slot = is; timing = constants-within (v .timing) (w .timing); stream = w .stream; label = r .label; gap = w .gap }) in
+        passed _ _ (ap unless (counted-so n m v (r .count) (r .sources) ∙ range))
+        ∙ passed _ _ (ap (byteIn edition (length (p .streams))) (nothing-if-inside 0 (fields edition v) .1 inside))
+        ∙ passed _ _ (ap (λ b. cond b Nothing (At (layout.byteOf layout.etgAt))) (le-leb _ constant (w .timing .etg)))
         ∙ passed _ _ (ap rowIn (nothing-if-distinct (priorities (p .streams)) .1 (r .priorities)))
         ∙ passed _ _ (ap rowIn (nothing-if-distinct (labels (p .streams)) .1 (r .labels)))
         ∙ passed _ _ (finds-nothing (λ k. exceedsSlot (p .timing) (at p k)) 0 (length (p .streams)) .1 (λ k a h. fitting (p .timing) (at p k) (r .slots k (omega arith))))
         ∙ nothing-given
 
--- what is fine in a file of any edition is fine in one of edition 3
-pub fine-in-three : (edition : Edition) (n m : ℕ) (p : Plan) → judge (lines edition n m p) ≡ Fine → judge (lines Three n m p) ≡ Fine
-fine-in-three edition n m p e =
-    let (is, r) = fine-if-right edition n m p .0 e in
-    fine-if-right Three n m p .1 (slot-three (p .timing .p) (r .within .timing .p), r)
+-- a right plan is fine when it is entered, and then only, ..
+pub right-is-fine : (n m : ℕ) (p : Plan) → Right n m p → judge (lines Three n m (plainly p)) ≡ Fine
+right-is-fine n m p r = fine-if-right Three n m (plainly p) .1 (slot-three (p .timing .p) (r .within .timing .p), rw (meant-plainly p) r)
+
+pub fine-is-right : (n m : ℕ) (p : Plan) → judge (lines Three n m (plainly p)) ≡ Fine → Right n m p
+fine-is-right n m p e = rw (meant-plainly p) at (fine-if-right Three n m (plainly p) .0 e .1)
+
+-- .. so what is meant by what is fine in a file of any edition is fine in one of edition 3
+pub fine-when-meant : (edition : Edition) (n m : ℕ) (v : Entered) → judge (lines edition n m v) ≡ Fine → judge (lines Three n m (plainly (meant v))) ≡ Fine
+fine-when-meant edition n m v e = right-is-fine n m (meant v) (fine-if-right edition n m v .0 e .1)
 
 -- a right plan has as many streams and gaps as it has
 pub own-counts : (n m : ℕ) (p : Plan) → Right n m p → Right (length (p .streams)) (length (p .gaps)) p
@@ -104,4 +155,4 @@ own-counts n m p r =
 
 pub fine-within : FineWithin
 unfolding checkedOf
-fine-within s e = let (is, r) = fine-if-right _ (s .count) (s .sources) (planOf s) .0 e in (r .within, r .count, r .sources)
+fine-within s e = let r = fine-is-right (s .count) (s .sources) (planOf s) e in (r .within, r .count, r .sources)

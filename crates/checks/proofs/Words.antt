@@ -1,4 +1,4 @@
--- A sheet and its words are answered alike: counts in range give the same plan, and others are refused 2 either way. Assumes nothing.
+-- A sheet and its words are answered alike: counts in range give the same values, and others are refused 2 either way. Assumes nothing.
 use mathlib.Core.Path.{_≡_, sym, ap, ap₂, _∙_}
 use mathlib.Core.Bool.{false}
 use mathlib.Core.List.{List, [], _++_}
@@ -10,56 +10,58 @@ use lib.ListN.{length}
 use lib.Seq.{length-take-le}
 use Rattle.names.specs.Limits.{streams, sources}
 use Rattle.plan.specs.declared.Sheet.{Sheet}
-use Rattle.plan.specs.Plan.{Plan, planOf}
-use Rattle.carried.specs.declared.Edition.{Edition, the-variants.Three}
+use Rattle.plan.specs.Plan.{planOf}
+use Rattle.carried.specs.declared.Edition.the-variants.{Three}
 use Rattle.carried.specs.Layout as layout
-use Rattle.carried.specs.Carried.{planIn, valuesOf, inPlaces}
+use Rattle.carried.specs.Carried.{Entered, plainly, enteredIn, valuesOf, inPlaces}
 use Rattle.plan.proofs.Places.{Owned, stream-places, gap-places}
-use Rattle.carried.proofs.Plans.{length-values, plan-in-values}
+use Rattle.carried.proofs.Plans.{length-words, entered-in-words}
 use Rattle.laws.proofs.Placed.{placed-short}
 use Rattle.judge.specs.declared.Checked.the-variants.{Fine}
 use Rattle.judge.specs.Table.{Line, judge}
 use Rattle.checks.specs.Checks.{inRange, lines, checkedOf}
 use Rattle.judge.proofs.Table.{fine-parts}
 use Rattle.checks.proofs.Counts.{too-many, too-noisy, out-of-range}
-use Rattle.checks.proofs.Fine.{fine-if-right}
+use Rattle.checks.proofs.Fine.{fine-is-right}
 
-module _ (s : Sheet) (o : Owned s) (edition : Edition) where
-  -- the plan in the sheet's words
-  abbrev pub planInWords : Plan
-  planInWords = planIn (s .count) (s .sources) (inPlaces (valuesOf (planOf s)))
+module _ (s : Sheet) (o : Owned s) where
+  -- what is entered in the sheet's words
+  abbrev pub enteredInWords : Entered
+  enteredInWords = enteredIn (s .count) (s .sources) (inPlaces (valuesOf (planOf s)))
 
-  pub same-plan : s .count ≤ streams → s .sources ≤ sources → planInWords ≡ planOf s
-  same-plan few quiet =
+  pub same-entered : s .count ≤ streams → s .sources ≤ sources → enteredInWords ≡ plainly (planOf s)
+  same-entered few quiet =
       let n = length-take-le (s .count) (s .streams) (omega (arith, stream-places s o)) in
       let m = length-take-le (s .sources) (s .gaps) (omega (arith, gap-places s o)) in
-      let room : length (valuesOf (planOf s)) ≤ layout.largest = omega (arith, length-values (planOf s)) in
-      ap₂ (λ i j. planIn i j (inPlaces (valuesOf (planOf s)))) (sym n) (sym m)
-      ∙ ap (planIn _ _) (placed-short layout.largest 0 (valuesOf (planOf s)) room)
-      ∙ plan-in-values (planOf s) _
+      let room : length (valuesOf (planOf s)) ≤ layout.largest = omega (arith, length-words (plainly (planOf s))) in
+      ap₂ (λ i j. enteredIn i j (inPlaces (valuesOf (planOf s)))) (sym n) (sym m)
+      ∙ ap (enteredIn _ _) (placed-short layout.largest 0 (valuesOf (planOf s)) room)
+      ∙ entered-in-words (plainly (planOf s)) _
 
   -- the table of the values, with whatever lines after it
   module _ (more : List Line) where
     both-refused : inRange (s .count) (s .sources) ≡ false
-        → judge (lines edition (s .count) (s .sources) planInWords ++ more) ≡ judge (lines edition (s .count) (s .sources) (planOf s) ++ more)
-    both-refused e = out-of-range (s .count) (s .sources) e edition planInWords more ∙ sym (out-of-range (s .count) (s .sources) e edition (planOf s) more)
+        → judge (lines Three (s .count) (s .sources) enteredInWords ++ more) ≡ judge (lines Three (s .count) (s .sources) (plainly (planOf s)) ++ more)
+    both-refused e = out-of-range (s .count) (s .sources) e Three enteredInWords more ∙ sym (out-of-range (s .count) (s .sources) e Three (plainly (planOf s)) more)
 
-    pub same-lines : judge (lines edition (s .count) (s .sources) planInWords ++ more) ≡ judge (lines edition (s .count) (s .sources) (planOf s) ++ more)
+    pub same-lines : judge (lines Three (s .count) (s .sources) enteredInWords ++ more) ≡ judge (lines Three (s .count) (s .sources) (plainly (planOf s)) ++ more)
     same-lines =
         elim (decLe (s .count) streams) [
           | yes few ↦
               elim (decLe (s .sources) sources) [
-                | yes quiet ↦ ap (λ p. judge (lines edition (s .count) (s .sources) p ++ more)) (same-plan few quiet)
+                | yes quiet ↦ ap (λ p. judge (lines Three (s .count) (s .sources) p ++ more)) (same-entered few quiet)
                 | no noisy ↦ both-refused (too-noisy (s .count) (s .sources) (lt-of-not-le noisy))
               ]
           | no many ↦ both-refused (too-many (s .count) (s .sources) (lt-of-not-le many))
         ]
 
-    pub same-plan-if-fine : judge (lines edition (s .count) (s .sources) (planOf s) ++ more) ≡ Fine → planInWords ≡ planOf s
-    same-plan-if-fine e =
-        let (is, r) = fine-if-right edition (s .count) (s .sources) (planOf s) .0 (fine-parts (lines edition (s .count) (s .sources) (planOf s)) more e .0) in
-        same-plan (omega (arith, r .count, r .within .count)) (omega (arith, r .sources, r .within .sources))
-
-pub same-check : (s : Sheet) (o : Owned s) → judge (lines Three (s .count) (s .sources) (planInWords s o Three)) ≡ checkedOf s
+pub same-check : (s : Sheet) (o : Owned s) → judge (lines Three (s .count) (s .sources) (enteredInWords s o)) ≡ checkedOf s
 unfolding checkedOf
-same-check s o = same-lines s o Three []
+same-check s o = same-lines s o []
+
+-- .. and a sheet that is fine has its own plan in its words
+pub same-entered-if-fine : (s : Sheet) (o : Owned s) (more : List Line) → judge (lines Three (s .count) (s .sources) (plainly (planOf s)) ++ more) ≡ Fine
+    → enteredInWords s o ≡ plainly (planOf s)
+same-entered-if-fine s o more e =
+    let r = fine-is-right (s .count) (s .sources) (planOf s) (fine-parts (lines Three (s .count) (s .sources) (plainly (planOf s))) more e .0) in
+    same-entered s o (omega (arith, r .count, r .within .count)) (omega (arith, r .sources, r .within .sources))

@@ -1,13 +1,13 @@
--- Document 01, "When the answer is no", and document 02, requests 01 and 05: refusals 2, 3, 4, 5 and 10 of a plan's values, as the lines of
--- their table. The order of the lines decides, and not the size of a number.
+-- Document 01, "When the answer is no", and document 02, requests 01, 05 and 06: refusals 2, 3, 11, 4, 5 and 10 of what is entered, as the
+-- lines of their table. The order of the lines decides, and not the size of a number.
 use mathlib.Core.Path.{_≡_}
-use mathlib.Core.Bool.{Bool, _&&_}
+use mathlib.Core.Bool.{Bool, cond, _&&_}
 use mathlib.Core.List.{List, [], _∷_, _++_, map}
 use mathlib.Core.Logic.{_↔_}
-use Prim.Native.Nat.{ℕ, _≤_, _<_}
+use Prim.Native.Nat.{ℕ, _+_, _≤_, _<_}
 use lib.Dec.{leb, eqb}
 use lib.ListN.{length, getD}
-use Rattle.names.specs.Limits.{streams, sources, ticks}
+use Rattle.names.specs.Limits.{streams, sources, constant, ticks}
 use Rattle.laws.specs.declared.Found.{Found, the-variants.At, the-variants.Nothing}
 use Rattle.laws.specs.Search.{first}
 use Rattle.repeats.specs.Repeats.{firstRepeat, Distinct}
@@ -19,7 +19,9 @@ use Rattle.plan.specs.declared.Sheet.{Sheet}
 use Rattle.plan.specs.Plan.{Plan, planOf, blank, at, Within}
 use Rattle.plan.specs.Rules.{exceedsSlot, FitsSlot}
 use Rattle.carried.specs.declared.Edition.{Edition, the-variants.Three}
+use Rattle.carried.specs.declared.EnteredTiming.{EnteredTiming}
 use Rattle.carried.specs.Layout as layout
+use Rattle.carried.specs.Carried.{Entered, meantTiming, meant, plainly}
 use Rattle.fields.specs.Fields.{fields, lowest, SlotWithin}
 
 -- ---- the counts
@@ -32,9 +34,9 @@ inRange n m = leb 1 n && leb n streams && leb m sources
 abbrev pub rangeLines : ℕ → ℕ → List Line
 rangeLines n m = record { number = 2; place = unless (inRange n m) } ∷ []
 
--- .. or the plan does not have so many streams and gaps: a sheet may count more than its places
-abbrev pub counted : ℕ → ℕ → Plan → Bool
-counted n m p = inRange n m && eqb (length (p .streams)) n && eqb (length (p .gaps)) m
+-- .. or there are not so many streams and gaps: a sheet may count more than its places
+abbrev pub counted : ℕ → ℕ → Entered → Bool
+counted n m v = inRange n m && eqb (length (v .streams)) n && eqb (length (v .gaps)) m
 
 -- ---- the fields
 
@@ -44,8 +46,13 @@ byteIn edition n (At k) = At (layout.byteOf (layout.inBodies edition n k))
 byteIn edition n Nothing = Nothing
 
 -- 3: a field is outside its limits (the lowest)
-abbrev pub fieldLines : Edition → Plan → List Line
-fieldLines edition p = record { number = 3; place = byteIn edition (length (p .streams)) (lowest 0 (fields edition p)) } ∷ []
+abbrev pub fieldLines : Edition → Entered → List Line
+fieldLines edition v = record { number = 3; place = byteIn edition (length (v .streams)) (lowest 0 (fields edition v)) } ∷ []
+
+-- 11: ETG + LAG, each within its limits, is above 65,535 (the byte of ETG, the same in every edition)
+abbrev pub lagLines : EnteredTiming → List Line
+lagLines t =
+    record { number = 11; place = cond (leb (t .etg + t .lag) constant) Nothing (At (layout.byteOf layout.etgAt)) } ∷ []
 
 -- ---- the rows
 
@@ -66,18 +73,19 @@ rowLines ss =
 abbrev pub slotLines : Timing → List Stream → List Line
 slotLines t ss = record { number = 10; place = first (λ k. exceedsSlot t (getD ss k blank)) 0 (length ss) } ∷ []
 
--- ---- all of them: 3, then 4 and 5, then 10
+-- ---- all of them: 3, then 11, then 4 and 5, then 10
 
-abbrev pub valueLines : Edition → Plan → List Line
-valueLines edition p = fieldLines edition p ++ rowLines (p .streams) ++ slotLines (p .timing) (p .streams)
+abbrev pub valueLines : Edition → Entered → List Line
+valueLines edition v =
+    fieldLines edition v ++ lagLines (v .timing) ++ rowLines (v .streams) ++ slotLines (meantTiming (v .timing)) (v .streams)
 
--- of a plan in an edition that is said to have n streams and m noise sources
-abbrev pub lines : Edition → ℕ → ℕ → Plan → List Line
-lines edition n m p = record { number = 2; place = unless (counted n m p) } ∷ valueLines edition p
+-- of what is entered in an edition and said to be n streams and m noise sources
+abbrev pub lines : Edition → ℕ → ℕ → Entered → List Line
+lines edition n m v = record { number = 2; place = unless (counted n m v) } ∷ valueLines edition v
 
--- the answer to a sheet's values, with the places of edition 3
+-- the answer to a sheet's values, which have no LAG, with the places of edition 3
 unfoldable pub checkedOf : Sheet → Checked
-checkedOf s = judge (lines Three (s .count) (s .sources) (planOf s))
+checkedOf s = judge (lines Three (s .count) (s .sources) (plainly (planOf s)))
 
 -- ---- What is proved of the table of a plan's refusals; the proofs are in proofs/Fine.antt.
 
@@ -91,10 +99,11 @@ pub record Right (n m : ℕ) (p : Plan) : Type 0 where
   pub labels : Distinct (labels (p .streams))
   pub slots : (k : ℕ) → k < length (p .streams) → FitsSlot (p .timing) (at p k)
 
--- the values are fine exactly if they are a right plan, with a P of the edition: none in edition 1, one in edition 2, either in edition 3
+-- what is entered is fine exactly if a right plan is meant, with a P of the edition: none in edition 1, one in edition 2, either in edition 3
 abbrev pub FineIfRight : Type 0
 FineIfRight =
-    (edition : Edition) (n m : ℕ) (p : Plan) → (judge (lines edition n m p) ≡ Fine) ↔ (SlotWithin edition (p .timing .p) × Right n m p)
+    (edition : Edition) (n m : ℕ) (v : Entered)
+    → (judge (lines edition n m v) ≡ Fine) ↔ (SlotWithin edition (v .timing .p) × Right n m (meant v))
 
 -- what a sheet that is fine promises
 abbrev pub FineWithin : Type 0

@@ -1,12 +1,14 @@
-// Refusals 2, 3, 4, 5 and 10 of a plan's values, in this order, with the places that the plan's file has: the counts, the fields, the
-// rows, each by itself, and all of them.
+// Refusals 2, 3, 11, 4, 5 and 10 of what is entered, in this order, with the places that its file has: the counts, the fields, ETG and LAG,
+// the rows, each by itself, and all of them.
 //
-// Every public function answers for every input, and what `check` and `check_words` call fine is within document 01's limits, with
+// Every public function answers for every input, and the plan that `check` and `check_words` call fine is within document 01's limits, with
 // distinct priorities and distinct labels, and fits its slots. Nothing is assumed. This crate knows of no bytes but where a field stands in
 // them.
 use carried::CARRIED;
 use carried::CONTENTS;
+use carried::ETG;
 use carried::Edition;
+use carried::LAG;
 use carried::STREAM;
 use carried::TIMING;
 use carried::WORD;
@@ -19,6 +21,7 @@ use judge::Checked;
 use judge::refused;
 use laws::Found;
 use laws::smaller;
+use names::CONSTANT;
 use names::FoundRow;
 use names::SOURCES;
 use names::STREAMS;
@@ -34,8 +37,8 @@ ghost use Rattle.judge.specs.Table.{judge};
 ghost use Rattle.carried.specs.Layout as layout;
 ghost use Rattle.plan.specs.Plan.{TimingWithin};
 ghost use Rattle.costs.specs.Costs.{mostV, mostU};
-ghost use Rattle.carried.specs.Carried.{timingIn, streamsIn, planIn};
-ghost use Rattle.checks.specs.Checks.{rangeLines, fieldLines, rowLines, slotLines, lines, checkedOf};
+ghost use Rattle.carried.specs.Carried.{enteredTimingIn, timingIn, streamsIn, enteredIn};
+ghost use Rattle.checks.specs.Checks.{rangeLines, fieldLines, lagLines, rowLines, slotLines, lines, checkedOf};
 
 // The words of a stream that have its label, its priority, its payload and its acknowledgement.
 const LABEL: usize = 0;
@@ -45,6 +48,9 @@ const PRIORITY: usize = 1;
 const PAYLOAD: usize = 4;
 
 const ACKNOWLEDGEMENT: usize = 6;
+
+// The most that ETG + LAG may be: it is one constant of the plan.
+const SUM: u64 = CONSTANT as u64;
 
 // Word k of each stream, in row order: a column of plain numbers, as it can be lent.
 fn column(words: &[u32], n: usize, k: usize) -> [u32; STREAMS]
@@ -84,16 +90,33 @@ fn byte_of(edition: Edition, n: usize, k: usize) -> usize
     WORD * (CONTENTS + in_bodies(edition, n, k))
 }
 
-// 3: the byte of the lowest field outside its limits, of the plan of n streams and m gaps in the words. Of counts past the limits the
-// plan has as many as it may; with no stream the timing and the gaps alone are looked at.
+// 3: the byte of the lowest field outside its limits, of what is entered in the words of n streams and m gaps. Of counts past the limits
+// there are as many as there may be; with no stream the timing and the gaps alone are looked at.
 pub fn check_fields(edition: Edition, words: &[u32; CARRIED], n: usize, m: usize) -> Checked
-    ensures { λ r. ⌜ r ≡ judge (fieldLines edition (planIn (min n limit.streams) (min m limit.sources) (now (words .entry)))) ⌝ }
+    ensures { λ r. ⌜ r ≡ judge (fieldLines edition (enteredIn (min n limit.streams) (min m limit.sources) (now (words .entry)))) ⌝ }
 {
     let rows = smaller(n, STREAMS);
     match outside(edition, words, n, m) {
         Found::At(k) => refused(3, byte_of(edition, rows, k as usize)),
         Found::Nothing => Checked::Fine,
     }
+}
+
+// Whether ETG and LAG are too much for one constant.
+fn too_much(etg: u32, lag: u32) -> bool
+    ensures { λ r. ⌜ r ≡ ltb limit.constant (etg + lag) ⌝ }
+{
+    SUM < etg as u64 + lag as u64
+}
+
+// 11: ETG + LAG is above 65,535.
+pub fn check_lag(words: &[u32; CARRIED]) -> Checked
+    ensures { λ r. ⌜ r ≡ judge (lagLines (enteredTimingIn (now (words .entry)))) ⌝ }
+{
+    if too_much(words[ETG], words[LAG]) {
+        return refused(11, WORD * (CONTENTS + ETG));
+    }
+    Checked::Fine
 }
 
 // 4 and 5: the lowest row that repeats an earlier row's priority, or else its label, among the first n streams in the words.
@@ -148,15 +171,20 @@ fn check_slots(words: &[u32; CARRIED], n: usize) -> Checked
     Checked::Fine
 }
 
-// The first refusal of 2, 3, 4, 5, 10 that applies to the plan of n streams and m gaps in the words, as they stand in a file of an edition.
+// The first refusal of 2, 3, 11, 4, 5, 10 that applies to what is entered in the words of n streams and m gaps, as they stand in a file of an
+// edition.
 pub fn check_words(edition: Edition, words: &[u32; CARRIED], n: usize, m: usize) -> Checked
-    ensures { λ r. ⌜ r ≡ judge (lines edition n m (planIn n m (now (words .entry)))) ⌝ }
+    ensures { λ r. ⌜ r ≡ judge (lines edition n m (enteredIn n m (now (words .entry)))) ⌝ }
 {
     match check_counts(n, m) {
         Checked::Refused(r) => return Checked::Refused(r),
         Checked::Fine => {}
     }
     match check_fields(edition, words, n, m) {
+        Checked::Refused(r) => return Checked::Refused(r),
+        Checked::Fine => {}
+    }
+    match check_lag(words) {
         Checked::Refused(r) => return Checked::Refused(r),
         Checked::Fine => {}
     }

@@ -18,10 +18,10 @@ use Rattle.decimal.specs.Decimal.{digits}
 use Rattle.ascii.specs.Ascii.{ascii}
 use Rattle.text.specs.Listing.{labelText, refusedOf}
 
--- the timing constants in file order, P the last
+-- the timing constants of a plan, P the last
 abbrev pub constantNames : List (List ℕ)
 constantNames =
-    ascii "F" ∷ ascii "E" ∷ ascii "TFCS" ∷ ascii "SWX" ∷ ascii "H" ∷ ascii "G" ∷ ascii "ETG" ∷ ascii "LAG" ∷ ascii "NB" ∷ []
+    ascii "F" ∷ ascii "E" ∷ ascii "TFCS" ∷ ascii "SWX" ∷ ascii "H" ∷ ascii "G" ∷ ascii "ETG" ∷ ascii "NB" ∷ []
 
 unfoldable pub constantName : ℕ → List ℕ
 constantName k = getD constantNames k (ascii "P")

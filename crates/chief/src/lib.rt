@@ -17,7 +17,7 @@ use text::lay_number;
 use text::lay_refusal;
 use text::lay_text;
 
-// The name of timing constant k, counted from 0 in file order; P comes last.
+// The name of timing constant k, counted from 0; P comes last.
 fn lay_constant(out: &mut [u8], at: usize, k: usize) -> usize
     ensures { λ r. ⌜ Lays (now (out .entry)) at (told.constantName k) r (now (out .exit)) ⌝ }
 {
@@ -29,8 +29,7 @@ fn lay_constant(out: &mut [u8], at: usize, k: usize) -> usize
         4 => lay_text(out, at, b"H"),
         5 => lay_text(out, at, b"G"),
         6 => lay_text(out, at, b"ETG"),
-        7 => lay_text(out, at, b"LAG"),
-        8 => lay_text(out, at, b"NB"),
+        7 => lay_text(out, at, b"NB"),
         _ => lay_text(out, at, b"P"),
     }
 }

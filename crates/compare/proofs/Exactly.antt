@@ -19,12 +19,10 @@ use Rattle.plan.specs.declared.Timing.{Timing}
 use Rattle.plan.specs.declared.Stream.{Stream}
 use Rattle.plan.specs.Plan.{Plan, blank, at}
 use Rattle.plan.specs.Rules.{hasMaster}
-use Rattle.carried.specs.Layout.{timingLength}
-use Rattle.carried.specs.Carried.{timingWords}
 use Rattle.promise.specs.Lighter.{SameKit, NoGreater, Eased, Lighter, NotRefused}
 use Rattle.compare.specs.declared.Change.the-variants.{Nothing}
 use Rattle.compare.specs.declared.Reason.the-variants.{MasterNode}
-use Rattle.compare.specs.Changes.{_or_, firstChange, ofKit, grown, ofConstants, rowOf, eased, inRow, ofStream, numberIn, numberUnder, overtakes, urgency, ofGap, ofStreams, ofOrder, ofNoise, changes}
+use Rattle.compare.specs.Changes.{_or_, firstChange, ofKit, constantsOf, manyConstants, grown, ofConstants, rowOf, eased, inRow, ofStream, numberIn, numberUnder, overtakes, urgency, ofGap, ofStreams, ofOrder, ofNoise, changes}
 use Rattle.compare.specs.Claims.{LighterExactly}
 use Rattle.compare.proofs.First.{of-not-nothing, or-nothing, must-nothing, must-true, passes, passes-then, no-reason, pass, nothing-if-none}
 use Rattle.compare.proofs.Gaps.{by-order, counts-of-partners, partners-of-counts}
@@ -76,18 +74,17 @@ no-greater old new d =
       h = least 4 (omega arith);
       g = least 5 (omega arith);
       etg = least 6 (omega arith);
-      lag = least 7 (omega arith);
-      nb = least 8 (omega arith);
-      p = least 9 (omega arith);
+      nb = least 7 (omega arith);
+      p = least 8 (omega arith);
     }
   where
-    least : (k : ℕ) → k < timingLength → getD (timingWords new) k 0 ≤ getD (timingWords old) k 0
-    least k h = passes _ _ _ (nothing-if-none (grown (timingWords old) (timingWords new)) timingLength .0 d k h)
+    least : (k : ℕ) → k < manyConstants → getD (constantsOf new) k 0 ≤ getD (constantsOf old) k 0
+    least k h = passes _ _ _ (nothing-if-none (grown (constantsOf old) (constantsOf new)) manyConstants .0 d k h)
 
 pub constants-nothing : (old new : Timing) → NoGreater old new → ofConstants old new ≡ Nothing
 unfolding firstChange
 constants-nothing old new n =
-    rw (le-leb _ _ (n .f), le-leb _ _ (n .e), le-leb _ _ (n .tfcs), le-leb _ _ (n .swx), le-leb _ _ (n .h), le-leb _ _ (n .g), le-leb _ _ (n .etg), le-leb _ _ (n .lag), le-leb _ _ (n .nb), le-leb _ _ (n .p)) refl
+    rw (le-leb _ _ (n .f), le-leb _ _ (n .e), le-leb _ _ (n .tfcs), le-leb _ _ (n .swx), le-leb _ _ (n .h), le-leb _ _ (n .g), le-leb _ _ (n .etg), le-leb _ _ (n .nb), le-leb _ _ (n .p)) refl
 
 -- ---- a stream beside the one that it stands in
 pub eases : (old new : Stream) → eased old new ≡ Nothing → Eased old new

@@ -8,11 +8,8 @@ use lib.ListN.{length}
 use Rattle.plan.specs.declared.Sheet.{Sheet}
 use Rattle.plan.specs.Plan.{Plan, planOf}
 use Rattle.judge.specs.declared.Checked.{Checked, the-variants.Fine, the-variants.Refused}
-use Rattle.judge.specs.Table.{judge}
-use Rattle.carried.specs.declared.Edition.{Edition}
-use Rattle.carried.specs.declared.Edition.the-variants.{Three}
-use Rattle.checks.specs.Checks.{lines, checkedOf}
-use Rattle.checks.proofs.Fine.{fine-if-right, own-counts}
+use Rattle.checks.specs.Checks.{checkedOf}
+use Rattle.checks.proofs.Fine.{fine-is-right, own-counts}
 use Rattle.promise.specs.Lighter.{Lighter, NotRefused, Kept}
 use Rattle.promise.proofs.Promise.{lighter-keeps}
 use Rattle.compare.specs.declared.Change.{Change, the-variants.Of, the-variants.Nothing}
@@ -40,14 +37,10 @@ module _ (old new : Plan) (a b : Checked) (first : a ≡ Fine → NotRefused old
       → (l : Lighter old new) (k : ℕ) (h : k < length (new .streams)) → Kept old new k (l .row k h)
   said-kept e = let (f, s, n) = lighter-says a b (changes old new) e in lighter-keeps old new (first f) (second s)
 
--- a plan whose values are fine is not refused
-pub fine-not-refused : (edition : Edition) (n m : ℕ) (p : Plan) → judge (lines edition n m p) ≡ Fine → NotRefused p
-fine-not-refused edition n m p e = own-counts n m p (fine-if-right edition n m p .0 e .1)
-
 -- ---- two sheets
 sheet-not-refused : (s : Sheet) → checkedOf s ≡ Fine → NotRefused (planOf s)
 unfolding checkedOf
-sheet-not-refused s e = fine-not-refused Three (s .count) (s .sources) (planOf s) e
+sheet-not-refused s e = own-counts (s .count) (s .sources) (planOf s) (fine-is-right (s .count) (s .sources) (planOf s) e)
 
 pub said-of-sheets : (old new : Sheet) → SaysLighter old new (comparedOf old new)
 unfolding comparedOf

@@ -2,7 +2,7 @@
 -- not hold. The conditions are looked at in this order: the master node, the constants, the streams, their order of priority, the noise
 -- gaps, and each of these in the second plan's file order. What a plan that passes is, is said in the crate promise, specs/Lighter.antt.
 use mathlib.Core.Bool.{Bool, not, cond, _&&_, Bool·beq}
-use mathlib.Core.List.{List}
+use mathlib.Core.List.{List, [], _∷_}
 use Prim.Native.Nat.{ℕ, zero, suc}
 use lib.Dec.{leb, ltb, eqb}
 use lib.ListN.{length, getD}
@@ -17,8 +17,6 @@ use Rattle.plan.specs.declared.Stream.{Stream}
 use Rattle.plan.specs.declared.Sheet.{Sheet}
 use Rattle.plan.specs.Plan.{Plan, at, planOf}
 use Rattle.plan.specs.Rules.{hasMaster}
-use Rattle.carried.specs.Layout as layout
-use Rattle.carried.specs.Carried.{timingWords}
 use Rattle.checks.specs.Checks.{checkedOf}
 use Rattle.compare.specs.declared.Reason.{Reason}
 use Rattle.compare.specs.declared.Reason.the-variants.{MasterNode, GreaterConstant, NewLabel, ShorterPeriod, LongerJitter}
@@ -47,13 +45,20 @@ firstChange f (suc n) = firstChange f n or f n
 abbrev pub ofKit : Timing → Timing → Change
 ofKit old new = must (Bool·beq (hasMaster old) (hasMaster new)) MasterNode
 
--- ---- the constants, counted from 0 in file order: each is held to its own
+-- ---- the constants, counted from 0: each is held to its own
+
+abbrev pub constantsOf : Timing → List ℕ
+constantsOf t = t .f ∷ t .e ∷ t .tfcs ∷ t .swx ∷ t .h ∷ t .g ∷ t .etg ∷ t .nb ∷ t .p ∷ []
+
+-- how many there are
+abbrev pub manyConstants : ℕ
+manyConstants = 9
 
 abbrev pub grown : List ℕ → List ℕ → ℕ → Change
 grown was is k = must (leb (getD is k 0) (getD was k 0)) (GreaterConstant k)
 
 abbrev pub ofConstants : Timing → Timing → Change
-ofConstants old new = firstChange (grown (timingWords old) (timingWords new)) layout.timingLength
+ofConstants old new = firstChange (grown (constantsOf old) (constantsOf new)) manyConstants
 
 -- ---- the streams
 

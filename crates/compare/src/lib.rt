@@ -12,8 +12,6 @@ ghost use Rattle.compare.specs.Changes as rule;
 ghost use Rattle.compare.specs.Changes.{comparedAs};
 ghost use Rattle.compare.specs.Claims.{SaysLighter};
 ghost use Rattle.compare.specs.private.Columns.{labelOf, priorityOf, numberThen, column, columnPlaced, rowBy, overtakesBy, orderBy};
-use carried::TIMING;
-use carried::timing_words;
 use checks::check;
 use judge::Checked;
 use laws::smaller;
@@ -27,7 +25,8 @@ use plan::Sheet;
 use plan::Stream;
 use plan::Timing;
 
-// Why a plan is to be run again: the condition that is broken first, and the constant (from 0, in file order), label or gap that breaks it.
+// Why a plan is to be run again: the condition that is broken first, and the constant (from 0: F, E, TFCS, SWX, H, G, ETG, NB, P), label or gap
+// that breaks it.
 pub enum Reason {
     // One plan has a master node and the other has none.
     MasterNode,
@@ -65,13 +64,22 @@ fn kit(old: Timing, new: Timing) -> Change
     Change::Of(Reason::MasterNode)
 }
 
+// The constants of a plan's timing.
+const CONSTANTS: usize = 9;
+
+fn constants_of(t: Timing) -> [u32; CONSTANTS]
+    ensures { λ r. ⌜ r ≡ rule.constantsOf t ⌝ }
+{
+    [t.f, t.e, t.tfcs, t.swx, t.h, t.g, t.etg, t.nb, t.p]
+}
+
 // Each constant is held to its own: a greater TFCS is a change even below SWX.
 fn constants(old: Timing, new: Timing) -> Change
     ensures { λ r. ⌜ r ≡ rule.ofConstants old new ⌝ }
 {
-    let was = timing_words(old);
-    let is = timing_words(new);
-    for k in 0..TIMING {
+    let was = constants_of(old);
+    let is = constants_of(new);
+    for k in 0..CONSTANTS {
         if was[k] < is[k] {
             return Change::Of(Reason::GreaterConstant(k));
         }

@@ -17,20 +17,22 @@ use Rattle.plan.specs.Rules.{terms, rowAnswer, answers}
 use Rattle.judge.specs.declared.Checked.{Checked, the-variants.Fine, the-variants.Refused}
 use Rattle.judge.specs.Table.{judge}
 use Rattle.checks.specs.Checks.{lines}
+use Rattle.checks.proofs.Fine.{own-counts}
 use Rattle.promise.specs.Lighter.{NotRefused, Kept}
 use Rattle.file.specs.declared.ReadPlan.{ReadPlan}
 use Rattle.file.specs.File as file
 use Rattle.file.proofs.Reading.{fine-read}
-use Rattle.file.proofs.RoundTrip.{planRead}
+use Rattle.file.proofs.RoundTrip.{planRead, right-read}
 use Rattle.carried.specs.declared.Edition.the-variants.{Three}
-use Rattle.carried.proofs.Plans.{one-sheet}
+use Rattle.carried.specs.Carried.{meant, plainly}
+use Rattle.carried.proofs.Plans.{meant-plainly, one-sheet}
 use Rattle.row_words.specs.RowWords.{wordsPerRow}
 use Rattle.row_words.proofs.RowWords.{RowSays, row-says}
 use Rattle.answers.specs.Answers.{answerWords, tooFew, answerAs, answerOf}
 use Rattle.answer_files.specs.AnswerFiles.{answerRead, answerFileOf}
 use Rattle.answers.specs.Answers.{answerWith}
 use Rattle.compare.proofs.Exactly.{one-row}
-use Rattle.compare.proofs.Says.{said-exactly, said-kept, fine-not-refused}
+use Rattle.compare.proofs.Says.{said-exactly, said-kept}
 use Rattle.compare_files.specs.Files.{planFrom, comparedFiles, SaysLighterOfFiles, LabelsStand, KeptWords, WordsKept}
 
 -- ---- two files
@@ -38,7 +40,7 @@ file-not-refused : (bs : List ℕ) → file.readOf bs .answer ≡ Fine → NotRe
 file-not-refused bs e =
     let f = fine-read bs e in
     let p = planRead bs f in
-    let right = fine-not-refused (f .edition) (f .n) (f .m) p (f .values) in
+    let right = own-counts (f .n) (f .m) p (right-read bs f) in
     let same : planFrom bs ≡ p = ap (λ (r : ReadPlan). planOf (r .sheet)) (f .read) ∙ one-sheet p (right .within .count) (right .within .sources) in
     subst NotRefused (sym same) right
 
@@ -62,7 +64,9 @@ as-words (Refused r) n p out e = absurd (let z : _≡_ {A = ℕ} 0 1 = cc in ome
 read-words : (c : Checked) (s : Sheet) (out : List ℕ) → answerRead c s out .0 ≡ Fine
     → answerRead c s out .1 ≡ answerWords (planOf s) ++ drop (wordsPerRow * s .count) out
 unfolding answerOf answerWith
-read-words Fine s out e = as-words (judge (lines Three (s .count) (s .sources) (planOf s) ++ tooFew (s .count) out)) (s .count) (planOf s) out e
+read-words Fine s out e =
+    as-words (judge (lines Three (s .count) (s .sources) (plainly (planOf s)) ++ tooFew (s .count) out)) (s .count) (meant (plainly (planOf s))) out e
+    ∙ ap (λ p. answerWords p ++ drop (wordsPerRow * s .count) out) (meant-plainly (planOf s))
 read-words (Refused r) s out e = absurd (let z : _≡_ {A = ℕ} 0 1 = cc in omega arith)
 
 -- the words of row r are the answer to its stream

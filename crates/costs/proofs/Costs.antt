@@ -20,10 +20,10 @@ overhead-within t w =
     let (little, early) = leads in
     record {
       lead-is = refl;
-      u-is = ap (λ n. t .g + (t .h + t .g) * n + t .etg + t .lag) nb;
+      u-is = ap (λ n. t .g + (t .h + t .g) * n + t .etg) nb;
       late-is = refl;
       little = little;
-      small = omega (arith, pulses, w .g, w .etg, w .lag);
+      small = omega (arith, pulses, w .g, w .etg);
       early = early;
     }
   where

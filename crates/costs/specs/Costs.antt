@@ -18,7 +18,6 @@ fewBits t =
       h = t .h;
       g = t .g;
       etg = t .etg;
-      lag = t .lag;
       nb = min (t .nb) bits;
       p = t .p;
     }
@@ -30,9 +29,9 @@ overheadsOf t = record { lead = lead t; u = U (fewBits t); late = late t }
 abbrev pub mostV : ℕ
 mostV = constant + constant + constant + constant
 
--- the most that U can be: G + (H + G) × NB + ETG + LAG
+-- the most that U can be: G + (H + G) × NB + ETG
 abbrev pub mostU : ℕ
-mostU = constant + (constant + constant) * bits + constant + constant
+mostU = constant + (constant + constant) * bits + constant
 
 -- ---- What is proved of them; the proof is in proofs/Costs.antt.
 

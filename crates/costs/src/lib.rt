@@ -47,11 +47,11 @@ fn v_of(t: Timing) -> u64
     t.f as u64 + t.e as u64 + longer(t.tfcs, t.swx) + t.h as u64
 }
 
-// U = G + (H + G) * NB + ETG + LAG.
+// U = G + (H + G) * NB + ETG.
 fn u_of(t: Timing) -> u64
     ensures { λ r. ⌜ r ≡ U (fewBits t) ⌝ }
 {
-    t.g as u64 + pulses(t.h, t.g, t.nb) + t.etg as u64 + t.lag as u64
+    t.g as u64 + pulses(t.h, t.g, t.nb) + t.etg as u64
 }
 
 // V comes first, and a release joins while it lasts; in slots H alone does, and none joins after the pulse.

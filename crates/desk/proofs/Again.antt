@@ -15,7 +15,7 @@ use Rattle.carried.specs.declared.Edition.the-variants.{Three}
 use Rattle.carried.specs.Layout as layout
 use Rattle.judge.specs.declared.Checked.{Checked, the-variants.Fine, the-variants.Refused}
 use Rattle.file.specs.declared.Written.{Written, the-variants.Bytes, the-variants.Refused as Written·Refused}
-use Rattle.file.specs.File.{fileOf, editionIn, sizeRight, readOf}
+use Rattle.file.specs.File.{fileOf, editionIn, lagIn, sizeRight, readOf}
 use Rattle.file.proofs.Exactly.{refused-number}
 use Rattle.file.proofs.Reading.{said-size, counts-refused, fine-read}
 use Rattle.file.proofs.RoundTrip.{planRead, right-read, length-file, file-is, means-the-same, same-bytes}
@@ -59,13 +59,13 @@ module _ (bs buf : List ℕ) where
 
 -- ---- the file again
 pub same-file : SameFile
-same-file bs below fine three = file-shown bs [] Fine fine ∙ same-bytes bs below fine three
+same-file bs below fine three no-lag = file-shown bs [] Fine fine ∙ same-bytes bs below fine three no-lag
 
 pub same-meaning : SameMeaning
 same-meaning bs fine =
-    let (edition, meaning) = means-the-same bs fine in
+    let (edition, no-lag, meaning) = means-the-same bs fine in
     let e = file-shown bs [] Fine fine in
-    (ap (λ l. editionIn (wordsOf l)) e ∙ edition, ap readOf e ∙ meaning)
+    (ap (λ l. editionIn (wordsOf l)) e ∙ edition, ap (λ l. lagIn (wordsOf l)) e ∙ no-lag, ap readOf e ∙ meaning)
 
 pub file-fits : FileFits
 file-fits bs buffer fine room =

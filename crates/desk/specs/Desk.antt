@@ -11,7 +11,7 @@ use Rattle.plan.specs.Plan.{Plan, planOf}
 use Rattle.plan.specs.Rules.{answers}
 use Rattle.carried.specs.declared.Edition.the-variants.{Three}
 use Rattle.carried.specs.Layout as layout
-use Rattle.file.specs.File.{fileOf, editionIn, readOf}
+use Rattle.file.specs.File.{fileOf, editionIn, lagIn, readOf}
 use Rattle.ascii.specs.Ascii.{ascii}
 use Rattle.text.specs.declared.Put.the-variants.{At}
 use Rattle.text.specs.Listing.{listingOf, refusedOf}
@@ -52,14 +52,16 @@ ListingFits =
     (bs buffer : List ℕ) → readOf bs .answer ≡ Fine → most 10 ≤ length buffer
     → put buffer 0 (shown bs) .0 ≡ At (length (shown bs))
 
--- a file of edition 3 that is not refused is shown again byte for byte, ..
+-- a file of edition 3 with a LAG of 0 that is not refused is shown again byte for byte, ..
 abbrev pub SameFile : Type 0
-SameFile = (bs : List ℕ) → Below 256 bs → readOf bs .answer ≡ Fine → editionIn (wordsOf bs) ≡ Three → shownFile bs ≡ bs
+SameFile =
+    (bs : List ℕ) → Below 256 bs → readOf bs .answer ≡ Fine → editionIn (wordsOf bs) ≡ Three → lagIn (wordsOf bs) ≡ 0 → shownFile bs ≡ bs
 
--- .. and one of any edition as a file of edition 3 of which the same is read, ..
+-- .. and any other as a file of edition 3 with a LAG of 0 of which the same is read, ..
 abbrev pub SameMeaning : Type 0
 SameMeaning =
-    (bs : List ℕ) → readOf bs .answer ≡ Fine → (editionIn (wordsOf (shownFile bs)) ≡ Three) × (readOf (shownFile bs) ≡ readOf bs)
+    (bs : List ℕ) → readOf bs .answer ≡ Fine
+    → (editionIn (wordsOf (shownFile bs)) ≡ Three) × (lagIn (wordsOf (shownFile bs)) ≡ 0) × (readOf (shownFile bs) ≡ readOf bs)
 
 -- .. in full where the largest file has room, ..
 abbrev pub FileFits : Type 0

@@ -1,4 +1,4 @@
--- A plan's fields are all inside exactly if the plan is within document 01's limits: field by field, list by list. Assumes nothing.
+-- All fields are inside exactly if what is entered is within document 01's limits: field by field, list by list. Assumes nothing.
 use mathlib.Core.Path.{_≡_}
 use mathlib.Core.Bool.{true}
 use mathlib.Core.List.{List, _∷_, _++_, map, flatMap}
@@ -9,10 +9,10 @@ use lib.Pow.{pow-pos}
 use Rattle.carried.specs.declared.Edition.{Edition, the-variants.One, the-variants.Two, the-variants.Three}
 use Rattle.carried.specs.Layout as layout
 use Rattle.names.specs.Limits.{payload, slot, ticks}
-use Rattle.plan.specs.declared.Timing.{Timing}
+use Rattle.carried.specs.declared.EnteredTiming.{EnteredTiming}
 use Rattle.plan.specs.declared.Stream.{Stream}
-use Rattle.plan.specs.Plan.{blank, TimingWithin, StreamWithin, GapWithin}
-use Rattle.fields.specs.Fields.{Field, _from_to_, slotMost, SlotWithin, timingFields, streamFields, gapField, fields, inside, fieldAt, AllInside, InsideIfFieldsWithin}
+use Rattle.plan.specs.Plan.{blank, StreamWithin, GapWithin}
+use Rattle.fields.specs.Fields.{Field, _from_to_, slotMost, SlotWithin, ConstantsWithin, timingFields, streamFields, gapField, fields, inside, fieldAt, AllInside, InsideIfFieldsWithin}
 use Rattle.fields.proofs.All.{Shown, none, next, shown, all-front, all-back, all-both, flat-each, flat-all, map-each, map-all}
 use Rattle.fields.proofs.Lowest.{within}
 use Rattle.fields.proofs.Inside.{inside-if-within}
@@ -28,7 +28,7 @@ within-next : {w a b : ℕ} {fs : List Field} → a ≤ w → w ≤ b → Shown 
 within-next {w} {a} {b} h k s = next (within w a b h k) s
 
 -- ---- P, which has the limits of its edition
-slot-most : (edition : Edition) (P : ℕ) → P ≤ slotMost edition → P ≤ slot
+pub slot-most : (edition : Edition) (P : ℕ) → P ≤ slotMost edition → P ≤ slot
 slot-most One P h = omega arith
 slot-most Two P h = h
 slot-most Three P h = h
@@ -38,7 +38,7 @@ pub slot-three : (P : ℕ) → P ≤ slot → SlotWithin Three P
 slot-three P h = (zero-le, h)
 
 -- ---- the three bodies
-timing-to : (edition : Edition) (t : Timing) → AllInside (timingFields edition t) → TimingWithin t × SlotWithin edition (t .p)
+timing-to : (edition : Edition) (t : EnteredTiming) → AllInside (timingFields edition t) → ConstantsWithin t × SlotWithin edition (t .p)
 timing-to edition t a =
     let limits : (i : ℕ) → i < layout.timingLength → (fieldAt (timingFields edition t) i .least ≤ fieldAt (timingFields edition t) i .word) × (fieldAt (timingFields edition t) i .word ≤ fieldAt (timingFields edition t) i .most) = λ i h. inside-if-within (fieldAt (timingFields edition t) i) .0 (a i h) in
     let (low, high) = limits 9 (omega arith) in (
@@ -53,12 +53,11 @@ timing-to edition t a =
         lag = limits 7 (omega arith) .1;
         some-bit = limits 8 (omega arith) .0;
         nb = limits 8 (omega arith) .1;
-        p = slot-most edition (t .p) high;
       },
       (low, high),
     )
 
-timing-back : (edition : Edition) (t : Timing) → SlotWithin edition (t .p) → TimingWithin t → AllInside (timingFields edition t)
+timing-back : (edition : Edition) (t : EnteredTiming) → SlotWithin edition (t .p) → ConstantsWithin t → AllInside (timingFields edition t)
 timing-back edition t (low, high) w =
     shown Inside none-there
     (within-next zero-le (w .f)

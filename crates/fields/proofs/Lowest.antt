@@ -14,9 +14,9 @@ use lib.Seq.{drop-cons}
 use Rattle.laws.specs.declared.Found.the-variants.{At, Nothing}
 use Rattle.laws.proofs.Tests.{apart}
 use Rattle.plan.specs.declared.Stream.{Stream}
-use Rattle.plan.specs.Plan.{Plan}
 use Rattle.carried.specs.declared.Edition.{Edition}
 use Rattle.carried.specs.Layout as layout
+use Rattle.carried.specs.Carried.{Entered}
 use Rattle.fields.specs.Fields.{Field, _from_to_, timingFields, streamFields, gapField, fields, inside, lowest}
 use Rattle.fields.specs.private.Bands.{fieldsOf}
 
@@ -84,13 +84,13 @@ pub streams-done : (nb : ℕ) (streams : List Stream) (k r : ℕ) → length str
 unfolding flatMap lowest
 streams-done nb streams k r h = rw (drop-of-length-le streams h) refl
 
--- ---- a whole plan: its timing, then its streams, then its gaps
+-- ---- all that is entered: the timing, then the streams, then the gaps
 pub length-streams : (nb : ℕ) (streams : List Stream) → length (flatMap (streamFields nb) streams) ≡ layout.streamLength * length streams
 unfolding flatMap
 length-streams nb [] = refl
 length-streams nb (s ∷ streams) = omega (arith, length-streams nb streams)
 
-module _ (edition : Edition) (p : Plan) where
+module _ (edition : Edition) (p : Entered) where
   pub timing-here : (k : ℕ) → lowest 0 (timingFields edition (p .timing)) ≡ At k → lowest 0 (fields edition p) ≡ At k
   unfolding fields
   timing-here k e = append-at 0 k (timingFields edition (p .timing)) _ e

@@ -1,4 +1,4 @@
--- The fields of a plan in the order in which they are carried, each with its limits, and the lowest that is outside.
+-- The fields of what is entered in the order in which they are carried, each with its limits, and the lowest that is outside.
 use mathlib.Core.Path.{_≡_}
 use mathlib.Core.Bool.{Bool, true, false, _&&_}
 use mathlib.Core.List.{List, [], _∷_, _++_, map, flatMap}
@@ -8,13 +8,13 @@ use lib.Dec.{leb}
 use lib.ListN.{length, getD}
 use Rattle.names.specs.Limits.{constant, payload, acknowledgement, bits, slot, ticks}
 use Rattle.laws.specs.declared.Found.{Found, the-variants.At, the-variants.Nothing}
-use Rattle.plan.specs.declared.Timing.{Timing}
 use Rattle.plan.specs.declared.Stream.{Stream}
-use Rattle.plan.specs.Plan.{Plan, at, TimingWithin, StreamWithin, GapWithin}
+use Rattle.plan.specs.Plan.{blank, StreamWithin, GapWithin}
 use Rattle.carried.specs.declared.Edition.{Edition, the-variants.One, the-variants.Two, the-variants.Three}
-use Rattle.carried.specs.Carried.{valuesOf}
+use Rattle.carried.specs.declared.EnteredTiming.{EnteredTiming}
+use Rattle.carried.specs.Carried.{Entered, enteredWords}
 
--- a word of a plan, and the least and the most that it may be
+-- a word that is entered, and the least and the most that it may be
 pub record Field : Type 0 where
   pub word : ℕ
   pub least : ℕ
@@ -36,7 +36,7 @@ slotMost Two = slot
 slotMost Three = slot
 
 -- Timing, ten words: F, E, TFCS, SWX, H, G, ETG, LAG, each 0 to 65,535; then NB, 1 to 32; then P
-abbrev pub timingFields : Edition → Timing → List Field
+abbrev pub timingFields : Edition → EnteredTiming → List Field
 timingFields edition t =
     t .f from 0 to constant
     ∷ t .e from 0 to constant
@@ -67,10 +67,10 @@ streamFields nb s =
 abbrev pub gapField : ℕ → Field
 gapField n = n from 1 to ticks
 
--- the timing, the streams, the gaps, of a plan that stands in a file of an edition
-unfoldable pub fields : Edition → Plan → List Field
-fields edition p =
-    timingFields edition (p .timing) ++ (flatMap (streamFields (p .timing .nb)) (p .streams) ++ map gapField (p .gaps))
+-- the timing, the streams, the gaps, of what is entered in a file of an edition
+unfoldable pub fields : Edition → Entered → List Field
+fields edition v =
+    timingFields edition (v .timing) ++ (flatMap (streamFields (v .timing .nb)) (v .streams) ++ map gapField (v .gaps))
 
 abbrev pub inside : Field → Bool
 inside f = leb (f .least) (f .word) && leb (f .word) (f .most)
@@ -111,18 +111,31 @@ InsideIfWithin = (f : Field) → (inside f ≡ true) ↔ ((f .least ≤ f .word)
 abbrev pub SlotWithin : Edition → ℕ → Type 0
 SlotWithin edition P = (slotLeast edition ≤ P) × (P ≤ slotMost edition)
 
--- a plan's fields are all inside exactly if its timing, its streams and its gaps are within the limits, each label is a word, and P is
--- within those of the edition
-pub record FieldsWithin (edition : Edition) (p : Plan) : Type 0 where
-  pub slot : SlotWithin edition (p .timing .p)
-  pub timing : TimingWithin (p .timing)
-  pub stream : (k : ℕ) → k < length (p .streams) → StreamWithin (p .timing .nb) (at p k)
-  pub label : (k : ℕ) → k < length (p .streams) → at p k .label .0 ≤ ticks
-  pub gap : (k : ℕ) → k < length (p .gaps) → GapWithin (getD (p .gaps) k 0)
+-- F to LAG are 0 to 65,535, each by itself, and NB is 1 to 32
+pub record ConstantsWithin (t : EnteredTiming) : Type 0 where
+  pub f : t .f ≤ constant
+  pub e : t .e ≤ constant
+  pub tfcs : t .tfcs ≤ constant
+  pub swx : t .swx ≤ constant
+  pub h : t .h ≤ constant
+  pub g : t .g ≤ constant
+  pub etg : t .etg ≤ constant
+  pub lag : t .lag ≤ constant
+  pub some-bit : 1 ≤ t .nb
+  pub nb : t .nb ≤ bits
+
+-- all fields are inside exactly if the timing, the streams and the gaps are within the limits, each label is a word, and P is within the
+-- limits of the edition
+pub record FieldsWithin (edition : Edition) (v : Entered) : Type 0 where
+  pub slot : SlotWithin edition (v .timing .p)
+  pub timing : ConstantsWithin (v .timing)
+  pub stream : (k : ℕ) → k < length (v .streams) → StreamWithin (v .timing .nb) (getD (v .streams) k blank)
+  pub label : (k : ℕ) → k < length (v .streams) → getD (v .streams) k blank .label .0 ≤ ticks
+  pub gap : (k : ℕ) → k < length (v .gaps) → GapWithin (getD (v .gaps) k 0)
 
 abbrev pub InsideIfFieldsWithin : Type 0
-InsideIfFieldsWithin = (edition : Edition) (p : Plan) → AllInside (fields edition p) ↔ FieldsWithin edition p
+InsideIfFieldsWithin = (edition : Edition) (v : Entered) → AllInside (fields edition v) ↔ FieldsWithin edition v
 
--- the words of a plan's fields are the words that are carried, in their order
+-- the words of the fields are the words that are carried, in their order
 abbrev pub WordsAreCarried : Type 0
-WordsAreCarried = (edition : Edition) (p : Plan) → map (λ f. f .word) (fields edition p) ≡ valuesOf p
+WordsAreCarried = (edition : Edition) (v : Entered) → map (λ f. f .word) (fields edition v) ≡ enteredWords v

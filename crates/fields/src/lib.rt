@@ -1,4 +1,4 @@
-// The limits of a plan's fields, and the lowest field that is outside them.
+// The limits of what is entered, field by field, and the lowest field that is outside them.
 //
 // The one public function answers for all words and every two counts, and its contract determines the answer. Nothing is assumed. A
 // field is known by where it stands among the words that are carried; this crate must not know of bytes or of refusals.
@@ -24,7 +24,7 @@ ghost use Rattle.names.specs.Limits as limit;
 ghost use Rattle.laws.specs.declared.Found.the-variants.{At};
 ghost use Rattle.laws.specs.Lists.{rows};
 ghost use Rattle.carried.specs.Layout as layout;
-ghost use Rattle.carried.specs.Carried.{timingIn, streamsIn, gapsIn, planIn};
+ghost use Rattle.carried.specs.Carried.{enteredTimingIn, streamsIn, gapsIn, enteredIn};
 ghost use Rattle.fields.specs.Fields.{slotLeast, slotMost, timingFields, streamFields, gapField, fields, lowest};
 ghost use Rattle.fields.specs.private.Bands.{fieldsOf};
 
@@ -74,7 +74,7 @@ fn slot_band(edition: Edition) -> Band
 // F to LAG are at most 65,535, NB is 1 to 32, and P as its edition has it.
 fn timing_outside(edition: Edition, words: &[u32]) -> Found
     requires { ⌜ length (now words) ≡ layout.largest ⌝ }
-    ensures { λ r. ⌜ r ≡ lowest 0 (timingFields edition (timingIn (now (words .entry)))) ⌝ }
+    ensures { λ r. ⌜ r ≡ lowest 0 (timingFields edition (enteredTimingIn (now (words .entry)))) ⌝ }
 {
     let slot = slot_band(edition);
     let least = [0, 0, 0, 0, 0, 0, 0, 0, 1, slot.least];
@@ -142,10 +142,10 @@ fn gaps_outside(words: &[u32], n: usize, m: usize) -> Found
     words_outside(&words[at..at + m], &least[..m], &most[..m], at)
 }
 
-// The lowest field that is outside its limits in an edition, counted from 0, of the plan of n streams and m gaps in the words; of counts
-// past the limits the plan has as many as it may. No number is raised to the power NB before NB is known to be in its limits.
+// The lowest field that is outside its limits in an edition, counted from 0, of what is entered in the words of n streams and m gaps; of
+// counts past the limits there are as many as there may be. No number is raised to the power NB before NB is known to be in its limits.
 pub fn outside(edition: Edition, words: &[u32; CARRIED], n: usize, m: usize) -> Found
-    ensures { λ r. ⌜ r ≡ lowest 0 (fields edition (planIn (min n limit.streams) (min m limit.sources) (now (words .entry)))) ⌝ }
+    ensures { λ r. ⌜ r ≡ lowest 0 (fields edition (enteredIn (min n limit.streams) (min m limit.sources) (now (words .entry)))) ⌝ }
 {
     let rows = smaller(n, STREAMS);
     match timing_outside(edition, words) {

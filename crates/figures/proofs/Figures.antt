@@ -22,7 +22,8 @@ use Rattle.plan.specs.Rules.{selfOrSlotted, «V», U, C″, B, hit, terms, answ
 use Rattle.fields.specs.Fields.{fields, lowest}
 use Rattle.judge.specs.Table.{judge}
 use Rattle.words.specs.Words.{wordsOf, bytesOf}
-use Rattle.file.specs.File.{fileWords, planInBodies, same, sizeRight, fileOf, readOf}
+use Rattle.carried.specs.Carried.{meantTiming, meant}
+use Rattle.file.specs.File.{fileWords, enteredInBodies, same, sizeRight, enteredFile, fileOf, readOf}
 use Rattle.decimal.specs.Decimal.{digitsOf, digits}
 use Rattle.text.specs.Listing.{listingOf}
 use Rattle.text.specs.Listing as text
@@ -60,14 +61,15 @@ abbrev bySize : Bool → ℕ → ℕ
 bySize ok number = cond ok (number + 1) 1
 
 again : Entry → Entry
-again (ofTiming t v u) = ofTiming t («V» t) (U t)
-again (ofPlan p c d) = ofPlan p (values p) (file (fileOf p))
-again (ofRow p k c L q is a) =
+again (ofTiming t v u) = ofTiming t («V» (meantTiming t)) (U (meantTiming t))
+again (ofPlan v c d) = ofPlan v (values v) (file (enteredFile v))
+again (ofRow v k c L q is a) =
+    let p = meant v in
     let r = terms p (at p k) in
     let f = sought r (full r (r .own .T)) in
-    ofRow p k (C″ (p .timing) (at p k)) f (instances r f) (rows (instances r f) (ofInstance r)) (answerFor r (at p k .deadline) f)
-again (ofListing p size text) = ofListing p (length (fileOf p)) (listingOf p (answers p))
-again (ofOlder p size c) = ofOlder p (length (olderFile p)) (file (olderFile p))
+    ofRow v k (C″ (p .timing) (at p k)) f (instances r f) (rows (instances r f) (ofInstance r)) (answerFor r (at p k .deadline) f)
+again (ofListing v size text) = ofListing v (length (fileOf (meant v))) (listingOf (meant v) (answers (meant v)))
+again (ofOlder v size c) = ofOlder v (length (olderFile v)) (file (olderFile v))
 again (ofBytes bs size number) = ofBytes bs (length bs) (bySize (sizeRight bs) number)
 again (ofTournament NB n places a b ss) =
     let start = startOf NB n places in
@@ -87,10 +89,10 @@ by-size bs any size number e f h = go (sizeRight any) refl (rw (f ∙ sym e) h)
 holds : (e : Entry) → again e ≡ e → Holds e
 unfolding again answer
 holds (ofTiming t v u) e = (cc, cc)
-holds (ofPlan p c d) e = (cc, cc)
-holds (ofRow p k c L q is a) e = let b = is-busy (terms p (at p k)) in (cc, cc, cc, cc, cc)
-holds (ofListing p size text) e = (cc, cc)
-holds (ofOlder p size c) e = (cc, cc)
+holds (ofPlan v c d) e = (cc, cc)
+holds (ofRow v k c L q is a) e = let b = is-busy (terms (meant v) (at (meant v) k)) in (cc, cc, cc, cc, cc)
+holds (ofListing v size text) e = (cc, cc)
+holds (ofOlder v size c) e = (cc, cc)
 holds (ofBytes bs size number) e = (cc, λ any f. by-size bs any size number (cc) f (cc))
 holds (ofTournament NB n places a b ss) e = (cc, cc, cc)
 
@@ -102,7 +104,7 @@ all-hold (x ∷ es) e = (holds x cc, all-hold es cc)
 same-again : map again table ≡ table
 unfolding again full load delayed sumOf largestOf those rows first largestTo firstLargest some firstRepeat
     E demand sideL busy sideW w bound worst answer selfOrSlotted B hit terms
-    fields lowest flatMap judge wordsOf bytesOf fileWords planInBodies same readOf
+    fields lowest flatMap judge wordsOf bytesOf fileWords enteredInBodies same readOf
     listingOf text.listedRows text.row digits digitsOf
     lowestUnfit verdictOf begunOf heardAt silencedAt marksAfter lowestMarked winnerOf nextAt steps startOf runOf
 same-again = refl

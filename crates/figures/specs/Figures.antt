@@ -1,6 +1,7 @@
--- Document 01, "Plans to run", with a pulse for each priority bit, the worst instance and edition 3 (document 02, requests 02, 03 and 05):
--- the figures for P1 to P12, as one table in the document's order, and four plans of our own after them. The claim is that every entry of it
--- holds, `Figures`, proved in proofs/Figures.antt. All rows of a plan have the same columns, so that some of them are not in the documents.
+-- Document 01, "Plans to run", with a pulse for each priority bit, the worst instance, edition 3 and no LAG in a plan (document 02, requests
+-- 02, 03, 05 and 06): the figures for P1 to P12, as one table in the document's order, and plans of our own after them. The claim is that every
+-- entry of it holds, `Figures`, proved in proofs/Figures.antt. All rows of a plan have the same columns, so that some of them are not in the
+-- documents.
 use mathlib.Core.Path.{_≡_}
 use mathlib.Core.Bool.{Bool, true, false}
 use mathlib.Core.List.{List, [], _∷_, _++_}
@@ -14,43 +15,45 @@ use Rattle.bound.specs.declared.Answer.{Answer}
 use Rattle.bound.specs.declared.Verdict.the-variants.{Met, Missed, None}
 use Rattle.bound.specs.Terms.{Terms}
 use Rattle.bound.specs.Bound.{busy, Q, w, term}
-use Rattle.plan.specs.declared.Timing.{Timing}
-use Rattle.plan.specs.Plan.{Plan, at}
+use Rattle.plan.specs.Plan.{at}
 use Rattle.plan.specs.Rules.{«V», U, C″, terms, rowAnswer, answers}
 use Rattle.carried.specs.declared.Edition.the-variants.{Three}
+use Rattle.carried.specs.declared.EnteredTiming.{EnteredTiming}
+use Rattle.carried.specs.Carried.{Entered, meantTiming, meant}
 use Rattle.judge.specs.declared.Checked.{Checked, the-variants.Fine, the-variants.Refused}
 use Rattle.judge.specs.Table.{judge}
 use Rattle.checks.specs.Checks.{lines}
-use Rattle.file.specs.File.{fileOf, readOf}
+use Rattle.file.specs.File.{enteredFile, fileOf, readOf}
 use Rattle.ascii.specs.Ascii.{ascii}
 use Rattle.text.specs.Listing.{listingOf}
 use Rattle.tournament_state.specs.declared.Phase.{Phase, the-variants.AtBit, the-variants.Finished}
 use Rattle.tournament_state.specs.declared.Tournament.{Tournament}
 use Rattle.tournament.specs.Rule.{steps}
 use Rattle.tournament.specs.Answers.{startOf, runOf}
-use Rattle.figures.specs.Plans.{base, P1, P2, alone, P3, P4, P5, P6, P7, P8, P9, P10, P11, P12, olderFile, slots, equallyLate, waits}
+use Rattle.figures.specs.Plans.{base, P1, P2, alone, P3, P4, P5, P6, P7, P8, P9, P10, P11, P12}
+use Rattle.figures.specs.Plans.{olderFile, slots, equallyLate, waits, lagging}
 
 -- ---- an entry: what is run, and its figures
 
 pub data Entry : Type 0 where
-  -- timing constants: V and U
-  ofTiming : Timing → ℕ → ℕ → Entry
+  -- timing constants, as all that follows as it is entered: V and U
+  ofTiming : EnteredTiming → ℕ → ℕ → Entry
   -- a plan: the answer to its values, and to its file
-  ofPlan : Plan → Checked → Checked → Entry
+  ofPlan : Entered → Checked → Checked → Entry
   -- a plan and a row: C'', L or none, Q, w(q) and the term of q for q from 0 to Q - 1, and the answer
-  ofRow : Plan → ℕ → ℕ → Found → ℕ → List (ℕ × ℤ) → Answer → Entry
+  ofRow : Entered → ℕ → ℕ → Found → ℕ → List (ℕ × ℤ) → Answer → Entry
   -- a plan: how many bytes its file has, and the whole listing
-  ofListing : Plan → ℕ → List ℕ → Entry
+  ofListing : Entered → ℕ → List ℕ → Entry
   -- a plan: how many bytes its file of edition 1 has, and the answer to it
-  ofOlder : Plan → ℕ → Checked → Entry
+  ofOlder : Entered → ℕ → Checked → Entry
   -- a file: how many bytes it has, and the number of the refusal, at 0, of any file of so many bytes
   ofBytes : List ℕ → ℕ → ℕ → Entry
   -- NB, how many contend, and their priorities: the answers to start and run, and phase and marks before each step and at the end
   ofTournament : ℕ → ℕ → List Priority → Checked → Checked → List (Phase × List Bool) → Entry
 
 -- the answer to a plan's values, and to a file
-abbrev pub values : Plan → Checked
-values p = judge (lines Three (length (p .streams)) (length (p .gaps)) p)
+abbrev pub values : Entered → Checked
+values v = judge (lines Three (length (v .streams)) (length (v .gaps)) v)
 
 abbrev pub file : List ℕ → Checked
 file bs = readOf bs .answer
@@ -75,13 +78,14 @@ abbrev pub states : Tournament → List (Phase × List Bool)
 states t = rows (t .bits) (λ k. state (steps k t)) ++ state (runOf t .tournament) ∷ []
 
 abbrev pub Holds : Entry → Type 0
-Holds (ofTiming t v u) = («V» t ≡ v) × (U t ≡ u)
-Holds (ofPlan p c d) = (values p ≡ c) × (file (fileOf p) ≡ d)
-Holds (ofRow p k c L q is a) =
+Holds (ofTiming t v u) = («V» (meantTiming t) ≡ v) × (U (meantTiming t) ≡ u)
+Holds (ofPlan v c d) = (values v ≡ c) × (file (enteredFile v) ≡ d)
+Holds (ofRow v k c L q is a) =
+    let p = meant v in
     let r = terms p (at p k) in
     (C″ (p .timing) (at p k) ≡ c) × (busy r ≡ L) × (instances r L ≡ q) × (rows q (ofInstance r) ≡ is) × (rowAnswer p (at p k) ≡ a)
-Holds (ofListing p size text) = (length (fileOf p) ≡ size) × (listingOf p (answers p) ≡ text)
-Holds (ofOlder p size c) = (length (olderFile p) ≡ size) × (file (olderFile p) ≡ c)
+Holds (ofListing v size text) = (length (fileOf (meant v)) ≡ size) × (listingOf (meant v) (answers (meant v)) ≡ text)
+Holds (ofOlder v size c) = (length (olderFile v) ≡ size) × (file (olderFile v) ≡ c)
 Holds (ofBytes bs size number) = (length bs ≡ size) × ((any : List ℕ) → length any ≡ size → file any ≡ refusal number 0)
 Holds (ofTournament NB n places a b ss) =
     let start = startOf NB n places in
@@ -194,6 +198,11 @@ table =
     ∷ ofRow waits 0 28 (At 48) 1 (20 gives 48 ∷ []) (met 48 0)
     ∷ ofRow waits 1 29 (At 70) 1 (41 gives 80 ∷ []) (met 80 0)
     ∷ ofRow waits 2 22 (At 79) 1 (57 gives 79 ∷ []) (met 79 0)
+    -- P1 with ETG + LAG at 65,535: fine; a tick more: refused 11 at byte 68, and in edition 1; a LAG that is itself too great: 3 at byte 72
+    ∷ ofPlan (lagging 65534 1) Fine Fine
+    ∷ ofPlan (lagging 65535 1) (refusal 11 68) (refusal 11 68)
+    ∷ ofOlder (lagging 65535 1) 152 (refusal 11 68)
+    ∷ ofPlan (lagging 65535 65536) (refusal 3 72) (refusal 3 72)
     ∷ []
 
 -- ---- the claim

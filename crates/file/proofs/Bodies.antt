@@ -1,9 +1,9 @@
--- The words of a plan's file, and the plan in the bodies of a file of each edition: word by word the plan's words are those of the bodies,
--- each in its place, and 0 where the edition has none; in edition 3 they are the bodies. Assumes nothing.
+-- The words of a file, and what is entered in the bodies of a file of each edition: word by word its words are those of the bodies, each in
+-- its place, and 0 where the edition has none; in edition 3 they are the bodies. Assumes nothing.
 use mathlib.Core.Path.{_≡_, refl, sym, ap, ap₂, _∙_, subst}
 use mathlib.Core.Bool.{true, false, not, _&&_, true≢false}
 use mathlib.Core.List.{List, [], _++_, flatMap, append-nil}
-use Prim.Native.Nat.{ℕ, _+_, _-_, _/_, _%_, _≤_, _<_}
+use Prim.Native.Nat.{ℕ, _+_, _-_, _*_, _/_, _%_, _≤_, _<_}
 use native.Mathlib.Nat.{lt-of-not-le, add-zero}
 use native.Mathlib.Decide.{decLe, decLt}
 use native.Mathlib.Omega.{arith}
@@ -13,30 +13,30 @@ use lib.ListN.{length, getD, take, drop, length-take, length-drop, take-append-d
 use lib.Seq.{getD-take, getD-drop, take-all}
 use Rattle.laws.specs.Lists.{rows}
 use Rattle.laws.proofs.Lists.{length-rows, rows-at, rows-same}
-use Rattle.plan.specs.Plan.{Plan, blank}
+use Rattle.plan.specs.Plan.{blank}
 use Rattle.carried.specs.declared.Edition.{Edition, the-variants.One, the-variants.Two, the-variants.Three}
 use Rattle.carried.specs.Layout as layout
-use Rattle.carried.specs.Carried.{timingIn, streamIn, planIn, timingWords, streamWords, valuesOf}
+use Rattle.carried.specs.Carried.{Entered, plainTiming, plainly, enteredTimingIn, streamIn, enteredIn, timingIn, planIn, timingWords, streamWords, enteredWords}
 use Rattle.carried.proofs.Editions.{before-P, past-P}
-use Rattle.carried.proofs.Plans.{length-values, stream-word, gap-word, values-back}
+use Rattle.carried.proofs.Plans.{length-words as length-entered, stream-word, gap-word, words-back, tail-back}
 use Rattle.checks.proofs.Counts.{and-true}
-use Rattle.file.specs.File.{contents, fileWords, recordIn, planInBodies}
+use Rattle.file.specs.File.{contents, fileWords, recordIn, enteredInBodies}
 
--- ---- the words of a plan's file
-pub length-words : (p : Plan) → length (fileWords p) ≡ layout.contentsLength + layout.gapAt (length (p .streams)) (length (p .gaps))
+-- ---- the words of a file
+pub length-words : (p : Entered) → length (fileWords p) ≡ layout.contentsLength + layout.gapAt (length (p .streams)) (length (p .gaps))
 unfolding fileWords
-length-words p = omega (arith, length-values p)
+length-words p = omega (arith, length-entered p)
 
--- of the plan of n streams and m gaps in words that may have more after it
-pub words-in : (n m : ℕ) (ws : List ℕ) → layout.gapAt n m ≤ length ws
-    → fileWords (planIn n m ws) ≡ contents Three n m ++ take (layout.gapAt n m) ws
-unfolding fileWords planIn
-words-in n m ws h =
-    ap₂ (λ a b. contents Three a b ++ valuesOf (planIn n m ws)) (length-rows n _) (length-rows m _)
-    ∙ ap (λ v. contents Three n m ++ v) (values-back n m ws h)
+-- of the plan that is meant by words that may have more after it: its timing has words of its own, and the others stand as they are
+pub words-meant : (n m : ℕ) (ws : List ℕ) → layout.gapAt n m ≤ length ws
+    → fileWords (plainly (planIn n m ws)) ≡ contents Three n m ++ (timingWords (plainTiming (timingIn ws)) ++ take (layout.streamLength * n + m) (drop layout.timingLength ws))
+unfolding fileWords enteredIn
+words-meant n m ws h =
+    ap₂ (λ a b. contents Three a b ++ enteredWords (plainly (planIn n m ws))) (length-rows n _) (length-rows m _)
+    ∙ ap (λ l. contents Three n m ++ (timingWords (plainTiming (timingIn ws)) ++ l)) (tail-back ws n m h)
 
--- ---- in edition 3 the plan in the bodies is that in its words
-timing-taken : (ws : List ℕ) → timingIn (take layout.timingLength ws) ≡ timingIn ws
+-- ---- in edition 3 what is entered in the bodies is what is entered in their words
+timing-taken : (ws : List ℕ) → enteredTimingIn (take layout.timingLength ws) ≡ enteredTimingIn ws
 timing-taken ws =
     let t : (k : ℕ) → k < layout.timingLength → getD (take layout.timingLength ws) k 0 ≡ getD ws k 0 = λ k h. getD-take layout.timingLength ws k 0 h in
     rw (t 0 (omega arith), t 1 (omega arith), t 2 (omega arith), t 3 (omega arith), t 4 (omega arith), t 5 (omega arith), t 6 (omega arith), t 7 (omega arith), t 8 (omega arith), t 9 (omega arith)) refl
@@ -47,65 +47,65 @@ stream-taken ws k =
     λ j h. getD-take layout.streamLength (drop k ws) j 0 h ∙ getD-drop k ws j 0 in
     rw (t 0 (omega arith), t 1 (omega arith), t 2 (omega arith), t 3 (omega arith), t 4 (omega arith), t 5 (omega arith), t 6 (omega arith), add-zero k) refl
 
-pub as-carried : (n m : ℕ) (bodies : List ℕ) → planInBodies Three n m bodies ≡ planIn n m bodies
-unfolding planInBodies planIn
+pub as-carried : (n m : ℕ) (bodies : List ℕ) → enteredInBodies Three n m bodies ≡ enteredIn n m bodies
+unfolding enteredInBodies enteredIn
 as-carried n m bodies =
     let streams : rows n (recordIn Three bodies) ≡ rows n (λ r. streamIn bodies (layout.streamAt r)) =
     rows-same n _ _ (λ r h. stream-taken bodies (layout.streamAt r)) in
     rw (timing-taken bodies, streams) refl
 
-pub length-plan : (edition : Edition) (n m : ℕ) (bodies : List ℕ)
-    → (length (planInBodies edition n m bodies .streams) ≡ n) × (length (planInBodies edition n m bodies .gaps) ≡ m)
-unfolding planInBodies
-length-plan edition n m bodies = (length-rows n _, length-rows m _)
+pub length-at : (edition : Edition) (n m : ℕ) (bodies : List ℕ)
+    → (length (enteredInBodies edition n m bodies .streams) ≡ n) × (length (enteredInBodies edition n m bodies .gaps) ≡ m)
+unfolding enteredInBodies
+length-at edition n m bodies = (length-rows n _, length-rows m _)
 
 -- so its words are the bodies
-pub bodies-back : (n m : ℕ) (bodies : List ℕ) → length bodies ≡ layout.gapAt n m → valuesOf (planInBodies Three n m bodies) ≡ bodies
+pub bodies-back : (n m : ℕ) (bodies : List ℕ) → length bodies ≡ layout.gapAt n m → enteredWords (enteredInBodies Three n m bodies) ≡ bodies
 bodies-back n m bodies e =
-    ap valuesOf (as-carried n m bodies) ∙ values-back n m bodies (omega arith) ∙ take-all (layout.gapAt n m) bodies (omega arith)
+    ap enteredWords (as-carried n m bodies) ∙ words-back n m bodies (omega arith) ∙ take-all (layout.gapAt n m) bodies (omega arith)
 
 -- .. and its file's words those of the file
 pub words-of-plan : (ws : List ℕ) (n m : ℕ) → length ws ≡ layout.contentsLength + layout.gapAt n m → take layout.contentsLength ws ≡ contents Three n m
-    → fileWords (planInBodies Three n m (drop layout.contentsLength ws)) ≡ ws
+    → fileWords (enteredInBodies Three n m (drop layout.contentsLength ws)) ≡ ws
 unfolding fileWords
 words-of-plan ws n m long e =
     let bodies = drop layout.contentsLength ws in
-    let (n-is, m-is) = length-plan Three n m bodies in
+    let (n-is, m-is) = length-at Three n m bodies in
     let k : length bodies ≡ layout.gapAt n m = length-drop layout.contentsLength ws ∙ omega arith in
-    ap₂ (λ a b. contents Three a b ++ valuesOf (planInBodies Three n m bodies)) n-is m-is
+    ap₂ (λ a b. contents Three a b ++ enteredWords (enteredInBodies Three n m bodies)) n-is m-is
     ∙ ap₂ _++_ (sym e) (bodies-back n m bodies k)
     ∙ take-append-drop layout.contentsLength ws
 
--- ---- the words of the plan in the bodies, one by one
+-- ---- the words of what is entered in the bodies, one by one
 module _ (edition : Edition) (n m : ℕ) (bodies : List ℕ) where
-  abbrev p : Plan
-  p = planInBodies edition n m bodies
+  abbrev p : Entered
+  p = enteredInBodies edition n m bodies
 
   abbrev pub valueAt : ℕ → ℕ
-  valueAt k = getD (valuesOf p) k 0
+  valueAt k = getD (enteredWords p) k 0
 
   in-timing : (k : ℕ) → k < layout.timingLength → valueAt k ≡ getD (take (layout.timingBody edition) bodies) k 0
-  unfolding planInBodies rows
+  unfolding enteredInBodies rows
   in-timing k h =
       let ws = take (layout.timingBody edition) bodies in
-      List·getD-append (timingWords (timingIn ws)) (flatMap streamWords (p .streams) ++ p .gaps) 0 k h ∙ rows-at layout.timingLength (λ j. getD ws j 0) 0 k h
+      List·getD-append (timingWords (enteredTimingIn ws)) (flatMap streamWords (p .streams) ++ p .gaps) 0 k h ∙ rows-at layout.timingLength (λ j. getD ws j 0) 0 k h
 
   in-record : (r j : ℕ) → r < n → j < layout.streamLength
       → valueAt (layout.streamAt r + j) ≡ getD (take (layout.streamBody edition) (drop (layout.recordAt edition r) bodies)) j 0
-  unfolding planInBodies rows
+  unfolding enteredInBodies rows
   in-record r j h g =
       let ws = take (layout.streamBody edition) (drop (layout.recordAt edition r) bodies) in
-      ap (λ l. getD l (layout.streamAt r + j) 0) (sym (append-nil (valuesOf p)))
-      ∙ stream-word p [] r j (omega (arith, length-plan edition n m bodies)) g
+      ap (λ l. getD l (layout.streamAt r + j) 0) (sym (append-nil (enteredWords p)))
+      ∙ stream-word p [] r j (omega (arith, length-at edition n m bodies)) g
       ∙ ap (λ s. getD (streamWords s) j 0) (rows-at n (recordIn edition bodies) blank r h)
       ∙ rows-at layout.streamLength (λ j. getD ws j 0) 0 j g
 
   in-gaps : (i : ℕ) → i < m → valueAt (layout.gapAt n i) ≡ getD bodies (layout.recordAt edition n + i) 0
-  unfolding planInBodies
+  unfolding enteredInBodies
   in-gaps i h =
-      let (n-is, m-is) = length-plan edition n m bodies in
-      ap (λ l. getD l (layout.gapAt n i) 0) (sym (append-nil (valuesOf p)))
-      ∙ ap (λ k. getD (valuesOf p ++ []) (layout.gapAt k i) 0) (sym n-is)
+      let (n-is, m-is) = length-at edition n m bodies in
+      ap (λ l. getD l (layout.gapAt n i) 0) (sym (append-nil (enteredWords p)))
+      ∙ ap (λ k. getD (enteredWords p ++ []) (layout.gapAt k i) 0) (sym n-is)
       ∙ gap-word p [] i (omega arith)
       ∙ rows-at m (λ k. getD bodies (layout.recordAt edition n + k) 0) 0 i h
 
@@ -177,7 +177,7 @@ at-gap One n i = past-P n (layout.gapAt n i) (omega arith) ∙ omega arith
 at-gap Two n i = omega arith
 at-gap Three n i = refl
 
--- ---- so each word of the plan is the bodies' in its place, or 0
+-- ---- so each word that is entered is the bodies' in its place, or 0
 data Stands (n m : ℕ) : ℕ → Type 0 where
   of-timing : (k : ℕ) → k < layout.timingLength → Stands n m k
   of-record : (r j : ℕ) → r < n → j < layout.streamLength → Stands n m (layout.streamAt r + j)

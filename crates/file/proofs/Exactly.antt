@@ -8,12 +8,13 @@ use Rattle.names.specs.declared.Refusal.{Refusal}
 use Rattle.words.specs.Words.{wordsOf}
 use Rattle.plan.specs.Plan.{Plan}
 use Rattle.carried.specs.declared.Edition.{Edition}
+use Rattle.carried.specs.Carried.{Entered}
 use Rattle.judge.specs.declared.Checked.{Checked, the-variants.Fine, the-variants.Refused}
 use Rattle.judge.specs.Table.{Line, judge, lineAt}
 use Rattle.checks.specs.Checks.{valueLines}
 use Rattle.judge.proofs.Table.{fine-then, refused-by-the-first}
 use Rattle.file.specs.declared.Counts.{Counts, the-variants.Of, the-variants.Refused as Counts·Refused}
-use Rattle.file.specs.File.{editionIn, countIn, sourcesIn, planAt, contentsLines, linesIn, countsOf, readAs, readOf}
+use Rattle.file.specs.File.{editionIn, countIn, sourcesIn, enteredAt, planAt, contentsLines, linesIn, countsOf, readAs, readOf}
 use Rattle.file.specs.Claims.{ContentsRefused}
 use Rattle.file.proofs.Reading.{as-refused, counts-refused, first-fine}
 
@@ -33,12 +34,13 @@ first-number edition n m bs (suc (suc zero)) h = omega arith
 first-number edition n m bs (suc (suc (suc i))) h = absurd (omega arith)
 
 -- no line of the values has a number below 3, nor is one a 6, which is for lent memory
-value-number : (edition : Edition) (p : Plan) (i : ℕ) → i < 4 → (3 ≤ lineAt (valueLines edition p) i .number) × (lineAt (valueLines edition p) i .number ≡ 6 → ⊥)
+value-number : (edition : Edition) (p : Entered) (i : ℕ) → i < 5 → (3 ≤ lineAt (valueLines edition p) i .number) × (lineAt (valueLines edition p) i .number ≡ 6 → ⊥)
 value-number edition p zero h = (omega arith, λ e. omega arith)
 value-number edition p (suc zero) h = (omega arith, λ e. omega arith)
 value-number edition p (suc (suc zero)) h = (omega arith, λ e. omega arith)
 value-number edition p (suc (suc (suc zero))) h = (omega arith, λ e. omega arith)
-value-number edition p (suc (suc (suc (suc i)))) h = absurd (omega arith)
+value-number edition p (suc (suc (suc (suc zero)))) h = (omega arith, λ e. omega arith)
+value-number edition p (suc (suc (suc (suc (suc i))))) h = absurd (omega arith)
 
 module _ (bs : List ℕ) (r : Refusal) where
   small : countsOf bs ≡ Counts·Refused r → r .number ≤ 2
@@ -53,9 +55,10 @@ module _ (bs : List ℕ) (r : Refusal) where
   unfolding readOf
   by-values x n m e d =
       let (x-is, n-is, m-is, fine) = first-fine bs x n m e in
+      let v = enteredAt x n m bs in
       let p = planAt x n m bs in
       let j : judge (linesIn x n m bs) ≡ Refused r = answer-refused (judge (linesIn x n m bs)) p r (rw (x-is, n-is, m-is) at d) in
-      number-of (λ k. (3 ≤ k) × (k ≡ 6 → ⊥)) (valueLines x p) r (value-number x p) (sym (fine-then (contentsLines x n m bs) (valueLines x p) fine) ∙ j)
+      number-of (λ k. (3 ≤ k) × (k ≡ 6 → ⊥)) (valueLines x v) r (value-number x v) (sym (fine-then (contentsLines x n m bs) (valueLines x v) fine) ∙ j)
 
   only : (c : Counts) → countsOf bs ≡ c → (readOf bs .answer ≡ Refused r) × (r .number ≤ 2) → countsOf bs ≡ Counts·Refused r
   only (Of x n m) e (d, h) = absurd (omega (arith, by-values x n m e d .0))

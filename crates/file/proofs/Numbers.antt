@@ -9,9 +9,9 @@ use Rattle.words.specs.Words.{wordsOf}
 use Rattle.carried.specs.Layout as layout
 use Rattle.fields.specs.Fields.{Field, _from_to_, fields}
 use Rattle.fields.proofs.Carried.{words-are-carried, length-fields}
-use Rattle.file.specs.File.{planAt}
+use Rattle.file.specs.File.{enteredAt}
 use Rattle.file.specs.Claims.{ContentsAre, SizesAre, PlaceIsOffset}
-use Rattle.file.proofs.Bodies.{length-plan, word-there, word-not}
+use Rattle.file.proofs.Bodies.{length-at, word-there, word-not}
 
 pub contents-are : ContentsAre
 contents-are n m =
@@ -32,8 +32,8 @@ pub place-is-offset : PlaceIsOffset
 place-is-offset bs edition n m e i h =
     let word : Field → ℕ = λ f. f .word in
     let bodies = drop layout.contentsLength (wordsOf bs) in
-    let p = planAt edition n m bs in
-    let (n-is, m-is) = length-plan edition n m bodies in
+    let p = enteredAt edition n m bs in
+    let (n-is, m-is) = length-at edition n m bodies in
     let value = ap (λ l. getD l i 0) (sym (words-are-carried edition p)) ∙ List·getD-map word (fields edition p) i (0 from 0 to 0) in
     let among : i < layout.gapAt n m = omega (arith, length-fields edition p) in (
       refl,

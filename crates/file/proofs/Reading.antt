@@ -18,20 +18,20 @@ use Rattle.judge.proofs.Table.{given, passed, not-given, refused-then, unless-n
 use Rattle.plan.specs.Plan.{Plan}
 use Rattle.carried.specs.declared.Edition.{Edition, the-variants.Three}
 use Rattle.carried.specs.Layout as layout
-use Rattle.carried.specs.Carried.{planIn, valuesOf, sheetOf, noSheet}
-use Rattle.carried.proofs.Plans.{one-sheet, plan-in-places, plan-in-values}
+use Rattle.carried.specs.Carried.{plainly, enteredIn, enteredWords, sheetOf, noSheet}
+use Rattle.carried.proofs.Plans.{one-sheet, entered-in-places, entered-in-words}
 use Rattle.checks.specs.Checks.{rangeLines, valueLines, lines, checkedOf}
 use Rattle.checks.proofs.Counts.{range-number, fine-range, ranges-counted}
 use Rattle.file.specs.declared.Counts.{Counts, the-variants.Of, the-variants.Refused as Counts·Refused}
-use Rattle.file.specs.File.{contents, editionIn, countIn, sourcesIn, planAt, same, sizeRight, contentsRight, contentsLines, countsAs, countsOf, carriedAs, carriedOf, linesIn, readAs, readOf}
+use Rattle.file.specs.File.{contents, editionIn, countIn, sourcesIn, enteredAt, planAt, same, sizeRight, contentsRight, contentsLines, countsAs, countsOf, carriedAs, carriedOf, linesIn, readAs, readOf}
 use Rattle.file.proofs.Same.{same-eq}
-use Rattle.file.proofs.Bodies.{length-plan}
+use Rattle.file.proofs.Bodies.{length-at}
 
--- the plan in a file has as many streams and gaps as are said
-at-counts : (edition : Edition) (n m : ℕ) (bs : List ℕ) → judge (rangeLines n m ++ valueLines edition (planAt edition n m bs)) ≡ judge (lines edition n m (planAt edition n m bs))
+-- what is entered in a file has as many streams and gaps as are said
+at-counts : (edition : Edition) (n m : ℕ) (bs : List ℕ) → judge (rangeLines n m ++ valueLines edition (enteredAt edition n m bs)) ≡ judge (lines edition n m (enteredAt edition n m bs))
 at-counts edition n m bs =
-    let (n-is, m-is) = length-plan edition n m (drop layout.contentsLength (wordsOf bs)) in
-    ranges-counted n m (planAt edition n m bs) n-is m-is edition
+    let (n-is, m-is) = length-at edition n m (drop layout.contentsLength (wordsOf bs)) in
+    ranges-counted n m (enteredAt edition n m bs) n-is m-is edition
 
 -- ---- what the contents say, answer by answer
 abbrev pub refusedCounts : ℕ → Counts
@@ -68,7 +68,7 @@ module _ (bs : List ℕ) (edition : Edition) (n m : ℕ) (x : editionIn (wordsOf
       go false two = said-contents two ∙ ap Counts·Refused (sym (range-number n m r three))
 
   -- what reading gives where the first two lines are not given
-  pub read-values : contentsRight edition n m bs ≡ true → readOf bs ≡ readAs (judge (lines edition n m (planAt edition n m bs))) (planAt edition n m bs)
+  pub read-values : contentsRight edition n m bs ≡ true → readOf bs ≡ readAs (judge (lines edition n m (enteredAt edition n m bs))) (planAt edition n m bs)
   unfolding readOf
   read-values two =
       rw (x, e, d) (ap (λ c. readAs c (planAt edition n m bs)) (passed _ _ (ap unless one) ∙ passed _ _ (ap unless two) ∙ at-counts edition n m bs))
@@ -90,7 +90,7 @@ counts-refused bs r e =
     let n = countIn edition (wordsOf bs) in
     let m = sourcesIn (wordsOf bs) in
     let lines = contentsLines edition n m bs in
-    ap (λ c. readAs c (planAt edition n m bs)) (refused-then lines (valueLines edition (planAt edition n m bs)) r (as-refused edition n m (judge lines) r e))
+    ap (λ c. readAs c (planAt edition n m bs)) (refused-then lines (valueLines edition (enteredAt edition n m bs)) r (as-refused edition n m (judge lines) r e))
 
 -- ---- the lines of the contents are not given
 -- what right contents say
@@ -118,7 +118,7 @@ module _ (bs : List ℕ) (edition : Edition) (n m : ℕ) (e : countsOf bs ≡ Of
       (unless-not (sizeRight bs) one, unless-not (contentsRight edition n m bs) two, j₂)
 
   -- the answer is then that to the values
-  pub counts-are : readOf bs ≡ readAs (judge (lines edition n m (planAt edition n m bs))) (planAt edition n m bs)
+  pub counts-are : readOf bs ≡ readAs (judge (lines edition n m (enteredAt edition n m bs))) (planAt edition n m bs)
   counts-are = read-values bs edition n m (first-fine .0) (first-fine .1) (first-fine .2) (two-fine .0) (two-fine .1)
 
   -- there are as many streams and gaps as a plan may have, ..
@@ -129,16 +129,16 @@ module _ (bs : List ℕ) (edition : Edition) (n m : ℕ) (e : countsOf bs ≡ Of
   pub counts-size : length bs ≡ layout.size edition n m
   counts-size = right-contents edition n m bs (two-fine .1) .1
 
-  -- the plan in the words that are carried, laid onto zeros, is the file's
-  pub counts-plan : {ws : List ℕ} → ws ≡ carriedOf bs (replicate layout.largest 0) → planIn n m ws ≡ planAt edition n m bs
-  counts-plan d =
-      let p = planAt edition n m bs in
-      let (n-is, m-is) = length-plan edition n m (drop layout.contentsLength (wordsOf bs)) in
-      ap (planIn n m) (d ∙ ap (λ r. carriedAs r bs (replicate layout.largest 0)) e ∙ laid-on-zeros (valuesOf p) layout.largest)
-      ∙ plan-in-places n m (valuesOf p) (counts-right .1) (counts-right .2)
-      ∙ ap₂ (λ i j. planIn i j (valuesOf p)) (sym n-is) (sym m-is)
-      ∙ ap (planIn _ _) (sym (append-nil (valuesOf p)))
-      ∙ plan-in-values p []
+  -- what is entered in the words that are carried, laid onto zeros, is what is entered in the file
+  pub counts-entered : {ws : List ℕ} → ws ≡ carriedOf bs (replicate layout.largest 0) → enteredIn n m ws ≡ enteredAt edition n m bs
+  counts-entered d =
+      let p = enteredAt edition n m bs in
+      let (n-is, m-is) = length-at edition n m (drop layout.contentsLength (wordsOf bs)) in
+      ap (enteredIn n m) (d ∙ ap (λ r. carriedAs r bs (replicate layout.largest 0)) e ∙ laid-on-zeros (enteredWords p) layout.largest)
+      ∙ entered-in-places n m (enteredWords p) (counts-right .1) (counts-right .2)
+      ∙ ap₂ (λ i j. enteredIn i j (enteredWords p)) (sym n-is) (sym m-is)
+      ∙ ap (enteredIn _ _) (sym (append-nil (enteredWords p)))
+      ∙ entered-in-words p []
 
 -- ---- what a fine answer says
 pub record ReadFine (bs : List ℕ) : Type 0 where
@@ -148,7 +148,7 @@ pub record ReadFine (bs : List ℕ) : Type 0 where
   pub m : ℕ
   pub size : length bs ≡ layout.size edition n m
   pub contents : take layout.contentsLength (wordsOf bs) ≡ contents edition n m
-  pub values : judge (lines edition n m (planAt edition n m bs)) ≡ Fine
+  pub values : judge (lines edition n m (enteredAt edition n m bs)) ≡ Fine
   pub read : readOf bs ≡ record { answer = Fine; sheet = sheetOf (planAt edition n m bs) }
 
 answer-of : (c : Checked) (p : Plan) → readAs c p .answer ≡ Fine → c ≡ Fine
@@ -177,10 +177,10 @@ fine-read bs e =
       read = ap (λ c. readAs c p) j;
     }
 
--- ---- the answer to a plan's sheet is that to the plan
+-- ---- the answer to a plan's sheet is that to the plan, entered
 pub checked-sheet : (n m : ℕ) (p : Plan) → length (p .streams) ≡ n → length (p .gaps) ≡ m → n ≤ streams → m ≤ sources
-    → checkedOf (sheetOf p) ≡ judge (lines Three n m p)
+    → checkedOf (sheetOf p) ≡ judge (lines Three n m (plainly p))
 unfolding checkedOf
 checked-sheet n m p e d few quiet =
-    ap (λ q. judge (lines Three (length (p .streams)) (length (p .gaps)) q)) (one-sheet p (omega arith) (omega arith))
-    ∙ ap₂ (λ a b. judge (lines Three a b p)) e d
+    ap (λ q. judge (lines Three (length (p .streams)) (length (p .gaps)) (plainly q))) (one-sheet p (omega arith) (omega arith))
+    ∙ ap₂ (λ a b. judge (lines Three a b (plainly p))) e d

@@ -11,52 +11,54 @@ use lib.ListN.{length, drop}
 use Rattle.names.specs.Limits.{streams, sources}
 use Rattle.names.specs.declared.Refusal.{Refusal}
 use Rattle.plan.specs.declared.Sheet.{Sheet}
-use Rattle.plan.specs.Plan.{Plan, planOf}
+use Rattle.plan.specs.Plan.{planOf}
 use Rattle.carried.specs.declared.Edition.{Edition, the-variants.Three}
 use Rattle.carried.specs.Layout as layout
 use Rattle.plan.proofs.Places.{Owned}
 use Rattle.judge.specs.declared.Checked.{Checked, the-variants.Fine, the-variants.Refused}
 use Rattle.judge.specs.Table.{Line, judge, unless}
-use Rattle.carried.specs.Carried.{planIn, inPlaces}
-use Rattle.carried.proofs.Plans.{plan-in-places}
+use Rattle.carried.specs.Carried.{Entered, meant, plainly, enteredIn, inPlaces}
+use Rattle.carried.proofs.Plans.{meant-plainly, entered-in-places}
 use Rattle.checks.specs.Checks.{inRange, lines}
 use Rattle.judge.proofs.Table.{given, passed, nothing-given, fine-then, refused-then}
 use Rattle.checks.proofs.Counts.{too-few, too-many, too-noisy, out-of-range}
-use Rattle.checks.proofs.Fine.{fine-in-three}
-use Rattle.checks.proofs.Words.{planInWords, same-lines, same-plan-if-fine}
+use Rattle.checks.proofs.Fine.{fine-when-meant}
+use Rattle.checks.proofs.Words.{enteredInWords, same-lines, same-entered-if-fine}
 use Rattle.file.specs.declared.Written.the-variants.{Bytes, Refused as Written·Refused}
 use Rattle.file.specs.File.{fileOf, linesOut, writeAs, writeWith, writeOf}
 use Rattle.file.specs.Claims.{WrongCounts}
 
-module _ (edition : Edition) (n m : ℕ) (p : Plan) (buf : List ℕ) where
+module _ (edition : Edition) (n m : ℕ) (v : Entered) (buf : List ℕ) where
   -- a line of the values is given
-  pub write-refused : (r : Refusal) → judge (lines edition n m p) ≡ Refused r → writeWith edition n m p buf ≡ (Written·Refused r, buf)
+  pub write-refused : (r : Refusal) → judge (lines edition n m v) ≡ Refused r → writeWith edition n m v buf ≡ (Written·Refused r, buf)
   unfolding writeWith
-  write-refused r e = ap (λ c. writeAs c n m p buf) (refused-then _ _ r e)
+  write-refused r e = ap (λ c. writeAs c n m (meant v) buf) (refused-then _ _ r e)
 
-  module _ (fine : judge (lines edition n m p) ≡ Fine) where
+  module _ (fine : judge (lines edition n m v) ≡ Fine) where
     -- 6
-    pub write-no-room : length buf < layout.size Three n m → writeWith edition n m p buf ≡ (Written·Refused (record { number = 6; place = 0 }), buf)
+    pub write-no-room : length buf < layout.size Three n m → writeWith edition n m v buf ≡ (Written·Refused (record { number = 6; place = 0 }), buf)
     unfolding writeWith
-    write-no-room h = ap (λ c. writeAs c n m p buf) (fine-then _ _ fine ∙ given _ _ 0 (ap unless (lt-leb _ _ h)))
+    write-no-room h = ap (λ c. writeAs c n m (meant v) buf) (fine-then _ _ fine ∙ given _ _ 0 (ap unless (lt-leb _ _ h)))
 
     pub write-fine : layout.size Three n m ≤ length buf
-        → writeWith edition n m p buf ≡ (Bytes (layout.size Three n m), fileOf p ++ drop (layout.size Three n m) buf)
+        → writeWith edition n m v buf ≡ (Bytes (layout.size Three n m), fileOf (meant v) ++ drop (layout.size Three n m) buf)
     unfolding writeWith
-    write-fine h = ap (λ c. writeAs c n m p buf) (fine-then _ _ fine ∙ passed _ _ (ap unless (le-leb _ _ h)) ∙ nothing-given)
+    write-fine h = ap (λ c. writeAs c n m (meant v) buf) (fine-then _ _ fine ∙ passed _ _ (ap unless (le-leb _ _ h)) ∙ nothing-given)
 
--- ---- what is fine is written alike, in whatever edition it was read
-pub written-alike : (buf : List ℕ) (edition : Edition) (n m : ℕ) (p : Plan) → judge (lines edition n m p) ≡ Fine
-    → writeWith Three n m p buf ≡ writeWith edition n m p buf
+-- ---- what is fine is written alike, in whatever edition it was read, and with a LAG as its plan with none
+pub written-alike : (buf : List ℕ) (edition : Edition) (n m : ℕ) (v : Entered) → judge (lines edition n m v) ≡ Fine
+    → writeWith Three n m (plainly (meant v)) buf ≡ writeWith edition n m v buf
 unfolding writeWith
-written-alike buf edition n m p fine =
-    ap (λ c. writeAs c n m p buf) (fine-then (lines Three n m p) _ (fine-in-three edition n m p fine) ∙ sym (fine-then (lines edition n m p) _ fine))
+written-alike buf edition n m v fine =
+    let w = plainly (meant v) in
+    ap (λ c. writeAs c n m (meant w) buf) (fine-then (lines Three n m w) _ (fine-when-meant edition n m v fine) ∙ sym (fine-then (lines edition n m v) _ fine))
+    ∙ ap (λ p. writeAs (judge (linesOut edition n m v buf)) n m p buf) (meant-plainly (meant v))
 
 -- ---- a sheet and its words
 pub same-writing : (s : Sheet) (o : Owned s) (buf : List ℕ)
-    → writeWith Three (s .count) (s .sources) (planInWords s o Three) buf ≡ writeOf s buf
+    → writeWith Three (s .count) (s .sources) (enteredInWords s o) buf ≡ writeOf s buf
 unfolding writeWith writeOf
-same-writing s o buf = go (judge (linesOut Three n m (planOf s) buf)) refl
+same-writing s o buf = go (judge (linesOut Three n m (plainly (planOf s)) buf)) refl
   where
     n : ℕ
     n = s .count
@@ -67,25 +69,25 @@ same-writing s o buf = go (judge (linesOut Three n m (planOf s) buf)) refl
     six : List Line
     six = record { number = 6; place = unless (leb (layout.size Three n m) (length buf)) } ∷ []
 
-    go : (c : Checked) → judge (linesOut Three n m (planOf s) buf) ≡ c → writeWith Three n m (planInWords s o Three) buf ≡ writeWith Three n m (planOf s) buf
-    go Fine e = ap (λ p. writeWith Three n m p buf) (same-plan-if-fine s o Three six e)
-    go (Refused r) e = ap (λ c. writeAs c n m (planInWords s o Three) buf) (same-lines s o Three six ∙ e) ∙ sym (ap (λ c. writeAs c n m (planOf s) buf) e)
+    go : (c : Checked) → judge (linesOut Three n m (plainly (planOf s)) buf) ≡ c → writeWith Three n m (enteredInWords s o) buf ≡ writeWith Three n m (plainly (planOf s)) buf
+    go Fine e = ap (λ v. writeWith Three n m v buf) (same-entered-if-fine s o six e)
+    go (Refused r) e = ap (λ c. writeAs c n m (meant (enteredInWords s o)) buf) (same-lines s o six ∙ e) ∙ sym (ap (λ c. writeAs c n m (meant (plainly (planOf s))) buf) e)
 
 -- ---- counts out of range, and lent words in places
 pub wrong-counts : WrongCounts
-wrong-counts edition n m p buf =
-    let two : inRange n m ≡ false → writeWith edition n m p buf ≡ _ = λ e. write-refused edition n m p buf _ (out-of-range n m e edition p []) in
+wrong-counts edition n m v buf =
+    let two : inRange n m ≡ false → writeWith edition n m v buf ≡ _ = λ e. write-refused edition n m v buf _ (out-of-range n m e edition v []) in
     (λ h. two (too-few n m h), λ h. two (too-many n m h), λ h. two (too-noisy n m h))
 
 pub values-written : (edition : Edition) (n m : ℕ) (ws buf : List ℕ)
-    → writeWith edition n m (planIn n m (inPlaces ws)) buf ≡ writeWith edition n m (planIn n m ws) buf
+    → writeWith edition n m (enteredIn n m (inPlaces ws)) buf ≡ writeWith edition n m (enteredIn n m ws) buf
 values-written edition n m ws buf =
-    let p = planIn n m (inPlaces ws) in
-    let q = planIn n m ws in
+    let p = enteredIn n m (inPlaces ws) in
+    let q = enteredIn n m ws in
     elim (decLe n streams) [
       | yes few ↦
           elim (decLe m sources) [
-            | yes quiet ↦ ap (λ r. writeWith edition n m r buf) (plan-in-places n m ws few quiet)
+            | yes quiet ↦ ap (λ r. writeWith edition n m r buf) (entered-in-places n m ws few quiet)
             | no noisy ↦ let h = lt-of-not-le noisy in wrong-counts edition n m p buf .2 h ∙ sym (wrong-counts edition n m q buf .2 h)
           ]
       | no many ↦ let h = lt-of-not-le many in wrong-counts edition n m p buf .1 h ∙ sym (wrong-counts edition n m q buf .1 h)

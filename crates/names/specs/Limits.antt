@@ -12,7 +12,7 @@ sources = 8
 abbrev pub contenders : ℕ
 contenders = 128
 
--- F, E, TFCS, SWX, H, G, ETG, LAG are 0 to 65,535; a payload is 1 to 65,535, and an acknowledgement 0 to 65,535
+-- F, E, TFCS, SWX, H, G, ETG and LAG are 0 to 65,535, and so is ETG + LAG; a payload is 1 to 65,535, and an acknowledgement 0 to 65,535
 abbrev pub constant : ℕ
 constant = 65535
 

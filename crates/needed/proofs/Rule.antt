@@ -1,4 +1,4 @@
--- The 19 conditions are the rule: 0 is its test of the master node, 1 to 10 of the constants, 11 to 16 of a stream, 17 of the order, 18 of a
+-- The 18 conditions are the rule: 0 is its test of the master node, 1 to 9 of the constants, 10 to 15 of a stream, 16 of the order, 17 of a
 -- noise gap. Assumes nothing.
 use mathlib.Core.Path.{_≡_, refl, sym}
 use mathlib.Core.Bool.{Bool, true, false, true≢false}
@@ -30,7 +30,7 @@ each-true none j h = absurd (omega arith)
 each-true (e and a) zero h = e
 each-true (e and a) (suc j) h = each-true a j (omega arith)
 
--- ---- a stream of the second plan: conditions 11 to 16 of its row
+-- ---- a stream of the second plan: conditions 10 to 15 of its row
 module _ (old : Plan) (s : Stream) where
   in-row : (f : Found) → stands s f ≡ true
       → holds (λ a b. leb (a .period) (b .period)) old s f ≡ true
@@ -69,9 +69,8 @@ module _ (old new : Plan) where
         h = leb-true _ _ (h 5 (omega arith));
         g = leb-true _ _ (h 6 (omega arith));
         etg = leb-true _ _ (h 7 (omega arith));
-        lag = leb-true _ _ (h 8 (omega arith));
-        nb = leb-true _ _ (h 9 (omega arith));
-        p = leb-true _ _ (h 10 (omega arith));
+        nb = leb-true _ _ (h 8 (omega arith));
+        p = leb-true _ _ (h 9 (omega arith));
       }
 
   unbroken-if : AllHold → Unbroken old new
@@ -82,14 +81,14 @@ module _ (old new : Plan) where
         constants = constants-nothing (old .timing) (new .timing) (constants-hold h);
         streams = λ k l.
             in-row old (at new k) (rowOf old (at new k .label))
+            (every-each _ _ (h 10 (omega arith)) k l)
             (every-each _ _ (h 11 (omega arith)) k l)
             (every-each _ _ (h 12 (omega arith)) k l)
             (every-each _ _ (h 13 (omega arith)) k l)
             (every-each _ _ (h 14 (omega arith)) k l)
-            (every-each _ _ (h 15 (omega arith)) k l)
-            (every-each _ _ (h 16 (omega arith)) k l);
-        order = λ k l. must-true _ _ (every-each _ _ (h 17 (omega arith)) k l);
-        gaps = λ k l. must-true _ _ (every-each _ _ (h 18 (omega arith)) k l);
+            (every-each _ _ (h 15 (omega arith)) k l);
+        order = λ k l. must-true _ _ (every-each _ _ (h 16 (omega arith)) k l);
+        gaps = λ k l. must-true _ _ (every-each _ _ (h 17 (omega arith)) k l);
       }
 
   -- and back
@@ -109,7 +108,6 @@ module _ (old new : Plan) where
       and le-leb _ _ (n .h)
       and le-leb _ _ (n .g)
       and le-leb _ _ (n .etg)
-      and le-leb _ _ (n .lag)
       and le-leb _ _ (n .nb)
       and le-leb _ _ (n .p)
       and every-all _ _ (λ k l. it-stands old (at new k) (rowOf old (at new k .label)) (u .streams k l))

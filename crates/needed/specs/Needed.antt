@@ -1,4 +1,4 @@
--- None of the 19 conditions of the lighter plan is idle: a table with two plans for each, `old` and `new`, that break this condition alone,
+-- None of the 18 conditions of the lighter plan is idle: a table with two plans for each, `old` and `new`, that break this condition alone,
 -- and a stream loses its promise. Proved in proofs/Needed.antt. That the conditions are the rule is proved in proofs/Rule.antt.
 use mathlib.Core.Path.{_≡_}
 use mathlib.Core.Bool.{Bool, true, false, not, Bool·beq}
@@ -10,14 +10,15 @@ use lib.ListN.{length, getD}
 use Rattle.laws.specs.declared.Found.{Found, the-variants.At as Found·At, the-variants.Nothing as Found·Nothing}
 use Rattle.laws.specs.Lists.{every}
 use Rattle.laws.specs.Rows.{some}
-use Rattle.plan.specs.declared.Timing.{Timing}
 use Rattle.plan.specs.declared.Stream.{Stream}
 use Rattle.plan.specs.Plan.{Plan, at}
 use Rattle.plan.specs.Rules.{hasMaster}
+use Rattle.carried.specs.declared.EnteredTiming.{EnteredTiming}
+use Rattle.carried.specs.Carried.{meant}
 use Rattle.promise.specs.Lighter.{Namesakes, Lighter, NotRefused, Kept}
 use Rattle.compare.specs.declared.Change.the-variants.{Nothing}
 use Rattle.compare.specs.Changes.{rowOf, overtakes, atMost, changes}
-use Rattle.figures.specs.Plans.{timed, constants, pulsing, acknowledged, stream, plan, base}
+use Rattle.figures.specs.Plans.{timed, constants, pulsing, acknowledged, stream, enter, base}
 
 -- ---- the conditions
 
@@ -39,7 +40,7 @@ unfoldable pub conditions : Plan → Plan → List Bool
 conditions old new =
     -- 0: both have a master node, or neither has
     Bool·beq (hasMaster (old .timing)) (hasMaster (new .timing))
-    -- 1 to 10: no constant is greater
+    -- 1 to 9: no constant is greater
     ∷ leb (new .timing .f) (old .timing .f)
     ∷ leb (new .timing .e) (old .timing .e)
     ∷ leb (new .timing .tfcs) (old .timing .tfcs)
@@ -47,26 +48,25 @@ conditions old new =
     ∷ leb (new .timing .h) (old .timing .h)
     ∷ leb (new .timing .g) (old .timing .g)
     ∷ leb (new .timing .etg) (old .timing .etg)
-    ∷ leb (new .timing .lag) (old .timing .lag)
     ∷ leb (new .timing .nb) (old .timing .nb)
     ∷ leb (new .timing .p) (old .timing .p)
-    -- 11: each label stands in the first plan
+    -- 10: each label stands in the first plan
     ∷ eachBeside stands old new
-    -- 12 to 16, where it does: the period is no shorter, jitter and payload no longer, the deadline no shorter, the acknowledgement no longer
+    -- 11 to 15, where it does: the period is no shorter, jitter and payload no longer, the deadline no shorter, the acknowledgement no longer
     ∷ eachBeside (holds (λ a b. leb (a .period) (b .period)) old) old new
     ∷ eachBeside (holds (λ a b. leb (b .jitter) (a .jitter)) old) old new
     ∷ eachBeside (holds (λ a b. leb (b .payload) (a .payload)) old) old new
     ∷ eachBeside (holds (λ a b. leb (a .deadline) (b .deadline)) old) old new
     ∷ eachBeside (holds (λ a b. leb (b .acknowledgement) (a .acknowledgement)) old) old new
-    -- 17: no row overtakes another
+    -- 16: no row overtakes another
     ∷ every (length (new .streams)) (λ k. not (some (overtakes old new k) (length (new .streams))))
-    -- 18: each noise source has its own partner
+    -- 17: each noise source has its own partner
     ∷ every (length (new .gaps)) (λ k. leb (atMost (getD (new .gaps) k 0) (new .gaps)) (atMost (getD (new .gaps) k 0) (old .gaps)))
     ∷ []
 
 -- how many there are
 abbrev pub howMany : ℕ
-howMany = 19
+howMany = 18
 
 -- ---- the pairs
 
@@ -78,12 +78,16 @@ infix 20 _becomes_
 abbrev _becomes_ : Plan → Plan → Pair
 old becomes new = record { old = old; new = new }
 
+-- the plan that is meant by what is entered
+abbrev plan : EnteredTiming → List Stream → List ℕ → Plan
+plan t ss ns = meant (enter t ss ns)
+
 -- one stream, 10.1: under the base constants its bound is C'' = 25, its deadline
-abbrev oneUnder : Timing → Plan
+abbrev oneUnder : EnteredTiming → Plan
 oneUnder t = plan t (stream 10 1 1 100 0 5 25 ∷ []) []
 
 -- the same for slots, where its C'' is 18: its deadline is 35
-abbrev inSlots : Timing → Plan
+abbrev inSlots : EnteredTiming → Plan
 inSlots t = plan t (stream 10 1 1 1000 0 5 35 ∷ []) []
 
 -- two streams under the base constants, 10.1 with T, J and D as given: with T 100 and J 0 the bound of 10.1 is 16 + 25 = 41, and that of
@@ -111,8 +115,6 @@ allPairs =
     ∷ (oneUnder base becomes oneUnder (constants 4 1 1 2 1 2 2 1 4))
     -- ETG grows from 2 to 3: U grows from 12 to 13, and the bound of 10.1 from 25 to 26
     ∷ (oneUnder base becomes oneUnder (constants 4 1 1 2 1 1 3 1 4))
-    -- LAG grows from 1 to 2: the same
-    ∷ (oneUnder base becomes oneUnder (constants 4 1 1 2 1 1 2 2 4))
     -- NB grows from 4 to 5: U grows from 12 to 14, and the bound of 10.1 from 25 to 27
     ∷ (oneUnder base becomes oneUnder (constants 4 1 1 2 1 1 2 1 5))
     -- P grows from 18 to 19: B grows from 17 to 18, and the bound of 10.1 from 35 to 36, past its deadline of 35
@@ -140,7 +142,7 @@ pair i = getD allPairs i (oneUnder base becomes oneUnder base)
 
 -- ---- the claims
 
--- the 19 conditions are the rule: all hold exactly if the test of two plans finds no change
+-- the 18 conditions are the rule: all hold exactly if the test of two plans finds no change
 abbrev pub AllHoldExactly : Type 0
 AllHoldExactly = (old new : Plan) → ((j : ℕ) → j < howMany → getD (conditions old new) j false ≡ true) ↔ (changes old new ≡ Nothing)
 
@@ -164,11 +166,11 @@ EachNeeded =
     → NotRefused (pair i .old) × NotRefused (pair i .new) × Broken i (pair i .old) (pair i .new) × Lost (pair i .old) (pair i .new)
 
 -- And they can all hold with something eased in each: constants smaller, T and D longer, J, C and K shorter, a stream fewer, rows in
--- another order, other priority numbers in the same order, gaps longer, fewer and in another order. The bound of 10.1 falls from 234
--- to 95, and that of 11.2 from 291 to 104.
+-- another order, other priority numbers in the same order, gaps longer, fewer and in another order. ETG rises from 1 to 2, and LAG falls by
+-- more, from 4 to 1. The bound of 10.1 falls from 234 to 95, and that of 11.2 from 291 to 104.
 abbrev pub easier : Pair
 easier =
-    plan (constants 5 2 2 3 2 2 3 2 5)
+    plan (constants 5 2 2 3 2 2 1 4 5)
     (acknowledged 4 10 1 7 400 5 6 240 ∷ stream 10 10 13 600 10 7 300 ∷ acknowledged 2 11 2 20 800 5 3 400 ∷ [])
     (500 ∷ 900 ∷ 500 ∷ [])
     becomes plan base (acknowledged 1 11 2 5 900 0 2 450 ∷ acknowledged 2 10 1 2 500 0 5 250 ∷ []) (950 ∷ 600 ∷ [])

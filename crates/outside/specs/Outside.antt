@@ -1,16 +1,17 @@
 -- What is handed to a caller in another language: numbers, with 0 for "not refused" and document 01's numbers else.
 use mathlib.Core.Path.{_≡_}
+use mathlib.Core.Bool.{cond}
 use mathlib.Core.List.{List, _∷_}
 use mathlib.Core.Logic.{_↔_}
 use Prim.Native.Nat.{ℕ, _≤_, _<_}
-use lib.Dec.{leb}
+use lib.Dec.{leb, ltb, eqb}
 use lib.ListN.{length, getD}
 use Rattle.names.specs.declared.Refusal.{Refusal}
 use Rattle.judge.specs.declared.Checked.{Checked, the-variants.Fine, the-variants.Refused}
 use Rattle.judge.specs.Table.{Line, judge, unless}
 use Rattle.plan.specs.declared.Stream.{Stream}
 use Rattle.carried.specs.declared.Edition.the-variants.{Three}
-use Rattle.carried.specs.Carried.{timingIn, planIn}
+use Rattle.carried.specs.Carried.{enteredTimingIn, enteredIn}
 use Rattle.compare.specs.declared.Reason.{Reason}
 use Rattle.compare.specs.declared.Reason.the-variants.{MasterNode, GreaterConstant, NewLabel, ShorterPeriod, LongerJitter}
 use Rattle.compare.specs.declared.Reason.the-variants.{LongerPayload, ShorterDeadline, LongerAcknowledgement, LessUrgent, MoreNoise}
@@ -18,14 +19,13 @@ use Rattle.compare.specs.declared.Compared.{Compared}
 use Rattle.compare.specs.declared.Compared.the-variants.{FirstRefused, SecondRefused, Lighter, RunAgain}
 use Rattle.file.specs.declared.Written.{Written, the-variants.Bytes, the-variants.Refused as Written·Refused}
 use Rattle.file.specs.File.{writeWith}
-use Rattle.answers.specs.Answers.{answerOf}
 use Rattle.tournament_state.specs.declared.Phase.{Phase, the-variants.AtBit, the-variants.Finished, the-variants.NoWinner}
 use Rattle.tournament_state.specs.Refusals.{stateLines}
 use Rattle.tournament.specs.declared.Parting.{Parting, the-variants.At, the-variants.Refused as Parting·Refused}
 use Rattle.tournament.specs.declared.Outcome.{Outcome}
 use Rattle.tournament.specs.Rule.{begunOf, next}
 use Rattle.tournament.specs.Answers.{outcome, nobody, startOf, stepOf}
-use Rattle.screen.specs.Screen.{sheetFor}
+use Rattle.screen.specs.Screen.{screenOf}
 use Rattle.states.specs.States.{prioritiesFrom, phaseFrom, stateFrom, marksInto, markedOut}
 use Rattle.outside.specs.declared.Said.{Said}
 use Rattle.outside.specs.declared.Stepped.{Stepped}
@@ -53,26 +53,26 @@ abbrev pub parting : Parting → Said
 parting (At k) = done k
 parting (Parting·Refused r) = refused r
 
--- the file of a plan's lent values, which have the places of edition 3, and what the lent bytes end with
+-- the file of the plan that is meant by lent values, which have the places of edition 3, and what the lent bytes end with
 abbrev pub writeFrom : ℕ → ℕ → List ℕ → List ℕ → Written × List ℕ
-writeFrom n m values out = writeWith Three n m (planIn n m values) out
+writeFrom n m values out = writeWith Three n m (enteredIn n m values) out
 
--- the answer words of lent streams, with the timing that the first ten words are and these noise gaps
-abbrev pub screenOf : List Stream → List ℕ → List ℕ → List ℕ → Checked × List ℕ
-screenOf xs ws gaps out = answerOf (sheetFor xs (timingIn ws) gaps) out
-
--- so what is said of them, and what the lent words end with
+-- what is said of lent streams, with the timing that is entered in the first ten words and these noise gaps, and what the lent words end with
 abbrev pub Screened : List Stream → List ℕ → List ℕ → List ℕ → Said → List ℕ → Type 0
-Screened xs ws gaps out said left = let o = screenOf xs ws gaps out in (said ≡ checked (o .0)) × (left ≡ o .1)
+Screened xs ws gaps out said left = let o = screenOf xs (enteredTimingIn ws) gaps out in (said ≡ checked (o .0)) × (left ≡ o .1)
 
--- run again: the conditions of the lighter plan, each with its number and with what breaks it, the constant from 0 in file order, the
+-- a plan's constant by its place in the file, from 0: NB and P come after LAG, which is 7 and which a plan has not
+abbrev pub constantAt : ℕ → ℕ
+constantAt k = cond (ltb k 7) k (cond (eqb k 7) 8 9)
+
+-- run again: the conditions of the lighter plan, each with its number and with what breaks it, the constant by its place in the file, the
 -- label, or the gap. 1 to 8 are numbered in the order in which they are looked at; 9, which came later, is looked at before them, and 10 after 6
 abbrev pub broken : ℕ → ℕ → Weighed
 broken condition value = record { answer = 3; number = condition; value = value }
 
 abbrev pub again : Reason → Weighed
 again MasterNode = broken 9 0
-again (GreaterConstant k) = broken 1 k
+again (GreaterConstant k) = broken 1 (constantAt k)
 again (NewLabel l) = broken 2 (l .0)
 again (ShorterPeriod l) = broken 3 (l .0)
 again (LongerJitter l) = broken 4 (l .0)

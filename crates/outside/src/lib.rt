@@ -12,6 +12,8 @@ ghost use Rattle.outside.specs.Outside as number;
 ghost use Rattle.outside.specs.Outside.{Screened};
 use answer_files::answer_file;
 use carried::Edition;
+use carried::LAG;
+use carried::SLOT;
 use carried::timing_from;
 use carried::words_from;
 use compare::Compared;
@@ -107,8 +109,7 @@ pub extern "C" fn livnakesh_rewrite(file: &[u8], out: &mut [u8]) -> Said
     }
 }
 
-// The file of n streams and m noise gaps whose values are lent as plain words, ten of the timing and then seven a stream, written into
-// lent bytes.
+// The file of the plan that is meant by lent words, ten of the timing, seven for each of n streams and m noise gaps, written into lent bytes.
 #[no_mangle]
 pub extern "C" fn livnakesh_write(n: usize, m: usize, values: &[u32], out: &mut [u8]) -> Said
     ensures { λ s. ⌜ s ≡ number.written (number.writeFrom n m (now (values .entry)) (now (out .entry)) .0) ⌝ }
@@ -161,12 +162,25 @@ fn by_label(condition: u64, label: Label) -> Weighed
     broken(condition, label.0 as u64)
 }
 
+// The place in the file of a plan's constant k: NB and P come after LAG, which a plan has not.
+fn constant_at(k: usize) -> u64
+    ensures { λ r. ⌜ r ≡ number.constantAt k ⌝ }
+{
+    if k < LAG {
+        return k as u64;
+    }
+    if k == LAG {
+        return (LAG + 1) as u64;
+    }
+    SLOT as u64
+}
+
 fn again(reason: Reason) -> Weighed
     ensures { λ s. ⌜ s ≡ number.again reason ⌝ }
 {
     match reason {
         Reason::MasterNode => broken(9, 0),
-        Reason::GreaterConstant(k) => broken(1, k as u64),
+        Reason::GreaterConstant(k) => broken(1, constant_at(k)),
         Reason::NewLabel(l) => by_label(2, l),
         Reason::ShorterPeriod(l) => by_label(3, l),
         Reason::LongerJitter(l) => by_label(4, l),

@@ -51,6 +51,9 @@ fn of_p1() {
     rewrite(&file, &mut enough);
     let mut too_short = [7; 167];
     rewrite(&file, &mut too_short);
+    let with_lag = p1_file(68, 2, 72, 1);
+    let mut also_enough = [7; 168];
+    rewrite(&with_lag, &mut also_enough);
 }
 
 fn of_others() {
@@ -137,6 +140,11 @@ pub(crate) fn cases() {
     of_others();
     lengths();
     changed(44, 5, 168, 0);
+    changed(68, 2, 72, 1);
+    changed(68, 2, 72, 2);
+    changed(69, 255, 73, 1);
+    changed(69, 255, 74, 1);
+    changed(76, 5, 168, 0);
     changed(84, 2, 168, 0);
     changed(92, 99, 168, 0);
     changed(96, 1, 168, 0);

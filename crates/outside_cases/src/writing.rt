@@ -99,6 +99,17 @@ fn slots() {
     write(3, 0, 9, 5000001, &mut short);
 }
 
+// P1 without a LAG; with one that makes 65,535 of ETG, and one that makes more; and one past its own limit.
+fn lags() {
+    let mut enough = [7; 168];
+    write(3, 0, 7, 0, &mut enough);
+    write(3, 0, 7, 65533, &mut enough);
+    let mut short = [7; 167];
+    write(3, 0, 7, 65533, &mut short);
+    write(3, 0, 7, 65534, &mut short);
+    write(3, 0, 7, 65536, &mut short);
+}
+
 // An acknowledgement and a gap that are not lent are 0.
 fn not_lent() {
     let words = [4, 1, 1, 2, 1, 1, 2, 1, 4, 0, 655361, 1, 100, 0, 5, 60];
@@ -211,5 +222,6 @@ pub(crate) fn cases() {
     room();
     wrong();
     slots();
+    lags();
     not_lent();
 }

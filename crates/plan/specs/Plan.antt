@@ -33,7 +33,7 @@ blank =
 abbrev pub at : Plan → ℕ → Stream
 at p k = getD (p .streams) k blank
 
--- F to LAG are 0 to 65,535, NB is 1 to 32, and P is 0 for no master node, else 1 to 5,000,000
+-- F to ETG are 0 to 65,535, NB is 1 to 32, and P is 0 for no master node, else 1 to 5,000,000
 pub record TimingWithin (t : Timing) : Type 0 where
   pub f : t .f ≤ constant
   pub e : t .e ≤ constant
@@ -42,7 +42,6 @@ pub record TimingWithin (t : Timing) : Type 0 where
   pub h : t .h ≤ constant
   pub g : t .g ≤ constant
   pub etg : t .etg ≤ constant
-  pub lag : t .lag ≤ constant
   pub some-bit : 1 ≤ t .nb
   pub nb : t .nb ≤ bits
   pub p : t .p ≤ slot

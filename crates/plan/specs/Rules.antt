@@ -1,6 +1,6 @@
--- Document 01, "The rules of the bound", from V to B, with what a master node changes (document 02, request 01) and with acknowledgements
--- (request 05), and the terms that the rest of the rules takes of a plan p for its stream i. The rules from E on are in the crate bound,
--- specs/Bound.antt.
+-- Document 01, "The rules of the bound", from V to B, with what a master node changes (document 02, request 01), with acknowledgements
+-- (request 05) and without LAG (request 06), and the terms that the rest of the rules takes of a plan p for its stream i. The rules from E
+-- on are in the crate bound, specs/Bound.antt.
 use mathlib.Core.Bool.{Bool, cond, _&&_}
 use mathlib.Core.List.{List, _∷_, map}
 use Prim.Native.Nat.{ℕ, _+_, _-_, _*_, max, _≤_}
@@ -21,9 +21,9 @@ selfOrSlotted P self slotted = cond (eqb P 0) self slotted
 abbrev pub «V» : Timing → ℕ
 «V» t = t .f + t .e + max (t .tfcs) (t .swx) + t .h
 
--- U = G + (H + G) × NB + ETG + LAG
+-- U = G + (H + G) × NB + ETG
 abbrev pub U : Timing → ℕ
-U t = t .g + (t .h + t .g) * t .nb + t .etg + t .lag
+U t = t .g + (t .h + t .g) * t .nb + t .etg
 
 -- C' = C + K + U
 abbrev pub C′ : Timing → Stream → ℕ

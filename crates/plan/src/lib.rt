@@ -7,7 +7,8 @@ use names::Priority;
 use names::SOURCES;
 use names::STREAMS;
 
-// The ten timing words, in the file's order and under the documents' letters. P is how often a master node pulses, 0 where there is none.
+// The timing constants of a plan, in the file's order and under the documents' letters. P is how often a master node pulses, 0 where there
+// is none. A file has a LAG beside ETG, and a plan has none: reading adds it to ETG.
 pub struct Timing {
     pub f: u32,
     pub e: u32,
@@ -16,7 +17,6 @@ pub struct Timing {
     pub h: u32,
     pub g: u32,
     pub etg: u32,
-    pub lag: u32,
     pub nb: u32,
     pub p: u32,
 }

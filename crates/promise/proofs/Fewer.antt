@@ -30,7 +30,6 @@ no-greater-than-itself t =
       h = le-refl _;
       g = le-refl _;
       etg = le-refl _;
-      lag = le-refl _;
       nb = le-refl _;
       p = le-refl _;
     }

@@ -28,7 +28,7 @@ V-le old new n = omega (arith, n .f, n .e, n .tfcs, n .swx, n .h)
 
 U-le : (old new : Timing) → NoGreater old new → rule.U new ≤ rule.U old
 U-le old new n =
-    omega (arith, n .g, n .etg, n .lag, mul-le-mul {n₁ = new .h + new .g} {m₁ = new .nb} {n₂ = old .h + old .g} {m₂ = old .nb} (omega (arith, n .h, n .g)) (omega (arith, n .nb)))
+    omega (arith, n .g, n .etg, mul-le-mul {n₁ = new .h + new .g} {m₁ = new .nb} {n₂ = old .h + old .g} {m₂ = old .nb} (omega (arith, n .h, n .g)) (omega (arith, n .nb)))
 
 -- what is no greater without a master node, nor with one, is no greater
 either-le : (old new : Timing) → SameKit old new → {x y a b : ℕ} → a ≤ x → b ≤ y → rule.selfOrSlotted (new .p) a b ≤ rule.selfOrSlotted (old .p) x y

@@ -32,7 +32,6 @@ pub record NoGreater (old new : Timing) : Type 0 where
   pub h : new .h ≤ old .h
   pub g : new .g ≤ old .g
   pub etg : new .etg ≤ old .etg
-  pub lag : new .lag ≤ old .lag
   pub nb : new .nb ≤ old .nb
   pub p : new .p ≤ old .p
 

@@ -1,4 +1,4 @@
--- Word by word, what is carried of a file is its plan's, in whatever edition; in edition 3 the bodies are. Assumes nothing.
+-- Word by word, what is carried of a file is what is entered in it, in whatever edition; in edition 3 the bodies are. Assumes nothing.
 use mathlib.Core.Path.{_≡_, refl, sym, ap, _∙_}
 use mathlib.Core.Bool.{Bool, true, false, cond}
 use mathlib.Core.List.{List}
@@ -10,30 +10,30 @@ use Rattle.words.specs.Words.{wordsOf}
 use Rattle.words.proofs.Laws.{length-words, drop-words}
 use Rattle.carried.specs.declared.Edition.{Edition, the-variants.Three}
 use Rattle.carried.specs.Layout as layout
-use Rattle.carried.specs.Carried.{valuesOf}
-use Rattle.carried.proofs.Plans.{length-values}
-use Rattle.file.specs.File.{planAt}
-use Rattle.file.proofs.Bodies.{length-plan, word-there, word-not, bodies-back}
+use Rattle.carried.specs.Carried.{enteredWords}
+use Rattle.carried.proofs.Plans.{length-words as length-entered}
+use Rattle.file.specs.File.{enteredAt}
+use Rattle.file.proofs.Bodies.{length-at, word-there, word-not, bodies-back}
 
 module _ (edition : Edition) (n m : ℕ) (bs : List ℕ) where
-  pub plan-words : length (valuesOf (planAt edition n m bs)) ≡ layout.gapAt n m
-  plan-words = omega (arith, length-values (planAt edition n m bs), length-plan edition n m (drop layout.contentsLength (wordsOf bs)))
+  pub entered-long : length (enteredWords (enteredAt edition n m bs)) ≡ layout.gapAt n m
+  entered-long = omega (arith, length-entered (enteredAt edition n m bs), length-at edition n m (drop layout.contentsLength (wordsOf bs)))
 
   -- word k of the file, by its place in the bodies, or 0
   abbrev pub there : ℕ → ℕ
   there k = getD (wordsOf bs) (layout.contentsLength + layout.inBodies edition n k) 0
 
-  pub word-is : (k : ℕ) → k < layout.gapAt n m → cond (layout.hasWord edition n k) (there k) 0 ≡ getD (valuesOf (planAt edition n m bs)) k 0
+  pub word-is : (k : ℕ) → k < layout.gapAt n m → cond (layout.hasWord edition n k) (there k) 0 ≡ getD (enteredWords (enteredAt edition n m bs)) k 0
   word-is k h = go (layout.hasWord edition n k) refl
     where
-      go : (b : Bool) → layout.hasWord edition n k ≡ b → cond b (there k) 0 ≡ getD (valuesOf (planAt edition n m bs)) k 0
+      go : (b : Bool) → layout.hasWord edition n k ≡ b → cond b (there k) 0 ≡ getD (enteredWords (enteredAt edition n m bs)) k 0
       go true e =
           sym (getD-drop layout.contentsLength (wordsOf bs) (layout.inBodies edition n k) 0)
           ∙ sym (word-there edition n m (drop layout.contentsLength (wordsOf bs)) k h e)
       go false e = sym (word-not edition n m (drop layout.contentsLength (wordsOf bs)) k h e)
 
 pub bodies-stand : (n m : ℕ) (bs : List ℕ) → length bs ≡ layout.size Three n m
-    → wordsOf (take (length bs - layout.word * layout.contentsLength) (drop (layout.word * layout.contentsLength) bs)) ≡ valuesOf (planAt Three n m bs)
+    → wordsOf (take (length bs - layout.word * layout.contentsLength) (drop (layout.word * layout.contentsLength) bs)) ≡ enteredWords (enteredAt Three n m bs)
 bodies-stand n m bs e =
     let at = layout.word * layout.contentsLength in
     let long : length (drop layout.contentsLength (wordsOf bs)) ≡ layout.gapAt n m = omega (arith, length-drop layout.contentsLength (wordsOf bs), length-words bs) in

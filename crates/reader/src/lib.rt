@@ -33,7 +33,7 @@ ghost use Rattle.names.specs.Limits as limit;
 ghost use Rattle.words.specs.Words.{wordsOf, laidOnto};
 ghost use Rattle.judge.specs.declared.Checked.the-variants.{Refused as CheckedRefused};
 ghost use Rattle.carried.specs.Layout as layout;
-ghost use Rattle.carried.specs.Carried.{valuesOf, noSheet};
+ghost use Rattle.carried.specs.Carried.{enteredWords, noSheet};
 ghost use Rattle.file.specs.declared.Counts.the-variants.{Refused as CountsRefused};
 ghost use Rattle.file.specs.File as spec;
 
@@ -118,12 +118,12 @@ fn carried_word(bytes: &[u8], edition: Edition, n: usize, k: usize) -> u32
     }
 }
 
-// The words of the plan in an older file, at the front of those that are lent, one by one.
+// The words that are entered in an older file, at the front of those that are lent, one by one.
 fn lay_older(bytes: &[u8], edition: Edition, n: usize, m: usize, words: &mut [u32])
     requires { ⌜ n ≤ limit.streams ⌝ }
     requires { ⌜ m ≤ limit.sources ⌝ }
     requires { ⌜ length (now words) ≡ layout.largest ⌝ }
-    ensures { λ _. ⌜ now (words .exit) ≡ laidOnto (valuesOf (spec.planAt edition n m (now (bytes .entry)))) (now (words .entry)) ⌝ }
+    ensures { λ _. ⌜ now (words .exit) ≡ laidOnto (enteredWords (spec.enteredAt edition n m (now (bytes .entry)))) (now (words .entry)) ⌝ }
 {
     let count = TIMING + STREAM * n + m;
     for k in 0..count {
@@ -131,12 +131,12 @@ fn lay_older(bytes: &[u8], edition: Edition, n: usize, m: usize, words: &mut [u3
     }
 }
 
-// The words of a file's plan, at the front of those that are lent. In edition 3 they are those of its bodies, as they stand.
+// The words that are entered in a file, at the front of those that are lent. In edition 3 they are those of its bodies, as they stand.
 fn lay_bodies(bytes: &[u8], edition: Edition, n: usize, m: usize, words: &mut [u32; CARRIED])
     requires { ⌜ n ≤ limit.streams ⌝ }
     requires { ⌜ m ≤ limit.sources ⌝ }
     requires { ⌜ length (now bytes) ≡ layout.size edition n m ⌝ }
-    ensures { λ _. ⌜ now (words .exit) ≡ laidOnto (valuesOf (spec.planAt edition n m (now (bytes .entry)))) (now (words .entry)) ⌝ }
+    ensures { λ _. ⌜ now (words .exit) ≡ laidOnto (enteredWords (spec.enteredAt edition n m (now (bytes .entry)))) (now (words .entry)) ⌝ }
 {
     match edition {
         Edition::One => lay_older(bytes, edition, n, m, words),
@@ -145,8 +145,8 @@ fn lay_bodies(bytes: &[u8], edition: Edition, n: usize, m: usize, words: &mut [u
     }
 }
 
-// What is carried of a file: its edition and its counts, and in the lent words those of its plan; or the refusal of its contents, and the
-// words as they were.
+// What is carried of a file: its edition and its counts, and in the lent words those that are entered in it, LAG as it stands; or the refusal
+// of its contents, and the words as they were.
 pub fn carry(bytes: &[u8], words: &mut [u32; CARRIED]) -> Counts
     ensures { λ r. ⌜ r ≡ spec.countsOf (now (bytes .entry)) ⌝ }
     ensures { λ _. ⌜ now (words .exit) ≡ spec.carriedOf (now (bytes .entry)) (now (words .entry)) ⌝ }

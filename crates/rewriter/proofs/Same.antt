@@ -7,7 +7,7 @@ use lib.ListN.{length, drop}
 use Rattle.names.specs.declared.Refusal.{Refusal}
 use Rattle.plan.specs.Plan.{planOf}
 use Rattle.carried.specs.declared.Edition.the-variants.{Three}
-use Rattle.carried.specs.Carried.{sheetOf}
+use Rattle.carried.specs.Carried.{plainly, sheetOf}
 use Rattle.judge.specs.declared.Checked.the-variants.{Fine, Refused}
 use Rattle.checks.specs.Checks.{checkedOf}
 use Rattle.file.specs.declared.ReadPlan.{ReadPlan}
@@ -38,18 +38,18 @@ module _ (bs buf : List ℕ) where
         let p = planRead bs f in
         written
         ∙ ap (λ (r : ReadPlan). writeOf (r .sheet) buf) (f .read)
-        ∙ write-no-room Three (length (p .streams)) (length (p .gaps)) (planOf (sheetOf p)) buf (sheet-fine bs f) (omega (arith, ap length (file-is bs f) ∙ length-file p))
+        ∙ write-no-room Three (length (p .streams)) (length (p .gaps)) (plainly (planOf (sheetOf p))) buf (sheet-fine bs f) (omega (arith, ap length (file-is bs f) ∙ length-file p))
 
     -- .. and with it
     pub rewrite-fine : length (fileRead bs) ≤ length buf → rewriteOf bs buf ≡ (Bytes (length (fileRead bs)), fileRead bs ++ drop (length (fileRead bs)) buf)
     rewrite-fine h = written ∙ writes-what-was-read bs buf fine h
 
 pub rewrites-the-same : RewritesTheSame
-rewrites-the-same bs buf below fine three room =
-    let same = same-bytes bs below fine three in
+rewrites-the-same bs buf below fine three no-lag room =
+    let same = same-bytes bs below fine three no-lag in
     rewrite-fine bs buf fine (omega (arith, ap length same)) ∙ ap (λ (l : List ℕ). (Bytes (length l), l ++ drop (length l) buf)) same
 
 pub rewrites-older : RewritesOlder
 rewrites-older bs buf fine =
-    let (edition, meaning) = means-the-same bs fine in
-    record { written = rewrite-fine bs buf fine; edition = edition; meaning = meaning }
+    let (edition, no-lag, meaning) = means-the-same bs fine in
+    record { written = rewrite-fine bs buf fine; edition = edition; no-lag = no-lag; meaning = meaning }

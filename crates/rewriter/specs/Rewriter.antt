@@ -8,7 +8,7 @@ use Rattle.judge.specs.declared.Checked.{Checked, the-variants.Fine, the-varian
 use Rattle.plan.specs.declared.Sheet.{Sheet}
 use Rattle.file.specs.declared.Written.{Written, the-variants.Refused as Written·Refused, the-variants.Bytes}
 use Rattle.carried.specs.declared.Edition.the-variants.{Three}
-use Rattle.file.specs.File.{editionIn, readOf, writeOf}
+use Rattle.file.specs.File.{editionIn, lagIn, readOf, writeOf}
 use Rattle.file.specs.Claims.{fileRead}
 
 -- what was read is written, and a refused file is refused, with the lent bytes as they were
@@ -22,16 +22,18 @@ rewriteOf bytes buf = rewriteAs (readOf bytes .answer) (readOf bytes .sheet) buf
 
 -- ---- What is proved of a plan that is written again; the proof is in proofs/Same.antt.
 
--- a file of edition 3 that is not refused is written again byte for byte, wherever as many bytes are lent, ..
+-- a file of edition 3 with a LAG of 0 that is not refused is written again byte for byte, wherever as many bytes are lent, ..
 abbrev pub RewritesTheSame : Type 0
 RewritesTheSame =
-    (bs buf : List ℕ) → Below 256 bs → readOf bs .answer ≡ Fine → editionIn (wordsOf bs) ≡ Three → length bs ≤ length buf
+    (bs buf : List ℕ) → Below 256 bs → readOf bs .answer ≡ Fine → editionIn (wordsOf bs) ≡ Three → lagIn (wordsOf bs) ≡ 0
+    → length bs ≤ length buf
     → rewriteOf bs buf ≡ (Bytes (length bs), bs ++ drop (length bs) buf)
 
--- .. and one of any edition as a file of edition 3 with the same meaning, wherever as many bytes are lent as that has
+-- .. and any other as a file of edition 3 with no LAG and the same meaning, wherever as many bytes are lent as that has
 pub record BroughtUpToDate (bs buf file : List ℕ) : Type 0 where
   pub written : length file ≤ length buf → rewriteOf bs buf ≡ (Bytes (length file), file ++ drop (length file) buf)
   pub edition : editionIn (wordsOf file) ≡ Three
+  pub no-lag : lagIn (wordsOf file) ≡ 0
   pub meaning : readOf file ≡ readOf bs
 
 abbrev pub RewritesOlder : Type 0

@@ -1,8 +1,8 @@
 // The planner's screen: the answers of a plan whose streams are lent as a list of records.
 //
-// `screen` answers for every list, however long, just as `answers::answer_values` does for the sheet of these values: the
+// `screen` answers for every list, however long, just as `answers::answer_words` does for the words of these values: the
 // first 64 streams and 8 gaps are copied out, and the list's own lengths are its counts, so an empty or over-long list is
-// refused 2. Nothing is assumed. Its code must not know of files or text, and it makes no check and no bound
+// refused 2. The timing is lent as it is entered, with a LAG or with none. Nothing is assumed. Its code must not know of files or text, and it makes no check and no bound
 // of its own; specs/Screen.antt holds it against the file.
 ghost use mathlib.Core.Path.{_≡_};
 ghost use Prim.Native.Nat.{_<_};
@@ -12,15 +12,16 @@ ghost use Rattle.plan.specs.Plan.{blank};
 ghost use Rattle.laws.specs.Lists.{placed};
 ghost use Rattle.screen.specs.Screen.{Screens};
 ghost use Rattle.screen.specs.private.Gathering.{takenOf, TakenAnswered};
-use answers::answer_values;
+use answers::answer_words;
+use carried::Edition;
+use carried::EnteredTiming;
 use carried::no_streams;
+use carried::words_entered;
 use judge::Checked;
 use laws::smaller;
 use names::SOURCES;
 use names::STREAMS;
-use plan::Sheet;
 use plan::Stream;
-use plan::Timing;
 
 // A list's first streams in places of fixed number, and how many the list has.
 struct Taken {
@@ -78,23 +79,17 @@ fn copied(gaps: &[u32]) -> [u32; SOURCES]
     out
 }
 
-fn answered(lot: Taken, timing: Timing, gaps: &[u32], out: &mut [u64]) -> Checked
+fn answered(lot: Taken, timing: EnteredTiming, gaps: &[u32], out: &mut [u64]) -> Checked
     ensures { λ r. ⌜ TakenAnswered lot timing (now (gaps .entry)) (now (out .entry)) r (now (out .exit)) ⌝ }
 {
     let rows = lot.rows;
     let copies = copied(gaps);
-    let sheet = Sheet {
-        timing,
-        streams: rows,
-        count: lot.count,
-        gaps: copies,
-        sources: gaps.len(),
-    };
-    answer_values(sheet, out)
+    let words = words_entered(timing, rows, lot.count, copies, gaps.len());
+    answer_words(Edition::Three, &words, lot.count, gaps.len(), out)
 }
 
-// The answers of the lent streams under this timing and these noise gaps, or the first refusal of 2, 3, 4, 5, 10, 6 that applies.
-pub fn screen(streams: &[Stream], timing: Timing, gaps: &[u32], out: &mut [u64]) -> Checked
+// The answers of the lent streams under this timing and these noise gaps, or the first refusal of 2, 3, 11, 4, 5, 10, 6 that applies.
+pub fn screen(streams: &[Stream], timing: EnteredTiming, gaps: &[u32], out: &mut [u64]) -> Checked
     ensures { λ r. ⌜ Screens (now (streams .entry)) timing (now (gaps .entry)) (now (out .entry)) r (now (out .exit)) ⌝ }
 {
     answered(gathered(streams), timing, gaps, out)

@@ -54,13 +54,15 @@ fn screen(streams: [Stream; 3], timing: &[u32], gaps: &[u32], out: &mut [u64]) {
     words(&out[..]);
 }
 
-// P1 with words to spare and with too few, and P2.
+// P1 with words to spare, its LAG of 1 in ETG, and with too few, and P2.
 fn answered() {
     let p1 = streams(5, 655370, 2, 0);
+    let folded = [4, 1, 1, 2, 1, 1, 3, 0, 4];
     let timing = [4, 1, 1, 2, 1, 1, 2, 1, 4];
     let gaps = [1000];
     let mut long = [7; 11];
     screen(p1, &timing, &gaps[..0], &mut long);
+    screen(p1, &folded, &gaps[..0], &mut long);
     let mut short = [7; 8];
     screen(p1, &timing, &gaps[..0], &mut short);
     let mut enough = [7; 9];
@@ -118,6 +120,19 @@ fn wrong(payload: u32, label: u32, priority: u32) {
     );
 }
 
+// P1 with another LAG and the priority of the second, in too few words.
+fn lagging(lag: u32, priority: u32) {
+    let timing = [4, 1, 1, 2, 1, 1, 2, lag, 4];
+    let gaps = [1000];
+    let mut out = [7; 2];
+    screen(
+        streams(5, 655370, priority, 0),
+        &timing,
+        &gaps[..0],
+        &mut out,
+    );
+}
+
 fn main() {
     answered();
     lengths();
@@ -132,4 +147,8 @@ fn main() {
     slots(19, 5, 0);
     slots(19, 0, 0);
     slots(5000001, 5, 0);
+    lagging(65533, 2);
+    lagging(65533, 1);
+    lagging(65534, 1);
+    lagging(65536, 1);
 }

@@ -3,7 +3,7 @@ use mathlib.Core.Path.{ap, _∙_}
 use denote.Ref.{now}
 use borrow.Author.Needs.{needs}
 use Rattle.carried.specs.declared.Edition.the-variants.{Three}
-use Rattle.carried.specs.Carried.{planIn}
+use Rattle.carried.specs.Carried.{enteredIn}
 use Rattle.answers.specs.Answers.{answerWith, answerOf}
 use Rattle.answers.proofs.Outcome.{same-answer}
 use Rattle.answers.proofs.answer_values.Statement.{statement}
@@ -17,8 +17,8 @@ returns c =
     let b = w .before .before in
     let s = b .args .s in
     let out = now (b .args .out) in
-    let e = ap (λ ws. answerWith Three (s .count) (s .sources) (planIn (s .count) (s .sources) ws) out) (w .words-of .ensures)
-    ∙ same-answer s (_, b .good .0 .1 .1) Three out in
+    let e = ap (λ ws. answerWith Three (s .count) (s .sources) (enteredIn (s .count) (s .sources) ws) out) (w .words-of .ensures)
+    ∙ same-answer s (_, b .good .0 .1 .1) out in
     (a .answer-words .ensures .0 ∙ ap (λ o. o .0) e, a .answer-words .ensures .1 ∙ ap (λ o. o .1) e)
 
 pub answer-values-spec : {M : Type 1} → statement M

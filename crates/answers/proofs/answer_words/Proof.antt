@@ -6,7 +6,7 @@ use borrow.Author.Needs.{needs}
 use Rattle.judge.specs.declared.Checked.the-variants.{Fine}
 use Rattle.judge.specs.Table.{judge}
 use Rattle.checks.specs.Checks.{lines}
-use Rattle.carried.specs.Carried.{planIn}
+use Rattle.carried.specs.Carried.{enteredIn}
 use Rattle.answers.specs.private.Gather.{PlacesWithin}
 use Rattle.answers.proofs.Places.{fine-places}
 use Rattle.answers.proofs.Outcome.{refused-is, too-few-is, words-are}
@@ -17,7 +17,7 @@ use Rattle.answers.proofs.answer_words.Tie as tie
 abbrev entry : tie.After-enum-told → tie.Start
 entry c = c .before .before .before .before
 
-fine : (c : tie.After-enum-told) → let a = entry c .args in judge (lines (a .edition) (a .n) (a .m) (planIn (a .n) (a .m) (now (a .words)))) ≡ Fine
+fine : (c : tie.After-enum-told) → let a = entry c .args in judge (lines (a .edition) (a .n) (a .m) (enteredIn (a .n) (a .m) (now (a .words)))) ≡ Fine
 fine c = sym (c .before .before .check-words .ensures) ∙ c .enum-told .given .1
 
 places : (c : tie.After-enum-told) → let a = entry c .args in PlacesWithin (now (a .words)) (a .n) (a .m)

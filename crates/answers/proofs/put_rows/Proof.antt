@@ -12,7 +12,8 @@ use Rattle.laws.proofs.Lists.{rows-map}
 use Rattle.bound.specs.Bound.{answer}
 use Rattle.plan.specs.declared.Timing.{Timing}
 use Rattle.plan.specs.Rules.{rowAnswer}
-use Rattle.carried.specs.Carried.{planIn}
+use Rattle.carried.specs.Carried.{enteredTimingIn, timingIn, enteredIn, planIn}
+use Rattle.carried.proofs.Plans.{timing-held}
 use Rattle.answers.specs.private.Gather.{rowStream, Long}
 use Rattle.row_words.specs.RowWords.{rowWords, wordsPerRow, withAnswer}
 use Rattle.row_words.proofs.RowWords.{put-next}
@@ -31,6 +32,10 @@ loop-holds : tie.Need-loop-holds Inv-loop μ-loop
 unfolding rows flatMap
 loop-holds c = (omega arith, refl, refl, record { of-costs = refl; of-periods = refl; of-jitters = refl })
 
+-- a word holds ETG + LAG, so the timing is the one that is meant
+timing-is : (g : tie.After-timing-in Inv-loop μ-loop) → let s = g .before .before in g .timing-in .result ≡ timingIn (now (s .args .words))
+timing-is g = let s = g .before .before in g .timing-in .ensures ∙ timing-held (enteredTimingIn (now (s .args .words))) (omega (arith, s .pre .0 .timing .etg))
+
 gathered-requires : tie.Need-gathered-requires Inv-loop μ-loop
 gathered-requires c κs =
     let d = c .before .before .before in
@@ -40,8 +45,8 @@ gathered-requires c κs =
     let s = g .before .before in (
       s .pre .0,
       (
-        rw (f .overheads-of .ensures, g .timing-in .ensures) (overhead-within _ (s .pre .0 .timing)),
-        (w .wide .ensures .0 ∙ ap (λ (t : Timing). t .p) (g .timing-in .ensures), (d .loop-test .taken, d .before .loop .inv .3)),
+        rw (f .overheads-of .ensures, timing-is g) (overhead-within _ (s .pre .0 .timing)),
+        (w .wide .ensures .0 ∙ ap (λ (t : Timing). t .p) (timing-is g), (d .loop-test .taken, d .before .loop .inv .3)),
       ),
     )
 
@@ -85,7 +90,7 @@ same-length : tie.Need-same-length Inv-loop μ-loop
 same-length c = c .before .loop .inv .2
 
 returns : tie.Need-returns Inv-loop μ-loop
-unfolding planIn
+unfolding enteredIn
 returns c =
     let s = c .before .before .before .before .before .before in
     let e : c .before .loop .k ≡ s .args .n = omega arith in

@@ -6,13 +6,13 @@ use lib.ListN.{getD}
 use Rattle.names.specs.Limits.{streams, sources}
 use Rattle.laws.proofs.Lists.{length-rows}
 use Rattle.carried.specs.Layout as layout
-use Rattle.carried.specs.Carried.{streamIn, planIn}
+use Rattle.carried.specs.Carried.{streamIn, enteredIn}
 use borrow.Author.Needs.{needs}
 use Rattle.carried.proofs.sheet_in.Statement.{statement}
 use Rattle.carried.proofs.sheet_in.Tie as tie
 
 returns : tie.Need-returns
-unfolding planIn
+unfolding enteredIn
 returns c =
     let s = c .before .before .before in
     let ws = now (s .before .before .args .words) in

@@ -2,7 +2,7 @@
 use mathlib.Core.Path.{ap, _∙_}
 use borrow.Author.Needs.{needs}
 use Rattle.carried.specs.declared.Edition.the-variants.{Three}
-use Rattle.carried.specs.Carried.{planIn}
+use Rattle.carried.specs.Carried.{enteredIn}
 use Rattle.judge.specs.Table.{judge}
 use Rattle.checks.specs.Checks.{lines}
 use Rattle.checks.proofs.Words.{same-check}
@@ -14,7 +14,7 @@ returns c =
     let w = c .before .before in
     let s = w .before .args .sheet in
     c .check-words .ensures
-    ∙ ap (λ ws. judge (lines Three (s .count) (s .sources) (planIn (s .count) (s .sources) ws))) (w .words-of .ensures)
+    ∙ ap (λ ws. judge (lines Three (s .count) (s .sources) (enteredIn (s .count) (s .sources) ws))) (w .words-of .ensures)
     ∙ same-check s (_, w .before .good .0 .1 .1)
 
 pub check-spec : {M : Type 1} → statement M

@@ -9,9 +9,8 @@ use Rattle.laws.specs.declared.Found.the-variants.{At}
 use Rattle.laws.proofs.Lists.{length-rows}
 use Rattle.judge.specs.declared.Checked.the-variants.{Refused}
 use Rattle.judge.proofs.Table.{given, passed, nothing-given}
-use Rattle.plan.specs.Plan.{Plan}
 use Rattle.carried.specs.Layout as layout
-use Rattle.carried.specs.Carried.{streamIn, planIn}
+use Rattle.carried.specs.Carried.{Entered, streamIn, enteredIn}
 use Rattle.fields.specs.Fields.{fields, lowest}
 use Rattle.fields.proofs.Inside.{at-the-lowest}
 use Rattle.fields.proofs.Carried.{length-fields}
@@ -20,12 +19,12 @@ use borrow.Author.Needs.{needs}
 use Rattle.checks.proofs.check_fields.Statement.{statement}
 use Rattle.checks.proofs.check_fields.Tie as tie
 
--- the plan that is asked about
-abbrev asked : tie.Start → Plan
-asked b = planIn (min (b .args .n) streams) (min (b .args .m) sources) (now (b .args .words))
+-- what is asked about
+abbrev asked : tie.Start → Entered
+asked b = enteredIn (min (b .args .n) streams) (min (b .args .m) sources) (now (b .args .words))
 
 one-of-them : (b : tie.Start) {k : ℕ} → lowest 0 (fields (b .args .edition) (asked b)) ≡ At k → k < layout.largest
-unfolding planIn
+unfolding enteredIn
 one-of-them b e =
     let p = asked b in
     let ws = now (b .args .words) in
@@ -36,7 +35,7 @@ one-of-them b e =
 
 -- it has as many rows as are looked at
 rows-asked : (b : tie.Start) → length (asked b .streams) ≡ min (b .args .n) streams
-unfolding planIn
+unfolding enteredIn
 rows-asked b = length-rows (min (b .args .n) streams) _
 
 byte-of-requires : tie.Need-byte-of-requires

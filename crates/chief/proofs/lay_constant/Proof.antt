@@ -1,4 +1,4 @@
--- Each arm lays the name of its constant, and the last arm is the one of 9 and more. Assumes nothing.
+-- Each arm lays the name of its constant, and the last arm is the one of 8 and more. Assumes nothing.
 use mathlib.Core.Path.{_≡_, refl, sym, ap}
 use Prim.Native.Nat.{ℕ, zero, suc}
 use Rattle.ascii.specs.Ascii.{ascii}
@@ -8,19 +8,18 @@ use borrow.Author.Needs.{needs}
 use Rattle.chief.proofs.lay_constant.Statement.{statement}
 use Rattle.chief.proofs.lay_constant.Tie as tie
 
-others : (k : ℕ) → (k ≡ 0 → ⊥) → (k ≡ 1 → ⊥) → (k ≡ 2 → ⊥) → (k ≡ 3 → ⊥) → (k ≡ 4 → ⊥) → (k ≡ 5 → ⊥) → (k ≡ 6 → ⊥) → (k ≡ 7 → ⊥) → (k ≡ 8 → ⊥)
+others : (k : ℕ) → (k ≡ 0 → ⊥) → (k ≡ 1 → ⊥) → (k ≡ 2 → ⊥) → (k ≡ 3 → ⊥) → (k ≡ 4 → ⊥) → (k ≡ 5 → ⊥) → (k ≡ 6 → ⊥) → (k ≡ 7 → ⊥)
     → constantName k ≡ ascii "P"
 unfolding constantName
-others zero a b c d e f g h i = absurd (a refl)
-others (suc zero) a b c d e f g h i = absurd (b refl)
-others (suc (suc zero)) a b c d e f g h i = absurd (c refl)
-others (suc (suc (suc zero))) a b c d e f g h i = absurd (d refl)
-others (suc (suc (suc (suc zero)))) a b c d e f g h i = absurd (e refl)
-others (suc (suc (suc (suc (suc zero))))) a b c d e f g h i = absurd (f refl)
-others (suc (suc (suc (suc (suc (suc zero)))))) a b c d e f g h i = absurd (g refl)
-others (suc (suc (suc (suc (suc (suc (suc zero))))))) a b c d e f g h i = absurd (h refl)
-others (suc (suc (suc (suc (suc (suc (suc (suc zero)))))))) a b c d e f g h i = absurd (i refl)
-others (suc (suc (suc (suc (suc (suc (suc (suc (suc k))))))))) a b c d e f g h i = refl
+others zero a b c d e f g h = absurd (a refl)
+others (suc zero) a b c d e f g h = absurd (b refl)
+others (suc (suc zero)) a b c d e f g h = absurd (c refl)
+others (suc (suc (suc zero))) a b c d e f g h = absurd (d refl)
+others (suc (suc (suc (suc zero)))) a b c d e f g h = absurd (e refl)
+others (suc (suc (suc (suc (suc zero))))) a b c d e f g h = absurd (f refl)
+others (suc (suc (suc (suc (suc (suc zero)))))) a b c d e f g h = absurd (g refl)
+others (suc (suc (suc (suc (suc (suc (suc zero))))))) a b c d e f g h = absurd (h refl)
+others (suc (suc (suc (suc (suc (suc (suc (suc k)))))))) a b c d e f g h = refl
 
 returns : tie.Need-returns
 unfolding constantName
@@ -55,15 +54,11 @@ unfolding constantName
 returns-8 c = is (sym (ap constantName (c .before .before .before .before .before .match .keys8))) (c .before .before .lay-text8 .ensures)
 
 returns-9 : tie.Need-returns-9
-unfolding constantName
-returns-9 c = is (sym (ap constantName (c .before .before .before .before .before .match .keys9))) (c .before .before .lay-text9 .ensures)
-
-returns-10 : tie.Need-returns-10
-returns-10 c =
+returns-9 c =
     let r = c .before .before .before .before .before .match .rest in
     is
-    (sym (others _ (r .0 .0 .0 .0 .0 .0 .0 .0 .1) (r .0 .0 .0 .0 .0 .0 .0 .1) (r .0 .0 .0 .0 .0 .0 .1) (r .0 .0 .0 .0 .0 .1) (r .0 .0 .0 .0 .1) (r .0 .0 .0 .1) (r .0 .0 .1) (r .0 .1) (r .1)))
-    (c .before .before .lay-text10 .ensures)
+    (sym (others _ (r .0 .0 .0 .0 .0 .0 .0 .1) (r .0 .0 .0 .0 .0 .0 .1) (r .0 .0 .0 .0 .0 .1) (r .0 .0 .0 .0 .1) (r .0 .0 .0 .1) (r .0 .0 .1) (r .0 .1) (r .1)))
+    (c .before .before .lay-text9 .ensures)
 
 pub lay-constant-spec : {M : Type 1} → statement M
 lay-constant-spec =
@@ -71,6 +66,6 @@ lay-constant-spec =
     (tie.spec (λ c. search needs) (λ c κs. search needs) (λ c. search needs) (λ c κs. search needs) (λ c. search needs)
     (λ c κs. search needs) (λ c. search needs) (λ c κs. search needs) (λ c. search needs) (λ c κs. search needs) (λ c. search needs)
     (λ c κs. search needs) (λ c. search needs) (λ c κs. search needs) (λ c. search needs) (λ c κs. search needs) (λ c. search needs)
-    (λ c κs. search needs) (λ c. search needs) (λ c κs. search needs) (λ c. search needs) returns (λ c. search needs) returns-2
+    (λ c κs. search needs) (λ c. search needs) returns (λ c. search needs) returns-2
     (λ c. search needs) returns-3 (λ c. search needs) returns-4 (λ c. search needs) returns-5 (λ c. search needs) returns-6
-    (λ c. search needs) returns-7 (λ c. search needs) returns-8 (λ c. search needs) returns-9 (λ c. search needs) returns-10)
+    (λ c. search needs) returns-7 (λ c. search needs) returns-8 (λ c. search needs) returns-9)

@@ -3,23 +3,22 @@ use mathlib.Core.Path.{_≡_, sym, ap, ap₂, _∙_}
 use Prim.Native.Nat.{_-_, _≤_}
 use native.Mathlib.Omega.{arith}
 use borrow.Author.Needs.{needs}
-use Rattle.carried.specs.Layout.{timingLength}
 use Rattle.compare.specs.declared.Change.the-variants.{Nothing}
-use Rattle.compare.specs.Changes.{firstChange, grown, ofConstants}
+use Rattle.compare.specs.Changes.{firstChange, manyConstants, grown, ofConstants}
 use Rattle.compare.proofs.First.{no-reason, a-reason, change-none, change-more, change-here}
 use Rattle.compare.proofs.constants.Statement.{statement}
 use Rattle.compare.proofs.constants.Tie as tie
 
 abbrev Inv-loop : tie.InvT-loop
-Inv-loop was is k₀ k = (k ≤ timingLength) × (firstChange (grown was is) k ≡ Nothing)
+Inv-loop was is k₀ k = (k ≤ manyConstants) × (firstChange (grown was is) k ≡ Nothing)
 
 abbrev μ-loop : tie.MeasureT-loop
-μ-loop was is k₀ k = timingLength - k
+μ-loop was is k₀ k = manyConstants - k
 
--- what is said of the words is said of the constants
-in-words : (c : tie.After-timing-words2 Inv-loop μ-loop) → let a = c .before .before .args in
-    firstChange (grown (c .before .timing-words .result) (c .timing-words2 .result)) timingLength ≡ ofConstants (a .old) (a .new)
-in-words c = ap₂ (λ was is. firstChange (grown was is) timingLength) (c .before .timing-words .ensures) (c .timing-words2 .ensures)
+-- what is said of the two arrays is said of the constants
+in-arrays : (c : tie.After-constants-of2 Inv-loop μ-loop) → let a = c .before .before .args in
+    firstChange (grown (c .before .constants-of .result) (c .constants-of2 .result)) manyConstants ≡ ofConstants (a .old) (a .new)
+in-arrays c = ap₂ (λ was is. firstChange (grown was is) manyConstants) (c .before .constants-of .ensures) (c .constants-of2 .ensures)
 
 loop-holds : tie.Need-loop-holds Inv-loop μ-loop
 loop-holds c = (omega arith, change-none _)
@@ -27,7 +26,7 @@ loop-holds c = (omega arith, change-none _)
 returns : tie.Need-returns Inv-loop μ-loop
 returns c =
     let l = c .before .before in
-    sym (change-here _ timingLength (l .loop .k) _ (omega arith) (l .loop .inv .1) (a-reason _ _ _ (c .if1 .taken))) ∙ in-words (l .before)
+    sym (change-here _ manyConstants (l .loop .k) _ (omega arith) (l .loop .inv .1) (a-reason _ _ _ (c .if1 .taken))) ∙ in-arrays (l .before)
 
 loop-again : tie.Need-loop-again Inv-loop μ-loop
 loop-again c = let l = c .before .before .loop in (omega arith, change-more _ (l .k) (l .inv .1) (no-reason _ _ _ (c .if1 .left)))
@@ -35,8 +34,8 @@ loop-again c = let l = c .before .before .loop in (omega arith, change-more _ (l
 returns-2 : tie.Need-returns-2 Inv-loop μ-loop
 returns-2 c =
     let l = c .before in
-    let e : l .loop .k ≡ timingLength = omega arith in
-    sym (l .loop .inv .1) ∙ ap (firstChange _) e ∙ in-words (l .before)
+    let e : l .loop .k ≡ manyConstants = omega arith in
+    sym (l .loop .inv .1) ∙ ap (firstChange _) e ∙ in-arrays (l .before)
 
 pub constants-spec : {M : Type 1} → statement M
 constants-spec =

@@ -1,7 +1,7 @@
 -- Each return is a condition by its number. Assumes nothing.
 use mathlib.Core.Path.{sym, ap, _∙_}
 use borrow.Author.Needs.{needs}
-use Rattle.outside.specs.Outside.{again}
+use Rattle.outside.specs.Outside.{broken, again}
 use Rattle.outside.proofs.again.Statement.{statement}
 use Rattle.outside.proofs.again.Tie as tie
 
@@ -9,7 +9,7 @@ returns : tie.Need-returns
 returns c = c .broken .ensures ∙ ap again (sym (c .before .enum-told .given .1))
 
 returns-2 : tie.Need-returns-2
-returns-2 c = c .broken2 .ensures ∙ ap again (sym (c .before .before .reason .given .1))
+returns-2 c = c .broken2 .ensures ∙ ap (broken 1) (c .before .constant-at .ensures) ∙ ap again (sym (c .before .before .before .reason .given .1))
 
 returns-3 : tie.Need-returns-3
 returns-3 c = c .by-label .ensures ∙ ap again (sym (c .before .before .reason2 .given .1))
@@ -38,7 +38,7 @@ returns-10 c = c .broken3 .ensures ∙ ap again (sym (c .before .before .reason9
 pub again-spec : {M : Type 1} → statement M
 again-spec =
     tie.close
-    (tie.spec (λ c. search needs) (λ c κs. search needs) (λ c. search needs) (λ c κs. search needs) (λ c. search needs)
+    (tie.spec (λ c. search needs) (λ c κs. search needs) (λ c. search needs) (λ c κs. search needs) (λ c κs. search needs) (λ c. search needs)
     (λ c κs. search needs) (λ c. search needs) (λ c κs. search needs) (λ c. search needs) (λ c κs. search needs) (λ c. search needs)
     (λ c κs. search needs) (λ c. search needs) (λ c κs. search needs) (λ c. search needs) (λ c κs. search needs) (λ c. search needs)
     (λ c κs. search needs) (λ c. search needs) (λ c. search needs) (λ c κs. search needs) returns returns-2 returns-3 returns-4 returns-5

@@ -37,16 +37,15 @@ use denote.Triple.Clauses.{ensured, lasts}
 use denote.Triple.Walked.{says, Stays, stay-none-slice, gave-slice, walkOf, Walks, ends-at, walked, goes-none-slice, goes-gave-slice, walk-meets}
 use denote.Exit.{yes}
 use Rattle.plan.specs.declared.Stream.{Stream}
-use Rattle.plan.specs.declared.Timing.{Timing}
+use Rattle.carried.specs.declared.EnteredTiming.{EnteredTiming}
 use Rattle.judge.specs.declared.Checked.{Checked}
-use Rattle.carried.specs.Carried.{timingIn}
-use Rattle.answers.specs.Answers.{answerOf}
-use Rattle.screen.specs.Screen.{sheetFor}
+use Rattle.carried.specs.Carried.{enteredTimingIn}
+use Rattle.screen.specs.Screen.{screenOf}
 use Rattle.outside.specs.declared.Said.{Said}
 use Rattle.outside.specs.Outside as number
 use Rattle.plan.proofs.Stream as S
-use Rattle.plan.proofs.Timing as Z
-use Rattle.plan.proofs.Timing.Laws as Z′
+use Rattle.carried.proofs.EnteredTiming as Z
+use Rattle.carried.proofs.EnteredTiming.Laws as Z′
 use Rattle.judge.proofs.Checked as N
 use Rattle.judge.proofs.Checked.Laws as N′
 use Rattle.outside.proofs.Said as B
@@ -171,14 +170,14 @@ module _ {M : Type 1} (𝓤 : URA M) (H : Heap 𝓤) (A : Atoms 𝓤) (W : Given
       use2 W (raw (TimingFrom 𝓤 H A mem run .pre to-timing))
       (qed W (tok₁ ∷ ‵ (owns (ShrSlice (named 0) κ₁ u32 ∷ []) (t, tt) (vt ∷ [], tt)) ∷ []) ∵ join ! $ frame ! $ done !) $ done !
 
-  timing-said : (r : Timing) → ent 𝓤 (ensured 𝓤 H A timing-from.ended (timing-from.clauses 𝓤 H A mem run) (κ₁, tt) (t, tt) tt r) (fact 𝓤 (r ≡ timingIn (t .now)))
-  timing-said r = exE 𝓤 _ (λ ws. snd∗ 𝓤 (sem 𝓤 H A (lasts timing-from.ended (κ₁, tt) (t, tt) ws)) (fact 𝓤 (r ≡ timingIn (t .now))))
+  timing-said : (r : EnteredTiming) → ent 𝓤 (ensured 𝓤 H A timing-from.ended (timing-from.clauses 𝓤 H A mem run) (κ₁, tt) (t, tt) tt r) (fact 𝓤 (r ≡ enteredTimingIn (t .now)))
+  timing-said r = exE 𝓤 _ (λ ws. snd∗ 𝓤 (sem 𝓤 H A (lasts timing-from.ended (κ₁, tt) (t, tt) ws)) (fact 𝓤 (r ≡ enteredTimingIn (t .now))))
 
   -- ---- the call of `screen`, at the timing z with the machine value u
-  abbrev to-screen : Timing → Val → Screen 𝓤 H A mem run .Ghost
+  abbrev to-screen : EnteredTiming → Val → Screen 𝓤 H A mem run .Ghost
   to-screen z u = (((κ₀, (κ₂, (κ₃, tt))), (q₀, (q₂, (q₃, tt))), tt, (s, (z, (g, (x, tt)))), (vs ∷ [], (u ∷ [], (vg ∷ [], (vx ∷ [], tt))))), tt)
 
-  goes-screen : (z : Timing) (u : Val) → ent 𝓤 (⋆ 𝓤 H A (‵ (D .own z (u ∷ [])) ∷ kept ∷ []))
+  goes-screen : (z : EnteredTiming) (u : Val) → ent 𝓤 (⋆ 𝓤 H A (‵ (D .own z (u ∷ [])) ∷ kept ∷ []))
       (⋆ 𝓤 H A (raw (Screen 𝓤 H A mem run .pre (to-screen z u)) ∷ kept′ ∷ []))
   goes-screen z u =
       qed W (‵ (D .own z (u ∷ [])) ∷ kept ∷ []) ∵ move ! (1 ∷ []) $ split ! $ move ! (1 ∷ []) $ split ! $
@@ -196,8 +195,8 @@ module _ {M : Type 1} (𝓤 : URA M) (H : Heap 𝓤) (A : Atoms 𝓤) (W : Given
       -- [pre; OwnG; OwnT; OwnS]
       move ! (2 ∷ 1 ∷ []) $ join ! $ move ! (2 ∷ 0 ∷ []) $ join ! $ move ! (1 ∷ 0 ∷ []) $ done !
 
-  abbrev ScreenedAt : Timing → Checked → List ℕ → Type 0
-  ScreenedAt z c zs = (c ≡ answerOf (sheetFor (s .now) z (g .now)) (x .now) .0) × (zs ≡ answerOf (sheetFor (s .now) z (g .now)) (x .now) .1)
+  abbrev ScreenedAt : EnteredTiming → Checked → List ℕ → Type 0
+  ScreenedAt z c zs = (c ≡ screenOf (s .now) z (g .now) (x .now) .0) × (zs ≡ screenOf (s .now) z (g .now) (x .now) .1)
 
   -- ---- the call of `checked`, at the answer c with the machine value w
   abbrev to-numbers : Checked → Val → Numbered 𝓤 H A mem run .Ghost
@@ -213,9 +212,9 @@ module _ {M : Type 1} (𝓤 : URA M) (H : Heap 𝓤) (A : Atoms 𝓤) (W : Given
   abbrev Told : Said → List ℕ → Type 0
   Told r zs = number.Screened (s .now) (t .now) (g .now) (x .now) r zs
 
-  told : (z : Timing) (c : Checked) (r : Said) (zs : List ℕ) → z ≡ timingIn (t .now) → ScreenedAt z c zs → r ≡ number.checked c → Told r zs
+  told : (z : EnteredTiming) (c : Checked) (r : Said) (zs : List ℕ) → z ≡ enteredTimingIn (t .now) → ScreenedAt z c zs → r ≡ number.checked c → Told r zs
   told z c r zs ez e er =
-      let o = ap (λ z. answerOf (sheetFor (s .now) z (g .now)) (x .now)) ez in
+      let o = ap (λ z. screenOf (s .now) z (g .now) (x .now)) ez in
       (er ∙ ap number.checked (e .0 ∙ ap (λ p. p .0) o), e .1 ∙ ap (λ p. p .1) o)
 
   exits : (r : Said) (w : Val) (zs : List ℕ) → Told r zs → length zs ≡ length (x .now)
@@ -249,10 +248,10 @@ module _ {M : Type 1} (𝓤 : URA M) (H : Heap 𝓤) (A : Atoms 𝓤) (W : Given
         -- [_8; …; _7; …; _6; …; _5; …; _4; …; _3; …; _2; …; _1; …; _0; …; the tokens; what the parameters own]
         move ! (18 ∷ 19 ∷ []) $ use2 W (raw (TimingFrom 𝓤 H A mem run .pre to-timing) ⊛ kept) goes-timing $ split ! $
         calls-at ! fm (TimingFrom 𝓤 H A mem run) known-timing to-timing (and-then ! (load ! (from ! (stop !)) (look ! 14 refl)) (no-more !)) (λ u.
-        use1 W (later (some (λ (r : Timing). (tok₁ ⊛ ‵ (D .own r (u ∷ [])))
+        use1 W (later (some (λ (r : EnteredTiming). (tok₁ ⊛ ‵ (D .own r (u ∷ [])))
         ⊛ raw (ensured 𝓤 H A timing-from.ended (timing-from.clauses 𝓤 H A mem run) (κ₁, tt) (t, tt) tt r)))) (id⊢ 𝓤 _) $
         await ! tt $ pick ! (λ z.
-        split ! $ move ! (1 ∷ []) $ use1 W (raw (fact 𝓤 (z ≡ timingIn (t .now)))) (timing-said z) $ heard ! (z ≡ timingIn (t .now)) (λ ez. split ! $ move ! (1 ∷ []) $
+        split ! $ move ! (1 ∷ []) $ use1 W (raw (fact 𝓤 (z ≡ enteredTimingIn (t .now)))) (timing-said z) $ heard ! (z ≡ enteredTimingIn (t .now)) (λ ez. split ! $ move ! (1 ∷ []) $
         -- [the timing; κ₁'s token; what is kept; _8; …; _7; …; _6; …; _5; …; _4; …; _3; …; _2; …; _1; …; _0; …]
         peeks ! D (Is D) (shows 𝓤 H A D) z (u ∷ []) (λ isz.
         land ! (from ! (stop !)) (init ! 7 refl (LL.lawful Z.the-type Z′.the-laws 𝓤 H A W .typed z _ isz .0)) $

@@ -4,8 +4,8 @@ use borrow.Author.Needs.{needs}
 use denote.Ref.{now}
 use Rattle.words.specs.Words.{laidOnto}
 use Rattle.carried.specs.Layout as layout
-use Rattle.carried.specs.Carried.{valuesOf}
-use Rattle.file.specs.File.{planAt}
+use Rattle.carried.specs.Carried.{enteredWords}
+use Rattle.file.specs.File.{enteredAt}
 use Rattle.reader.proofs.Laid.{bodies-stand}
 use Rattle.reader.proofs.lay_bodies.Statement.{statement}
 use Rattle.reader.proofs.lay_bodies.Tie as tie
@@ -19,7 +19,7 @@ returns-3 c =
     let three = t .enum-told3 .given .1 in
     c .words-into .ensures
     ∙ ap (λ l. laidOnto l (now (a .words)))
-    (bodies-stand (a .n) (a .m) bs (b .pre .1 .1 ∙ ap (λ x. layout.size x (a .n) (a .m)) three) ∙ ap (λ x. valuesOf (planAt x (a .n) (a .m) bs)) (sym three))
+    (bodies-stand (a .n) (a .m) bs (b .pre .1 .1 ∙ ap (λ x. layout.size x (a .n) (a .m)) three) ∙ ap (λ x. enteredWords (enteredAt x (a .n) (a .m) bs)) (sym three))
 
 pub lay-bodies-spec : {M : Type 1} → statement M
 lay-bodies-spec =

@@ -7,7 +7,7 @@ use lib.ListN.{replicate}
 use Rattle.names.specs.declared.Refusal.{Refusal}
 use Rattle.carried.specs.declared.Edition.{Edition}
 use Rattle.carried.specs.Layout as layout
-use Rattle.carried.specs.Carried.{planIn}
+use Rattle.carried.specs.Carried.{enteredIn}
 use Rattle.file.specs.declared.Counts.the-variants.{Of, Refused as Counts·Refused}
 use Rattle.file.specs.declared.Written.{Written, the-variants.Refused as Written·Refused}
 use Rattle.file.specs.File.{countsOf, carriedOf, writeWith, writeOf}
@@ -27,7 +27,7 @@ module _ (bytes buf : List ℕ) where
   not-read r e = not-counted (λ c s. rewriteAs c s buf) no (λ x n m p. writeWith x n m p buf) (λ s. refl) (λ r s. refl) (λ x n m p. write-refused x n m p buf) (written-alike buf) bytes r e
 
   read : (x : Edition) (n m : ℕ) → countsOf bytes ≡ Of x n m → {ws : List ℕ} → ws ≡ carriedOf bytes (replicate layout.largest 0)
-      → rewriteOf bytes buf ≡ writeWith x n m (planIn n m ws) buf
+      → rewriteOf bytes buf ≡ writeWith x n m (enteredIn n m ws) buf
   unfolding rewriteOf writeOf
   read x n m e d = by-words (λ c s. rewriteAs c s buf) no (λ x n m p. writeWith x n m p buf) (λ s. refl) (λ r s. refl) (λ x n m p. write-refused x n m p buf) (written-alike buf) bytes x n m e d
 

@@ -1,6 +1,6 @@
 -- A walk of the MIR by hand: `gathered` copies the streams out, and `answered`, which is covered, is called on the values. `streams`, `timing`
 -- and `gaps` are kept, and `out` is given up for good to `answered`, at its own lifetime, share and ghost name.
-use mathlib.Core.Path.{_≡_, refl, ap}
+use mathlib.Core.Path.{_≡_, refl, ap, _∙_}
 use Prim.Native.Nat.{ℕ, _<_, _^_}
 use mathlib.Core.List.{List, [], _∷_}
 use lib.ListN.{length}
@@ -37,18 +37,17 @@ use denote.Triple.Clauses.{ensured, lasts}
 use denote.Triple.Walked.{says, Stays, stay-none-slice, stay-none, gave-slice, walkOf, Walks, ends-at, walked, goes-none-slice, goes-none, goes-gave-slice, walk-meets}
 use denote.Exit.{yes}
 use Rattle.plan.specs.declared.Stream.{Stream}
-use Rattle.plan.specs.declared.Timing.{Timing}
-use Rattle.plan.specs.declared.Sheet.{Sheet}
+use Rattle.carried.specs.declared.EnteredTiming.{EnteredTiming}
 use Rattle.screen.specs.declared.Taken.{Taken}
 use Rattle.judge.specs.declared.Checked.{Checked}
-use Rattle.answers.specs.Answers.{answerOf}
-use Rattle.screen.specs.Screen.{sheetFor}
-use Rattle.screen.specs.private.Gathering.{takenOf, sheetTaken}
+use Rattle.screen.specs.Screen.{screenOf}
+use Rattle.screen.specs.private.Gathering.{takenOf, takenOutcome}
+use Rattle.screen.proofs.Counts.{taken-is}
 use Rattle.plan.proofs.Stream as S
 use Rattle.screen.proofs.Taken as T
 use Rattle.screen.proofs.Taken.Laws as T′
-use Rattle.plan.proofs.Timing as Z
-use Rattle.plan.proofs.Timing.Laws as Z′
+use Rattle.carried.proofs.EnteredTiming as Z
+use Rattle.carried.proofs.EnteredTiming.Laws as Z′
 use Rattle.judge.proofs.Checked as N
 use Rattle.judge.proofs.Checked.Laws as N′
 use Rattle.screen.proofs.gathered as gathered
@@ -73,9 +72,8 @@ L = T.the-row
 abbrev D : RattleType
 D = Z.the-row
 
-sheet-is : (xs : List Stream) (t : Timing) (gaps : List ℕ) (l : Taken) → l ≡ takenOf xs → sheetTaken l t gaps ≡ sheetFor xs t gaps
-unfolding sheetTaken sheetFor takenOf
-sheet-is xs t gaps l e = ap (λ l. sheetTaken l t gaps) e
+outcome-is : (xs : List Stream) (t : EnteredTiming) (gaps out : List ℕ) (l : Taken) → l ≡ takenOf xs → takenOutcome l t gaps out ≡ screenOf xs t gaps out
+outcome-is xs t gaps out l e = ap (λ l. takenOutcome l t gaps out) e ∙ taken-is xs t gaps out
 
 abbrev stayed : Stays (screen.ended .signature .params) (screen.ended .kept)
 stayed = (stay-none-slice (0 ∷ []) tt (plain (λ _. R)) yes, (stay-none (λ _. D) yes, (stay-none-slice (1 ∷ []) tt (plain (λ _. u32)) yes, (gave-slice (2 ∷ []) tt (plain (λ _. u64)), tt))))
@@ -89,7 +87,7 @@ module _ {M : Type 1} (𝓤 : URA M) (H : Heap 𝓤) (A : Atoms 𝓤) (mem : Mem
   Answered = tripleOf 𝓤 H A answered.signature (answered.spec 𝓤 H A mem run)
 
 module _ {M : Type 1} (𝓤 : URA M) (H : Heap 𝓤) (A : Atoms 𝓤) (W : Given 𝓤 H A) (mem : Memory → SProp 𝓤) (run : Routine → Fun 𝓤)
-    (κ₀ κ₁ κ₂ : Lft) (q₀ q₁ q₂ : Share) (s : RefT (List Stream)) (t : Timing) (g x : RefT (List ℕ)) (pt : Is D t (LL.vals Z.the-type Z′.the-laws t)) where
+    (κ₀ κ₁ κ₂ : Lft) (q₀ q₁ q₂ : Share) (s : RefT (List Stream)) (t : EnteredTiming) (g x : RefT (List ℕ)) (pt : Is D t (LL.vals Z.the-type Z′.the-laws t)) where
   abbrev vs : Val
   vs = sliceVal (s .ptr) (length (s .now))
 
@@ -103,7 +101,7 @@ module _ {M : Type 1} (𝓤 : URA M) (H : Heap 𝓤) (A : Atoms 𝓤) (W : Given
   vx = sliceVal (x .ptr) (length (x .now))
 
   abbrev Arg : Type 0
-  Arg = RefT (List Stream) × (Timing × (RefT (List ℕ) × (RefT (List ℕ) × Unit {0})))
+  Arg = RefT (List Stream) × (EnteredTiming × (RefT (List ℕ) × (RefT (List ℕ) × Unit {0})))
 
   abbrev a : Arg
   a = (s, (t, (g, (x, tt))))
@@ -176,10 +174,10 @@ module _ {M : Type 1} (𝓤 : URA M) (H : Heap 𝓤) (A : Atoms 𝓤) (W : Given
       (qed W (toks₁₂ ∷ ‵ (owns (L ∷ D ∷ ShrSlice (named 0) κ₁ u32 ∷ MutSlice (named 1) κ₂ u64 ∷ []) (l, (t, (g, (x, tt)))) (u ∷ [], (vt ∷ [], (vg ∷ [], (vx ∷ [], tt))))) ∷ []) ∵ join ! $ frame ! $ done !) $
       move ! (1 ∷ 2 ∷ []) $ join ! $ move ! (1 ∷ 0 ∷ []) $ done !
 
-  abbrev Said : Sheet → Checked → List ℕ → Type 0
-  Said f r zs = (r ≡ answerOf f (x .now) .0) × (zs ≡ answerOf f (x .now) .1)
+  abbrev Said : Checked × List ℕ → Checked → List ℕ → Type 0
+  Said o r zs = (r ≡ o .0) × (zs ≡ o .1)
 
-  exits : (r : Checked) (w : Val) (zs : List ℕ) → Said (sheetFor (s .now) t (g .now)) r zs → length zs ≡ length (x .now)
+  exits : (r : Checked) (w : Val) (zs : List ℕ) → Said (screenOf (s .now) t (g .now) (x .now)) r zs → length zs ≡ length (x .now)
       → ent 𝓤 (⋆ 𝓤 H A (‵ (N.the-row .own r (w ∷ [])) ∷ toks₁₂ ∷ ‵ (finally u64 (x .name) zs) ∷ kept′ ∷ tok₀ ∷ [])) (Post w)
   exits r w zs e len =
       qed W (‵ (N.the-row .own r (w ∷ [])) ∷ toks₁₂ ∷ ‵ (finally u64 (x .name) zs) ∷ kept′ ∷ tok₀ ∷ []) ∵
@@ -214,8 +212,8 @@ module _ {M : Type 1} (𝓤 : URA M) (H : Heap 𝓤) (A : Atoms 𝓤) (W : Given
         use1 W (later (some (λ (r : Checked). (toks₁₂ ⊛ ‵ (N.the-row .own r (w ∷ [])))
         ⊛ raw (ensured 𝓤 H A answered.ended (answered.clauses 𝓤 H A mem run) (κ₁, (κ₂, tt)) (l, (t, (g, (x, tt)))) tt r)))) (id⊢ 𝓤 _) $ await ! tt $ pick ! (λ r.
         split ! $ move ! (1 ∷ []) $ use1 W (some (λ (zs : Unit {0} × (Unit {0} × (Unit {0} × (List ℕ × Unit {0})))).
-        ‵ (lasts answered.ended (κ₁, (κ₂, tt)) (l, (t, (g, (x, tt)))) zs) ⊛ raw (fact 𝓤 (Said (sheetTaken l t (g .now)) r (zs .1 .1 .1 .0))))) (id⊢ 𝓤 _) $ pick ! (λ zs.
-        split ! $ move ! (1 ∷ []) $ heard ! (Said (sheetTaken l t (g .now)) r (zs .1 .1 .1 .0)) (λ e.
+        ‵ (lasts answered.ended (κ₁, (κ₂, tt)) (l, (t, (g, (x, tt)))) zs) ⊛ raw (fact 𝓤 (Said (takenOutcome l t (g .now) (x .now)) r (zs .1 .1 .1 .0))))) (id⊢ 𝓤 _) $ pick ! (λ zs.
+        split ! $ move ! (1 ∷ []) $ heard ! (Said (takenOutcome l t (g .now) (x .now)) r (zs .1 .1 .1 .0)) (λ e.
         fsplit ! $ move ! (1 ∷ []) $ fsplit ! $ move ! (1 ∷ []) $ fsplit ! $ move ! (1 ∷ []) $ fsplit ! $ fsplit ! $ move ! (1 ∷ []) $ feqL ! (λ len.
         -- [the last list; …; …; …; …; the tokens and the result; what is kept; κ₀'s token; _7; …]
         move ! (5 ∷ []) $ split ! $ move ! (1 ∷ []) $ peeks ! N.the-row (Is N.the-row) (shows 𝓤 H A N.the-row) r (w ∷ []) (λ is.
@@ -223,7 +221,7 @@ module _ {M : Type 1} (𝓤 : URA M) (H : Heap 𝓤) (A : Atoms 𝓤) (W : Given
         returns ! (look ! 23 refl) $ forget ! 9 refl $ forget ! 11 refl $ forget ! 13 refl $ forget ! 15 refl $ forget ! 17 refl $ forget ! 19 refl $ forget ! 21 refl $ forget ! 23 refl $
         move ! (23 ∷ 24 ∷ []) $ free1 ! $ move ! (21 ∷ 22 ∷ []) $ free1 ! $ move ! (19 ∷ 20 ∷ []) $ free1 ! $ move ! (17 ∷ 18 ∷ []) $ free1 ! $ move ! (15 ∷ 16 ∷ []) $ free1 ! $ move ! (13 ∷ 14 ∷ []) $
         free1 ! $ move ! (11 ∷ 12 ∷ []) $ free1 ! $ move ! (9 ∷ 10 ∷ []) $ free1 ! $ free0 ! $
-        keep ! (0 ∷ 1 ∷ 2 ∷ 7 ∷ 8 ∷ []) $ by ! (exits r w (zs .1 .1 .1 .0) (rw (sheet-is (s .now) t (g .now) l el) at e) len)))))))))))))))))))
+        keep ! (0 ∷ 1 ∷ 2 ∷ 7 ∷ 8 ∷ []) $ by ! (exits r w (zs .1 .1 .1 .0) (rw (outcome-is (s .now) t (g .now) (x .now) l el) at e) len)))))))))))))))))))
 
 module _ {M : Type 1} (𝓤 : URA M) (H : Heap 𝓤) (A : Atoms 𝓤) (W : Given 𝓤 H A) (mem : Memory → SProp 𝓤) (run : Routine → Fun 𝓤) (𝓣 : Tables 𝓤 H)
     (known-gathered : Triple 𝓤 (𝓣 .C #screen·gathered) (Gathered 𝓤 H A mem run)) (known-answered : Triple 𝓤 (𝓣 .C #screen·answered) (Answered 𝓤 H A mem run)) where

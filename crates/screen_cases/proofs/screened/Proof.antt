@@ -165,7 +165,7 @@ module _ {M : Type 1} (𝓤 : URA M) (H : Heap 𝓤) (A : Atoms 𝓤) (W : Given
   Ends = Unit {0} × (Unit {0} × (Unit {0} × (List ℕ × Unit {0})))
 
   abbrev Told : Said → List ℕ → Type 0
-  Told r zs = let o = number.screenOf xs (t .now) (g .now) (x .now) in (r ≡ number.checked (o .0)) × (zs ≡ o .1)
+  Told r zs = number.Screened xs (t .now) (g .now) (x .now) r zs
 
   only : (α l : ℕ) (γ : GName) (r : Said) → ent 𝓤 (ensured 𝓤 H A screen.ended (screen.clauses 𝓤 H A mem run) (α ∷ [], (κ₀, (κ₁, (κ₂, tt)))) (lent l γ, (t, (g, (x, tt)))) tt r)
       (ex 𝓤 (λ (zs : Ends). sem 𝓤 H A (lasts screen.ended (α ∷ [], (κ₀, (κ₁, (κ₂, tt)))) (lent l γ, (t, (g, (x, tt)))) zs)))

@@ -1,13 +1,13 @@
 -- Each return is an answer of the definition: a line of the values, 6, or the file; and nothing is put before the last of them. Assumes nothing.
 use mathlib.Core.Path.{_≡_, sym, ap, _∙_}
-use Prim.Native.Nat.{ℕ, _≤_}
+use Prim.Native.Nat.{ℕ, _+_, _≤_}
 use native.Mathlib.Omega.{arith}
 use borrow.Author.Needs.{needs}
 use denote.Ref.{now}
 use Rattle.names.specs.Limits as limit
-use Rattle.plan.specs.Plan.{Plan}
 use Rattle.carried.specs.declared.Edition.{Edition}
-use Rattle.carried.specs.Carried.{planIn}
+use Rattle.carried.specs.Carried.{Entered, enteredTimingIn, enteredIn}
+use Rattle.carried.proofs.Plans.{timing-held}
 use Rattle.judge.specs.declared.Checked.the-variants.{Fine}
 use Rattle.judge.specs.Table.{judge}
 use Rattle.checks.specs.Checks.{lines}
@@ -18,18 +18,18 @@ use Rattle.writer.proofs.Whole.{both}
 use Rattle.writer.proofs.write_words.Statement.{statement}
 use Rattle.writer.proofs.write_words.Tie as tie
 
--- the plan that is asked about
-abbrev asked : tie.Start → Plan
-asked b = planIn (b .args .n) (b .args .m) (now (b .args .words))
+-- what is asked about
+abbrev asked : tie.Start → Entered
+asked b = enteredIn (b .args .n) (b .args .m) (now (b .args .words))
 
 fine : (c : tie.After-enum-told) → let b = c .before .before .before .before in judge (lines (b .args .edition) (b .args .n) (b .args .m) (asked b)) ≡ Fine
 fine c = sym (c .before .before .check-words .ensures) ∙ c .enum-told .given .1
 
--- n is at most 64 and m at most 8
-few : (x : Edition) (n m : ℕ) (p : Plan) → judge (lines x n m p) ≡ Fine → (n ≤ limit.streams) × (m ≤ limit.sources)
-few x n m p e =
-    let (is, r) = fine-if-right x n m p .0 e in
-    (omega (arith, r .count, r .within .count), omega (arith, r .sources, r .within .sources))
+-- n is at most 64 and m at most 8, and a word holds ETG + LAG
+few : (x : Edition) (n m : ℕ) (v : Entered) → judge (lines x n m v) ≡ Fine → (n ≤ limit.streams) × (m ≤ limit.sources) × (v .timing .etg + v .timing .lag ≤ limit.ticks)
+few x n m v e =
+    let (is, r) = fine-if-right x n m v .0 e in
+    (omega (arith, r .count, r .within .count), omega (arith, r .sources, r .within .sources), omega (arith, r .within .timing .etg))
 
 returns : tie.Need-returns
 returns c =
@@ -54,18 +54,20 @@ returns-2 c =
     both (write-no-room (b .args .edition) (b .args .n) (b .args .m) (asked b) (now (b .args .buf)) (fine f) (omega (arith, c .if1 .taken, z .size .ensures)))
 
 put-file-requires : tie.Need-put-file-requires
+unfolding enteredIn
 put-file-requires c κs =
-    let i = c .before .before in
+    let t = c .before in
+    let i = t .before .before in
     let z = i .before in
     let f = z .before in
     let b = f .before .before .before .before in
-    let (n, m) = few (b .args .edition) (b .args .n) (b .args .m) (asked b) (fine f) in
-    (search needs, (n, (m, omega (arith, i .if1 .left, z .size .ensures))))
+    let (n, m, sum) = few (b .args .edition) (b .args .n) (b .args .m) (asked b) (fine f) in
+    (t .timing-in .ensures ∙ timing-held (enteredTimingIn (now (b .args .words))) sum, (search needs, (n, (m, omega (arith, i .if1 .left, z .size .ensures)))))
 
 returns-3 : tie.Need-returns-3
 returns-3 c =
     let k = c .before .before in
-    let i = k .before .before .before in
+    let i = k .before .before .before .before in
     let z = i .before in
     let f = z .before in
     let b = f .before .before .before .before in
@@ -76,4 +78,4 @@ pub write-words-spec : {M : Type 1} → statement M
 write-words-spec =
     tie.close
     (tie.spec (λ c κs. search needs) (λ c. search needs) returns enum-told cast-size cast-size-2 (λ c κs. search needs) returns-2
-    put-file-requires (λ c. search needs) returns-3)
+    (λ c κs. search needs) put-file-requires (λ c. search needs) returns-3)
