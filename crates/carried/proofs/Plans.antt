@@ -14,10 +14,10 @@ use Rattle.laws.proofs.Lists.{rows-same, rows-take}
 use Rattle.laws.proofs.Pieces.{rows-part, flat-append, length-flat, in-piece}
 use Rattle.laws.proofs.Placed.{placed-front, placed-short, placed-reads, drop-replicate}
 use Rattle.plan.specs.declared.Stream.{Stream}
-use Rattle.plan.specs.Plan.{Plan, blank}
+use Rattle.plan.specs.Plan.{blank}
 use Rattle.carried.specs.declared.EnteredTiming.{EnteredTiming}
 use Rattle.carried.specs.Layout as layout
-use Rattle.carried.specs.Carried.{Entered, meant, held, heldTiming, meantTiming, enteredTimingIn, streamIn, enteredIn, timingWords, streamWords, enteredWords, valuesOf, inPlaces, sheetOf, noSheet}
+use Rattle.carried.specs.Carried.{Entered, meant, held, heldTiming, meantTiming, enteredTimingIn, streamIn, enteredIn, timingWords, streamWords, enteredWords, inPlaces, sheetOf, noSheet}
 use Rattle.carried.specs.Carried.{EnteredInWords, WordsBack, MeantPlainly, PlainlyMeant, OneSheet}
 
 seven : (s : Stream) → length (streamWords s) ≡ layout.streamLength

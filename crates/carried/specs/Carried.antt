@@ -32,7 +32,7 @@ meantTiming t = withETG (t .etg + t .lag) t
 abbrev pub meant : Entered → Plan
 meant v = record { timing = meantTiming (v .timing); streams = v .streams; gaps = v .gaps }
 
--- .. this is it where a word is to hold the sum, as much of it as a word holds; where that is less, the values are refused 11, ..
+-- .. this is it where a word is to hold the sum, or as much of it as a word holds: more than that is refused, ..
 abbrev pub heldTiming : EnteredTiming → Timing
 heldTiming t = withETG (min (t .etg + t .lag) ticks) t
 

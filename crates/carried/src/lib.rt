@@ -300,21 +300,28 @@ fn joined(etg: u32, lag: u32) -> u32
     }
 }
 
+// The one place where a LAG is added to ETG.
+fn meant(t: EnteredTiming) -> Timing
+    ensures { λ r. ⌜ r ≡ heldTiming t ⌝ }
+{
+    Timing {
+        f: t.f,
+        e: t.e,
+        tfcs: t.tfcs,
+        swx: t.swx,
+        h: t.h,
+        g: t.g,
+        etg: joined(t.etg, t.lag),
+        nb: t.nb,
+        p: t.p,
+    }
+}
+
 // The timing that is meant by the words.
 pub fn timing_in(words: &[u32; CARRIED]) -> Timing
     ensures { λ r. ⌜ r ≡ heldTiming (enteredTimingIn (now (words .entry))) ⌝ }
 {
-    Timing {
-        f: words[0],
-        e: words[1],
-        tfcs: words[2],
-        swx: words[3],
-        h: words[4],
-        g: words[5],
-        etg: joined(words[ETG], words[LAG]),
-        nb: words[8],
-        p: words[SLOT],
-    }
+    meant(entered_in(words))
 }
 
 // The one place where a stream is built. It starts at word k.

@@ -1,0 +1,2 @@
+pub mod Rule05
+pub mod Claims
