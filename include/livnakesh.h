@@ -1,13 +1,15 @@
 /* The planner's functions for other languages. A slice is a pointer and then a length, counted in elements; what is lent stays
  * the caller's. No two slices of one call may overlap, and each must be aligned for its elements. A slice of length 0 may be NULL.
  * A refusal hands back the number and place of documents 01 and 02, and leaves lent memory as it was. Rows count from 0. Where
- * several fit a plan, the first in this order is given: 1, 2, 3, 4, 5, 10, 6.
+ * several fit a plan, the first in this order is given: 1, 2, 3, 11, 4, 5, 10, 6.
  *
  * n is the number of streams, m the number of gaps. P is from one pulse of the master node to the next, and 0 in a plan without one.
  * Files of three editions are read. Edition 1 has no P, which is then 0, and in edition 2 P is above 0; neither has acknowledgements,
- * which are then 0. Edition 3 has both, and is the one that is written: of a file of edition 3 the same bytes, of an older one the
- * file of edition 3 of the same plan, which is longer. The place of a wrong field is its byte in the file that was given, and for
- * values lent without a file its byte in their file of edition 3.
+ * which are then 0. Edition 3 has both, and is the one that is written. A LAG, in a file of any edition or lent, is added to ETG, and
+ * 0 is written in its place: of a file of edition 3 whose LAG is 0 the same bytes are written, of any other the file of edition 3 of
+ * the same plan, which is longer than an older one. The place of a wrong field is its byte in the file that was given, and for values
+ * lent without a file its byte in their file of edition 3. Where ETG and LAG, each within its limits, are above 65,535 together, 11 is
+ * given, and its place is the byte of ETG, 68.
  *
  * Every call returns, but livnakesh_answers and livnakesh_screen can take minutes: most plans take well under a millisecond, and
  * the slowest that are known more than three minutes. All other calls look at what they are lent once or a few times over. */
@@ -33,6 +35,7 @@ struct livnakesh_said {
  * and 10 of each stream in turn, then 7 and 8:
  *   9 one plan has a master node and the other has none       0
  *   1 a timing constant is greater            its place, 0 to 9 for F, E, TFCS, SWX, H, G, ETG, LAG, NB, P
+ *                                             (never 7: a greater LAG is a greater ETG)
  *   2 a stream is not in the first plan       its label
  *   3 its period is shorter                   its label
  *   4 its jitter is longer                    its label
@@ -73,23 +76,23 @@ struct livnakesh_stepped {
 /* The answers of a plan file: three words a row in file order, verdict (0 met, 1 missed, 2 none), the bound (0 for none) and then
  * the instance q that gives it, counted from 0: the first of those with the largest term (0 for none). Words after 3n stay as
  * found; n is the word at byte 28 of the file, divided by 24 in editions 1 and 2 and by 28 in edition 3.
- * Refusals 1 to 5, 10 and 6; 6 if fewer than 3n words are lent. value is 0. */
+ * Refusals 1 to 6, 10 and 11; 6 if fewer than 3n words are lent. value is 0. */
 struct livnakesh_said livnakesh_answers(const uint8_t *file, size_t file_length, uint64_t *words, size_t word_count);
 
 /* Reads a plan file of any edition and writes its plan's file of edition 3 at the start of the lent buffer; the rest of the buffer is
- * kept. value is the number of bytes written, 84 + 28n + 4m. Refusals 1 to 5, 10 and 6; 6 if fewer bytes than that are lent. */
+ * kept. value is the number of bytes written, 84 + 28n + 4m. Refusals 1 to 6, 10 and 11; 6 if fewer bytes than that are lent. */
 struct livnakesh_said livnakesh_rewrite(const uint8_t *file, size_t file_length, uint8_t *buffer, size_t buffer_length);
 
 /* Writes the file, of edition 3, of so many streams (n) and gaps (m) at the start of the lent buffer; the rest of the buffer is kept.
  * values are ten timing words, F to NB and P, then seven words a stream and then the gaps. A word that is not lent is 0, and words
  * after 10 + 7n + m are not looked at. value is the number of bytes written, 84 + 28n + 4m.
- * Refusals 2 to 5, 10 and 6, with the places that the file would have; 6 if fewer bytes than that are lent. */
+ * Refusals 2 to 6, 10 and 11, with the places that the file would have; 6 if fewer bytes than that are lent. */
 struct livnakesh_said livnakesh_write(size_t streams, size_t gaps, const uint32_t *values, size_t value_count,
                                       uint8_t *buffer, size_t buffer_length);
 
 /* The answers of the screen's values, as livnakesh_answers gives them for their file. timing is ten words, F to NB and P: one that
  * is not lent is 0, so a caller who lends nine has no master node, and words after them are not looked at. The lists' own lengths
- * are n and m. Refusals 2 to 5, 10 and 6, with the places that the file would have; 6 if fewer than 3n words are lent. value is 0. */
+ * are n and m. Refusals 2 to 6, 10 and 11, with the places that the file would have; 6 if fewer than 3n words are lent. value is 0. */
 struct livnakesh_said livnakesh_screen(const struct livnakesh_stream *streams, size_t stream_count,
                                        const uint32_t *timing, size_t timing_count, const uint32_t *gaps, size_t gap_count,
                                        uint64_t *words, size_t word_count);
@@ -100,7 +103,7 @@ struct livnakesh_said livnakesh_screen(const struct livnakesh_stream *streams, s
 struct livnakesh_said livnakesh_parting(uint32_t bits, uint32_t first, uint32_t second);
 
 /* Whether the plan in the second file is lighter than that in the first: every stream of it that has a bound in the first
- * then has one in the second, no larger, and what was met is met. A file is refused by 1 to 5 and 10. */
+ * then has one in the second, no larger, and what was met is met. A file is refused by 1 to 5, 10 and 11. */
 struct livnakesh_weighed livnakesh_lighter(const uint8_t *first, size_t first_length, const uint8_t *second, size_t second_length);
 
 /* A tournament's state is its bit count, its phase, its priorities and its marks. Each lent priority is a contender's, row by row,

@@ -45,6 +45,7 @@ pub enum Answer {
 }
 
 /// Why a plan is not lighter: the stream by its label, a constant by its place in the file's order (0 is F, 9 is P), noise by the gap.
+/// LAG, 7, is never the one: it is added to ETG, and a greater LAG is a greater ETG.
 #[derive(Clone, Copy, Debug, PartialEq, Eq)]
 pub enum Reason {
     /// One plan has a master node and the other has none.
@@ -170,7 +171,7 @@ pub fn answers(file: &[u8]) -> Result<Vec<Answer>, Refused> {
 }
 
 /// As `answers`, of records. The timing is the first ten words, F to NB and P. One that is not lent is 0, so nine words are a plan
-/// without a master node.
+/// without a master node. A LAG is added to ETG; where the two are too great together it is refused 11.
 pub fn screen(streams: &[Stream], timing: &[u32], gaps: &[u32]) -> Result<Vec<Answer>, Refused> {
     let mut words = [UNWRITTEN; WORDS];
     screen_words(streams, timing, gaps, &mut words)?;
@@ -199,7 +200,7 @@ pub fn answer_words(file: &[u8], words: &mut [u64]) -> Result<(), Refused> {
 }
 
 /// Reads a file's plan, of any edition, and writes its file of edition 3 at the start of `buffer`; hands back how many bytes it
-/// wrote.
+/// wrote. A LAG is added to ETG, so the bytes are those of the file if it is of edition 3 and has a LAG of 0.
 pub fn rewrite(file: &[u8], buffer: &mut [u8]) -> Result<usize, Refused> {
     // SAFETY: both slices outlive the call, and the library stays within them.
     said(unsafe { livnakesh_rewrite(file.as_ptr(), file.len(), buffer.as_mut_ptr(), buffer.len()) }).map(|n| n as usize)
@@ -208,7 +209,7 @@ pub fn rewrite(file: &[u8], buffer: &mut [u8]) -> Result<usize, Refused> {
 /// Writes the file, of edition 3, of so many streams and gaps at the start of `buffer`; hands back how many bytes it wrote.
 ///
 /// `values` are the ten timing words, seven words a stream and then the gaps. A word that is not lent is 0. The tenth is P, and 0 in
-/// a plan without a master node.
+/// a plan without a master node. The eighth, LAG, is added to ETG, and written as 0.
 pub fn write(streams: usize, gaps: usize, values: &[u32], buffer: &mut [u8]) -> Result<usize, Refused> {
     // SAFETY: both slices outlive the call, and the library stays within them.
     said(unsafe { livnakesh_write(streams, gaps, values.as_ptr(), values.len(), buffer.as_mut_ptr(), buffer.len()) })

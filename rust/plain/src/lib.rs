@@ -7,9 +7,12 @@ use livnakesh::{Compared, Label, Phase, Priority, Reason, Refused, Row, Stream};
 /// F, E, TFCS, SWX, H, G, ETG, LAG, NB and then P, as in the file. P is 0 in a plan without a master node.
 pub type Timing = [u32; 10];
 
+pub const ETG: usize = 6;
+pub const LAG: usize = 7;
 pub const NB: usize = 8;
 pub const P: usize = 9;
 
+/// A plan as it is entered, or as it is read: its LAG is then 0.
 #[derive(Clone, Debug, PartialEq, Eq)]
 pub struct Plan {
     pub timing: Timing,
@@ -161,6 +164,13 @@ fn streams<const LENGTH: usize>(mut records: &[u8], count: usize) -> Vec<Stream>
     streams
 }
 
+/// All that a LAG means: it is added to ETG, and is 0 from then on. Of right constants alone, as others may be too great for the sum.
+fn folded(mut timing: Timing) -> Timing {
+    timing[ETG] += timing[LAG];
+    timing[LAG] = 0;
+    timing
+}
+
 pub fn read(file: &[u8]) -> Result<Plan, Refused> {
     let (edition, count) = contents(file)?;
     let (head, bodies) = file.split_at(edition.streams());
@@ -174,7 +184,7 @@ pub fn read(file: &[u8]) -> Result<Plan, Refused> {
         gaps: gaps.chunks_exact(GAP).map(word).collect(),
     };
     check_as(edition, &plan)?;
-    Ok(plan)
+    Ok(Plan { timing: folded(plan.timing), ..plan })
 }
 
 fn fits(value: u32, least: u32, most: u32) -> bool {
@@ -235,7 +245,7 @@ fn too_long(plan: &Plan) -> Option<usize> {
     plan.streams.iter().position(|s| setup + acknowledged(s) > slot)
 }
 
-/// Refusals 2 to 5 and then 10, for lent values.
+/// Refusals 2, 3, 11, 4, 5 and then 10, for lent values.
 pub fn check(plan: &Plan) -> Result<(), Refused> {
     check_as(WRITTEN, plan)
 }
@@ -247,6 +257,9 @@ fn check_as(edition: Edition, plan: &Plan) -> Result<(), Refused> {
     }
     if let Some(byte) = bad_byte(edition, plan) {
         return refused(3, byte);
+    }
+    if folded(plan.timing)[ETG] > 65_535 {
+        return refused(11, CONTENTS + 4 * ETG);
     }
     if let Some(row) = repeat(plan.streams.iter().map(|s| s.priority.0)) {
         return refused(4, row);
@@ -269,7 +282,7 @@ fn put(buffer: &mut [u8], words: &[u32]) {
 fn put_plan(plan: &Plan, file: &mut [u8]) {
     let (head, bodies) = file.split_at_mut(WRITTEN.streams());
     put(head, &WRITTEN.contents(plan.streams.len(), plan.gaps.len()));
-    put(&mut head[CONTENTS..], &plan.timing);
+    put(&mut head[CONTENTS..], &folded(plan.timing));
     let (records, gaps) = bodies.split_at_mut(STREAM * plan.streams.len());
     for (record, s) in records.chunks_exact_mut(STREAM).zip(&plan.streams) {
         put(record, &[s.label.0, s.priority.0, s.period, s.jitter, s.payload, s.deadline, s.acknowledgement]);
@@ -308,8 +321,8 @@ pub fn before(timing: &Timing) -> u64 {
 
 /// U, the time that a tournament's bits take.
 pub fn overhead(timing: &Timing) -> u64 {
-    let [_, _, _, _, h, g, etg, lag, bits, _] = timing.map(u64::from);
-    g + (h + g) * bits + etg + lag
+    let [_, _, _, _, h, g, etg, _, bits, _] = folded(*timing).map(u64::from);
+    g + (h + g) * bits + etg
 }
 
 /// P, from one pulse of the master node to the next.
@@ -589,6 +602,7 @@ fn overtaken(places: &[(Priority, Priority)]) -> Option<usize> {
     })
 }
 
+/// Of plans as they are read: a greater LAG in a file is a greater ETG here.
 fn why_not_lighter(old: &Plan, new: &Plan) -> Option<Reason> {
     if slot(&old.timing).is_some() != slot(&new.timing).is_some() {
         return Some(Reason::MasterNode);

@@ -4,13 +4,13 @@
 mod common;
 
 use common::{
-    any_file_of, bytes, drawn, edge_plan, editions_of, file_in, file_of, hex, in_slots, lent, lent_words, need_all, other_slot,
-    plan, plan_in, plan_of, repeat, shortest_slot, stream, tally_acknowledgements, tally_instance, tally_no_room, tally_refusal,
-    tally_rows, tally_slot, tally_tie, terms, words, work, ByEdition, Counts, Rng, Tally, BASE, EDITIONS, H, LARGEST,
-    LONGEST_SLOT, MOST_WORK,
+    any_file_of, as_read, bytes, drawn, edge_plan, editions_of, etg_and_lag, etg_and_lag_of, file_in, file_of, hex, in_slots,
+    lag_case, lent, lent_words, need_all, need_lag_cases, other_slot, plan, plan_in, plan_of, repeat, shortest_slot, stream,
+    tally_acknowledgements, tally_instance, tally_lag, tally_no_room, tally_refusal, tally_rows, tally_slot, tally_tie, terms,
+    words, work, written_of, ByEdition, Counts, LagCase, Rng, Tally, BASE, EDITIONS, GREATEST, LARGEST, LONGEST_SLOT, MOST_WORK,
 };
 use livnakesh::{Compared, Label, Priority, Reason, Refused, Stream};
-use plain::{self, Analysis, Edition, Plan, Worst, P, ROW};
+use plain::{self, Analysis, Edition, Plan, Worst, ETG, LAG, P, ROW};
 
 // ---- both on one file ----
 
@@ -49,8 +49,12 @@ fn rewrite_alike(rng: &mut Rng, file: &[u8], tally: &mut Tally) {
     let kept = said.unwrap_or(0);
     assert_eq!(proved[kept..], found[kept..], "bytes after the file: {}", hex(file));
     if kept > 0 {
+        let [etg, lag] = etg_and_lag_of(file);
         assert_eq!(wanted.as_deref(), Ok(&proved[..kept]), "one file is written of a plan: {}", hex(file));
-        assert_eq!(proved[..kept] == *file, file[0] == 3, "a file of edition 3 alone is written back: {}", hex(file));
+        assert_eq!(etg_and_lag_of(&proved), [etg + lag, 0], "no LAG is written: {}", hex(file));
+        let (same, written) = (file[0] == 3 && lag == 0, &proved[..kept]);
+        assert_eq!(written == file, same, "a file of edition 3 without a LAG alone is written back: {}", hex(file));
+        tally.count(if same { "written back" } else { "written anew" });
     } else if needed > file.len() && found.len() >= file.len() && wanted.is_ok() {
         tally.count("refusal 6: room for the old file");
     }
@@ -61,7 +65,7 @@ fn plan_alike(rng: &mut Rng, plan: &Plan, tally: &mut Tally) {
     for edition in editions_of(plan) {
         tally.count(format!("edition {}", edition as u32));
         let file = file_in(edition, plan);
-        assert_eq!(plain::read(&file).as_ref(), Ok(plan));
+        assert_eq!(plain::read(&file), Ok(as_read(plan)));
         rewrite_alike(rng, &file, tally);
         answers_alike(rng, &file, tally);
     }
@@ -105,6 +109,7 @@ fn tally_plan(tally: &mut Tally, plan: &Plan) {
         5..=31 => "NB: 5 to 31",
         _ => "NB: 32",
     });
+    tally_lag(tally, plan);
     tally_slot(tally, plan);
     tally_acknowledgements(tally, plan);
 }
@@ -127,6 +132,7 @@ fn drawn_plans() {
     tallies.need_all(&["load: below 50 %", "load: 50 to 89 %", "load: 90 to 99 %", "load: 100 % and above"], 5_000);
     tallies.need_all(&["gaps: 0", "gaps: 8", "NB: 1 to 4", "NB: 5 to 31", "NB: 32"], 1_000);
     tallies.need_slotted(&["slot: just long enough", "slot: longer"], 10_000);
+    tallies.need_all(&["LAG: 0", "LAG: fits", "LAG: just fits", "written back", "written anew"], 5_000);
     tallies.need_all(&["edition 3"], 50_000);
     need_all(&tallies.one, &["edition 1", "refusal 6: room for the old file"], 1_000);
     need_all(&tallies.two, &["edition 2", "refusal 6: room for the old file"], 1_000);
@@ -139,12 +145,13 @@ fn plans_at_the_limits() {
     for _ in 0..80_000 {
         let plan = drawn(&mut rng, edge_plan, &mut tallies);
         let tally = tallies.of(&plan);
+        tally_lag(tally, &plan);
         tally_slot(tally, &plan);
         tally_acknowledgements(tally, &plan);
         plan_alike(&mut rng, &plan, tally);
     }
     tallies.print("plans with every field at or next to a limit");
-    tallies.need_all(&["row: met", "row: missed", "row: none"], 1_000);
+    tallies.need_all(&["row: met", "row: missed", "row: none", "LAG: 0", "LAG: fits", "LAG: just fits"], 1_000);
     tallies.need_slotted(&["slot: just long enough", "slot: longer"], 1_000);
     need_all(&tallies.three, &["slot: none", "K: 0", "K: 1 to 100", "K: 101 to 65,534", "K: 65,535"], 1_000);
 }
@@ -163,7 +170,7 @@ fn slots_next_to_every_message() {
             plan.timing[P] = slot;
             let tally = tallies.of(&plan);
             tally_slot(tally, &plan);
-            let (file, whole) = (file_in(edition, &plan), file_of(&plan));
+            let (file, whole) = (file_in(edition, &plan), written_of(&plan));
             let row = messages.iter().position(|&message| message > slot);
             tally.count(match row {
                 None => "all fit",
@@ -291,9 +298,10 @@ fn ceil(ticks: u64, by: u32) -> u64 {
 /// more than `most`.
 fn terms_by_counting(plan: &Plan, row: usize, most: u64) -> Option<Vec<i64>> {
     let slots = plan.timing[P] > 0;
-    let [p, h] = [P, H].map(|k| u64::from(plan.timing[k]));
-    let v = if slots { 0 } else { plain::before(&plan.timing) };
-    let sent = |s: &Stream| u64::from(s.payload) + u64::from(s.acknowledgement) + plain::overhead(&plan.timing);
+    let [f, e, tfcs, swx, h, g, etg, lag, nb, p] = plan.timing.map(u64::from);
+    let v = if slots { 0 } else { f + e + tfcs.max(swx) + h };
+    let u = g + (h + g) * nb + (etg + lag);
+    let sent = |s: &Stream| u64::from(s.payload) + u64::from(s.acknowledgement) + u;
     let cost = |s: &Stream| if slots { p } else { v + sent(s) };
     let own = &plan.streams[row];
     let last = if slots { sent(own) + h } else { v + sent(own) };
@@ -463,7 +471,7 @@ fn resize(rng: &mut Rng, file: &mut Vec<u8>, tally: &mut Tally) {
 
 fn damaged(rng: &mut Rng, plan: &Plan, tally: &mut Tally) -> Vec<u8> {
     let mut plan = plan.clone();
-    let kind = rng.below(14);
+    let kind = rng.below(15);
     if kind < 3 {
         tally.count("damage: P");
         plan.timing[P] = other_slot(rng, &plan);
@@ -471,9 +479,13 @@ fn damaged(rng: &mut Rng, plan: &Plan, tally: &mut Tally) -> Vec<u8> {
     if (2..5).contains(&kind) {
         repeat(rng, &mut plan, tally);
     }
+    if kind == 14 {
+        tally.count("damage: ETG and LAG");
+        [plan.timing[ETG], plan.timing[LAG]] = etg_and_lag(rng);
+    }
     let mut file = any_file_of(rng, &plan);
     match kind {
-        0..=4 => {}
+        0..=4 | 14 => {}
         5 => {
             tally.count("damage: P of 0 in edition 2");
             plan.timing[P] = 0;
@@ -505,10 +517,11 @@ fn damaged_files() {
     }
     tallies.print("damaged files");
     tallies.need_all(
-        &["refusal 1", "refusal 2", "refusal 3", "refusal 4", "refusal 5", "refusal 10", "refusal 6", "answered"],
+        &["refusal 1", "refusal 2", "refusal 3", "refusal 11", "refusal 4", "refusal 5", "refusal 10", "refusal 6", "answered"],
         1_000,
     );
     tallies.need_all(&["damage: P", "damage: P of 0 in edition 2", "damage: another edition's word"], 1_000);
+    tallies.need_all(&["damage: ETG and LAG"], 1_000);
 }
 
 /// Files of 1 to 64 streams with more or fewer in the contents, and counts that are out of range: 76 streams of an older edition are
@@ -573,13 +586,14 @@ fn plain_writer_and_reader_agree() {
     let (mut rng, mut tally) = (Rng(0x3217E), Tally::default());
     for _ in 0..50_000 {
         let mut plan = plan(&mut rng);
-        match rng.below(8) {
+        match rng.below(9) {
             0 => plan.timing[rng.below(9) as usize] = rng.wide(),
             1 => repeat(&mut rng, &mut plan, &mut tally),
             2 => plan.streams[0].payload = rng.wide(),
             3 => plan.gaps.extend([rng.wide(); 3]),
             4 => plan.timing[P] = other_slot(&mut rng, &plan),
             5 => plan.streams[0].acknowledgement = rng.wide(),
+            6 => [plan.timing[ETG], plan.timing[LAG]] = etg_and_lag(&mut rng),
             _ => {}
         }
         let file = file_of(&plan);
@@ -594,7 +608,91 @@ fn plain_writer_and_reader_agree() {
         tally_refusal(&mut tally, wrote);
     }
     tally.print("plain writer on values against the library's reader on their file");
-    need_all(&tally, &["refusal 2", "refusal 3", "refusal 4", "refusal 5", "refusal 10", "answered"], 100);
+    need_all(&tally, &["refusal 2", "refusal 3", "refusal 11", "refusal 4", "refusal 5", "refusal 10", "answered"], 100);
+}
+
+// ---- ETG and LAG ----
+
+/// A drawn plan that is entered with a LAG.
+fn lagged(rng: &mut Rng) -> Plan {
+    loop {
+        let plan = plan(rng);
+        if plan.timing[LAG] > 0 {
+            return plan;
+        }
+    }
+}
+
+/// A file with a LAG, the same file with that in ETG, and the file that is written of both are one plan in every edition.
+#[test]
+fn a_lag_is_part_of_etg() {
+    let (mut rng, mut tallies) = (Rng(0x1A6), ByEdition::default());
+    for _ in 0..20_000 {
+        let plan = drawn(&mut rng, lagged, &mut tallies);
+        let tally = tallies.of(&plan);
+        let (n, written) = (plan.streams.len(), written_of(&plan));
+        let mut wanted = vec![9; ROW * n];
+        assert_eq!(livnakesh::answer_words(&written, &mut wanted), Ok(()));
+        tally_rows(tally, &wanted);
+        for edition in editions_of(&plan) {
+            let [with, without] = [plan.clone(), as_read(&plan)].map(|plan| file_in(edition, &plan));
+            assert_ne!(with, without);
+            tally.count(format!("edition {}", edition as u32));
+            for file in [with, without] {
+                for answer in [livnakesh::answer_words, plain::answers] {
+                    let mut words = vec![9; ROW * n];
+                    assert_eq!((answer(&file, &mut words), &words), (Ok(()), &wanted), "{}", hex(&file));
+                }
+                for rewrite in [livnakesh::rewrite, plain::rewrite] {
+                    let mut buffer = vec![9; written.len()];
+                    assert_eq!((rewrite(&file, &mut buffer), &buffer), (Ok(written.len()), &written), "{}", hex(&file));
+                }
+                for lighter in [livnakesh::lighter, plain::lighter] {
+                    let both = [lighter(&file, &written), lighter(&written, &file)];
+                    assert_eq!(both, [Compared::Lighter; 2], "{}", hex(&file));
+                }
+            }
+        }
+    }
+    tallies.print("files with a LAG, and with that in ETG");
+    tallies.need_all(&["row: met", "row: missed", "row: none", "edition 3"], 5_000);
+    tallies.one.need("edition 1", 5_000);
+    tallies.two.need("edition 2", 5_000);
+}
+
+/// ETG and LAG at and next to their limits, also where more is wrong and where too little memory is lent.
+#[test]
+fn etg_and_lag_in_files() {
+    let (mut rng, mut tallies) = (Rng(0x68), ByEdition::default());
+    for _ in 0..120_000 {
+        let oldest = rng.pick(&EDITIONS);
+        let edition = rng.pick(&[oldest, Edition::Three]);
+        let tally = tallies.at(oldest);
+        let LagCase { plan, short, refused } = lag_case(&mut rng, oldest, edition, tally);
+        let file = file_in(edition, &plan);
+        let (n, needed) = (plan.streams.len(), file_of(&plan).len());
+        for rewrite in [livnakesh::rewrite, plain::rewrite] {
+            let found = bytes(rng.next(), needed - short);
+            let mut buffer = found.clone();
+            assert_eq!(rewrite(&file, &mut buffer), refused.map_or(Ok(needed), Err), "{}", hex(&file));
+            assert_eq!(buffer, if refused.is_none() { written_of(&plan) } else { found }, "{}", hex(&file));
+        }
+        if refused.is_some() || work(&plan, MOST_WORK).is_some() {
+            let found = words(rng.next(), ROW * n - short);
+            let (mut proved, mut ours) = (found.clone(), found.clone());
+            let wanted = refused.map_or(Ok(()), Err);
+            assert_eq!(livnakesh::answer_words(&file, &mut proved), wanted, "{}", hex(&file));
+            assert_eq!(plain::answers(&file, &mut ours), wanted, "{}", hex(&file));
+            assert_eq!(proved, ours, "{}", hex(&file));
+            assert_eq!(proved == found, refused.is_some(), "{}", hex(&file));
+        }
+        tally.count(format!("file of edition {}", edition as u32));
+    }
+    tallies.print("files with ETG and LAG at and next to their limits");
+    need_lag_cases(&tallies);
+    tallies.one.need("file of edition 1", 5_000);
+    tallies.two.need("file of edition 2", 5_000);
+    tallies.need_all(&["file of edition 3"], 5_000);
 }
 
 // ---- the lighter plan ----
@@ -656,6 +754,12 @@ fn ease_timing(rng: &mut Rng, plan: &mut Plan) {
         if rng.one_in(4) {
             plan.timing[k] = less(rng, plan.timing[k], 0);
         }
+    }
+    if rng.one_in(4) {
+        // No more than LAG gives up.
+        let moved = rng.within(0, u64::from(plan.timing[LAG])) as u32;
+        plan.timing[LAG] -= moved;
+        plan.timing[ETG] += less(rng, moved, 0);
     }
     let least = (plan.streams.len() as u64).next_power_of_two().trailing_zeros().max(1);
     plan.timing[plain::NB] = less(rng, plan.timing[plain::NB], least);
@@ -736,8 +840,9 @@ fn hurt(rng: &mut Rng, old: &Plan, new: &mut Plan, condition: u64) {
     }
 }
 
-/// Demand 3 as it is stated, for two plans that are not refused.
+/// Demand 3 as it is stated, for two plans that are not refused: it compares what is read.
 fn demand_3(old: &Plan, new: &Plan) -> bool {
+    let [old, new] = [old, new].map(as_read);
     let find = |label: Label| old.streams.iter().find(|s| s.label == label);
     let no_harder = |s: &Stream| {
         find(s.label).is_some_and(|o| {
@@ -780,6 +885,7 @@ fn promise_kept(old: &Plan, new: &Plan, tally: &mut Tally) {
 fn condition(reason: Reason) -> String {
     match reason {
         Reason::MasterNode => "condition 9, master node".into(),
+        Reason::GreaterConstant(LAG) => panic!("a plan that was read has no LAG"),
         Reason::GreaterConstant(k) => format!("condition 1, constant {k}"),
         Reason::NewLabel(_) => "condition 2, new label".into(),
         Reason::ShorterPeriod(_) => "condition 3, shorter period".into(),
@@ -804,12 +910,12 @@ fn lighter_alike(first: &[u8], second: &[u8], tally: &mut Tally) -> Compared {
     said
 }
 
-fn pair_alike(rng: &mut Rng, old: &Plan, new: &Plan, tally: &mut Tally) {
+fn pair_alike(rng: &mut Rng, old: &Plan, new: &Plan, tally: &mut Tally) -> Compared {
     let (first, second) = (any_file_of(rng, old), any_file_of(rng, new));
     tally.count(format!("editions {} and {}", first[0], second[0]));
     let said = lighter_alike(&first, &second, tally);
     if plain::check(old).and(plain::check(new)).is_err() {
-        return;
+        return said;
     }
     let counted = plain::more_noise(&old.gaps, &new.gaps).is_none();
     assert_eq!(plain::partnered(&old.gaps, &new.gaps), counted, "gaps {:?} and {:?}", old.gaps, new.gaps);
@@ -817,6 +923,7 @@ fn pair_alike(rng: &mut Rng, old: &Plan, new: &Plan, tally: &mut Tally) {
     if said == Compared::Lighter {
         promise_kept(old, new, tally);
     }
+    said
 }
 
 /// Gaps from few values, so that many repeat.
@@ -853,7 +960,7 @@ fn pairs_of_plans() {
     }
     tallies.print("pairs of plans");
     tallies.need_all(&["lighter"], 10_000);
-    for k in 0..9 {
+    for k in (0..9).filter(|&k| k != LAG) {
         tallies.need_all(&[&format!("condition 1, constant {k}")], 100);
     }
     tallies.need_slotted(&[&format!("condition 1, constant {P}")], 500);
@@ -865,9 +972,51 @@ fn pairs_of_plans() {
     need_all(&tallies.three, &["editions 3 and 1", "editions 3 and 2", "editions 3 and 3"], 200);
     tallies.need_all(&["promise: row was met", "promise: row was missed", "promise: row had none"], 500);
     tallies.need_all(&["promise: another instance is the worst"], 50);
-    for number in [1, 2, 3, 4, 5, 10] {
+    for number in [1, 2, 3, 11, 4, 5, 10] {
         tallies.need_all(&[&format!("first refused {number}"), &format!("second refused {number}")], 100);
     }
+}
+
+/// LAG falls and ETG rises. What counts is both together: a LAG that falls makes up for an ETG that rises by no more than that.
+#[test]
+fn pairs_with_etg_for_lag() {
+    let (mut rng, mut tallies) = (Rng(0xE76), ByEdition::default());
+    let again = Compared::RunAgain(Reason::GreaterConstant(ETG));
+    let refused = Refused { number: 11, place: 68 };
+    for _ in 0..30_000 {
+        let (mut old, kind) = (lagged(&mut rng), rng.below(4));
+        let [etg, lag] = [old.timing[ETG], old.timing[LAG]];
+        let fallen = rng.within(1, u64::from(lag)) as u32;
+        let room = GREATEST - (etg + lag);
+        let risen = match kind {
+            0 => rng.below(u64::from(fallen)) as u32,
+            1 => fallen,
+            2 => fallen + room.min(1 + rng.below(9) as u32),
+            // Not above what ETG itself may be.
+            _ => (fallen + room + rng.within(1, 9) as u32).min(GREATEST - etg),
+        };
+        let mut new = old.clone();
+        [new.timing[ETG], new.timing[LAG]] = [etg + risen, lag - fallen];
+        if old.timing[P] > 0 {
+            // Both have room for the longer messages.
+            let slot = shortest_slot(&old).max(shortest_slot(&new));
+            [old.timing[P], new.timing[P]] = [slot, slot];
+        }
+        let tally = tallies.of(&old);
+        let there = pair_alike(&mut rng, &old, &new, tally);
+        let back = pair_alike(&mut rng, &new, &old, tally);
+        let (kind, wanted) = match i64::from(risen) - i64::from(fallen) {
+            ..0 => ("ETG rises by less than LAG falls", (Compared::Lighter, again)),
+            0 => ("ETG rises by as much as LAG falls", (Compared::Lighter, Compared::Lighter)),
+            more if more <= i64::from(room) => ("ETG rises by more than LAG falls", (again, Compared::Lighter)),
+            _ => ("ETG and LAG are too great", (Compared::SecondRefused(refused), Compared::FirstRefused(refused))),
+        };
+        assert_eq!((there, back), wanted, "{kind}: {} and {}", hex(&file_of(&old)), hex(&file_of(&new)));
+        tally.count(kind);
+    }
+    tallies.print("pairs with a greater ETG for a smaller LAG");
+    tallies.need_all(&["ETG rises by less than LAG falls", "ETG rises by as much as LAG falls"], 1_000);
+    tallies.need_all(&["ETG rises by more than LAG falls", "ETG and LAG are too great", "promise: pair run"], 500);
 }
 
 #[test]

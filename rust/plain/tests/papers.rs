@@ -1,4 +1,5 @@
-//! Tables of the source documents under the rules here. One tick is a microsecond.
+//! Tables of the source documents under the rules here. One tick is a microsecond. What these count and the rules have no name for is
+//! entered as LAG, which reading adds to ETG.
 //!
 //! Carried over:
 //! - 001, Tables 1 and 2 (Example 1): a kit without a master node.

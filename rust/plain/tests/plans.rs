@@ -4,10 +4,11 @@
 mod common;
 
 use common::{
-    editions_of, file_in, file_of, met, met_at, missed, missed_at, stream, terms, values_of, BASE, LARGEST, LONGEST_SLOT,
+    editions_of, file_in, file_of, met, met_at, missed, missed_at, oldest, stream, terms, values_of, written_of, BASE, EDITIONS,
+    LARGEST, LONGEST_SLOT,
 };
 use livnakesh::{Answer, Compared, Label, Outcome, Phase, Priority, Reason, Refused, Row, Stream};
-use plain::{self, Analysis, Edition, Level, Plan, Tournament, NB, P, ROW};
+use plain::{self, Analysis, Edition, Level, Plan, Tournament, ETG, LAG, NB, P, ROW};
 
 /// 10.1, 10.10 and 11.2.
 const LABELS: [u32; 3] = [0xa_0001, 0xa_000a, 0xb_0002];
@@ -42,15 +43,15 @@ const SLOTS: [u8; 156] = [
     2, 0, 11, 0,   3, 0, 0, 0,  144, 1, 0, 0,  0, 0, 0, 0,   2, 0, 0, 0,  200, 0, 0, 0,
 ];
 
-/// P1 with acknowledgements of 3, 2 and 0.
+/// P1 with acknowledgements of 3, 2 and 0, as it is written.
 #[rustfmt::skip]
 const ACKNOWLEDGED: [u8; 168] = [
     3, 0, 0, 0,  3, 0, 0, 0,
     1, 0, 0, 0,  44, 0, 0, 0,  40, 0, 0, 0,
     2, 0, 0, 0,  84, 0, 0, 0,  84, 0, 0, 0,
     3, 0, 0, 0,  168, 0, 0, 0,  0, 0, 0, 0,
-    // as in P1, and P 0
-    4, 0, 0, 0,  1, 0, 0, 0,  1, 0, 0, 0,  2, 0, 0, 0,  1, 0, 0, 0,  1, 0, 0, 0,  2, 0, 0, 0,  1, 0, 0, 0,  4, 0, 0, 0,
+    // as in P1, but ETG 3 and LAG 0, and P 0
+    4, 0, 0, 0,  1, 0, 0, 0,  1, 0, 0, 0,  2, 0, 0, 0,  1, 0, 0, 0,  1, 0, 0, 0,  3, 0, 0, 0,  0, 0, 0, 0,  4, 0, 0, 0,
     0, 0, 0, 0,
     // label, priority, T, J, C, D, K
     1, 0, 10, 0,   1, 0, 0, 0,  100, 0, 0, 0,  0, 0, 0, 0,   5, 0, 0, 0,  60, 0, 0, 0,   3, 0, 0, 0,
@@ -80,6 +81,13 @@ fn in_slots(plan: Plan, slot: u32) -> Plan {
     let mut timing = plan.timing;
     timing[P] = slot;
     Plan { timing, ..plan }
+}
+
+/// With this ETG and this LAG.
+fn entered(plan: &Plan, etg: u32, lag: u32) -> Plan {
+    let mut plan = plan.clone();
+    [plan.timing[ETG], plan.timing[LAG]] = [etg, lag];
+    plan
 }
 
 /// With these acknowledgements of its first streams.
@@ -160,11 +168,11 @@ fn screened(plan: &Plan) -> Result<Vec<Answer>, Refused> {
 /// By the plan's values and by its file in each of its editions.
 fn gives(plan: &Plan, wanted: &[Answer]) {
     assert_eq!(screened(plan), Ok(wanted.to_vec()));
-    assert_eq!(written(plan), Ok(file_of(plan)));
+    assert_eq!(written(plan), Ok(written_of(plan)));
     for edition in editions_of(plan) {
         let file = file_in(edition, plan);
         assert_eq!(answers(&file), Ok(wanted.to_vec()));
-        assert_eq!(rewritten(&file), Ok(file_of(plan)));
+        assert_eq!(rewritten(&file), Ok(written_of(plan)));
     }
 }
 
@@ -419,26 +427,43 @@ fn the_lowest_wrong_field() {
     is_refused(&file_in(Edition::Two, &plan), 3, 76);
 }
 
-/// 3, 4, 5, 10 and then 6, though 10 is the greatest number.
+/// With a byte and with a word too few lent, both of which stay.
+fn comes_before_6(plan: &Plan, number: u64, place: u64) {
+    let (mut bytes, mut words) = ([77; 167], [77; 3 * ROW - 1]);
+    for refused in [
+        livnakesh::write(3, 0, &values_of(plan), &mut bytes).map(|_| ()),
+        livnakesh::rewrite(&file_of(plan), &mut bytes).map(|_| ()),
+        livnakesh::answer_words(&file_of(plan), &mut words),
+        livnakesh::screen_words(&plan.streams, &plan.timing, &plan.gaps, &mut words),
+    ] {
+        assert_eq!(refused, Err(Refused { number, place }));
+    }
+    assert_eq!((bytes, words), ([77; 167], [77; 3 * ROW - 1]));
+}
+
+/// 3, 11, 4, 5, 10 and then 6, whatever the size of the number.
 #[test]
 fn the_stated_order_decides() {
     let mut plan = in_slots(p1(), 15);
-    let (mut bytes, mut words) = ([77; 167], [77; 3 * ROW - 1]);
-    for refused in [
-        livnakesh::write(3, 0, &values_of(&plan), &mut bytes).map(|_| ()),
-        livnakesh::rewrite(&file_of(&plan), &mut bytes).map(|_| ()),
-        livnakesh::answer_words(&file_of(&plan), &mut words),
-        livnakesh::screen_words(&plan.streams, &plan.timing, &plan.gaps, &mut words),
-    ] {
-        assert_eq!(refused, Err(Refused { number: 10, place: 0 }));
-    }
-    assert_eq!((bytes, words), ([77; 167], [77; 3 * ROW - 1]));
+    comes_before_6(&plan, 10, 0);
+    let too_great = entered(&plan, 65_535, 1);
+    comes_before_6(&too_great, 11, 68);
+    values_are_refused(&too_great, 11, 68);
     plan.streams[2].label = plan.streams[0].label;
     values_are_refused(&plan, 5, 2);
+    values_are_refused(&entered(&plan, 65_535, 1), 11, 68);
     plan.streams[1].priority = plan.streams[0].priority;
     values_are_refused(&plan, 4, 1);
+    plan = entered(&plan, 65_535, 1);
+    values_are_refused(&plan, 11, 68);
     plan.streams[2].deadline = 0;
     values_are_refused(&plan, 3, 160);
+    plan.timing[P] = LONGEST_SLOT + 1;
+    values_are_refused(&plan, 3, 80);
+    plan.timing[NB] = 33;
+    values_are_refused(&plan, 3, 76);
+    plan.timing[0] = 65_536;
+    values_are_refused(&plan, 3, 44);
 }
 
 /// Without a master node C'' may be as great as it will.
@@ -476,7 +501,7 @@ fn the_largest_files() {
     {
         let file = file_in(edition, &plan);
         assert_eq!(file.len(), length);
-        assert_eq!(rewritten(&file), Ok(file_of(&plan)));
+        assert_eq!(rewritten(&file), Ok(written_of(&plan)));
         assert!(answers(&file).is_ok_and(|rows| rows.len() == 64));
         is_refused(&file[..length - 1], 2, 0);
         for long in [length + 1, length + 4, LARGEST - 1, LARGEST, LARGEST + 1].into_iter().filter(|&long| long > length) {
@@ -494,7 +519,7 @@ fn files_of_1_653_to_1_908_bytes() {
         let plan = acknowledged(crowd(streams), &[7]);
         let file = file_of(&plan);
         assert!(file.len() > 1_652 && file.len() <= 1_908);
-        assert_eq!(rewritten(&file), Ok(file.clone()));
+        assert_eq!(rewritten(&file), Ok(written_of(&plan)));
         assert!(answers(&file).is_ok_and(|rows| rows.len() == streams as usize));
     }
 }
@@ -525,7 +550,7 @@ fn lighter_in_slots() {
 #[test]
 fn p1_acknowledged() {
     let plan = acknowledged(p1(), &[3, 2, 0]);
-    assert_eq!(file_of(&plan), ACKNOWLEDGED);
+    assert_eq!(written(&plan), Ok(ACKNOWLEDGED.to_vec()));
     assert_eq!(include_bytes!("../../../examples/acknowledged.plan"), &ACKNOWLEDGED);
     gives(&plan, &[met(48), met(80), met(79)]);
     assert_eq!([0, 1, 2].map(|row| at_level(&plan, row, |level| level.own.cost)), [28, 29, 22]);
@@ -565,7 +590,7 @@ fn k_is_0_to_65_535() {
     for (row, byte) in [(0, 108), (1, 136), (2, 164)] {
         let mut plan = p1();
         plan.streams[row].acknowledgement = 65_535;
-        assert_eq!(rewritten(&file_of(&plan)), Ok(file_of(&plan)));
+        assert_eq!(rewritten(&file_of(&plan)), Ok(written_of(&plan)));
         for k in [65_536, u32::MAX] {
             plan.streams[row].acknowledgement = k;
             values_are_refused(&plan, 3, byte);
@@ -582,16 +607,19 @@ fn k_is_0_to_65_535() {
     values_are_refused(&plan, 3, 108);
 }
 
-/// With every constant at its limit V is 4, U 67, and C'' 73 times 65,535; in slots it is 70 times that.
+/// With every constant at its limit, ETG and LAG together, V is 4, U 66, and C'' 72 times 65,535; in slots it is 69 times that.
 #[test]
 fn the_largest_costs() {
     let mut timing = [65_535; 10];
     [timing[NB], timing[P]] = [32, 0];
     let streams = [1, 2].map(|k| Stream { acknowledgement: 65_535, ..stream(k, k, u32::MAX, 0, 65_535, u32::MAX) });
     let plan = Plan { timing, streams: streams.to_vec(), gaps: vec![] };
-    gives(&plan, &[met(9_305_969), met(9_568_110)]);
-    gives(&in_slots(plan.clone(), 4_587_450), &[met(9_174_899), met(13_762_349)]);
-    values_are_refused(&in_slots(plan, 4_587_449), 10, 0);
+    for (etg, lag) in [(65_535, 0), (32_768, 32_767), (0, 65_535)] {
+        let plan = entered(&plan, etg, lag);
+        gives(&plan, &[met(9_174_899), met(9_437_040)]);
+        gives(&in_slots(plan.clone(), 4_521_915), &[met(9_043_829), met(13_565_744)]);
+        values_are_refused(&in_slots(plan, 4_521_914), 10, 0);
+    }
 }
 
 /// An older file is written back as the file of edition 3 of the same plan, which is longer.
@@ -599,7 +627,7 @@ fn the_largest_costs() {
 fn older_files_are_rewritten() {
     assert_eq!(rewritten(&P1), Ok(p1_written().to_vec()));
     assert_eq!(include_bytes!("../../../examples/p1-rewritten.plan"), &p1_written());
-    assert_eq!(rewritten(&SLOTS), Ok(file_of(&in_slots(p1(), 30))));
+    assert_eq!(rewritten(&SLOTS), Ok(file_of(&in_slots(entered(&p1(), 3, 0), 30))));
     for file in [&P1[..], &SLOTS[..], &p1_written()[..], &ACKNOWLEDGED[..]] {
         for rewrite in [livnakesh::rewrite, plain::rewrite] {
             let mut buffer = [77; 169];
@@ -615,7 +643,7 @@ fn older_files_are_rewritten() {
 #[test]
 fn the_first_word_tells_the_records_apart() {
     let mut timing = BASE;
-    [timing[NB], timing[P]] = [32, 200];
+    [timing[LAG], timing[NB], timing[P]] = [0, 32, 200];
     let record = |k: u32| stream(6 * k + 1, 6 * k + 2, 6 * k + 3, 6 * k + 4, 6 * k + 5, 6 * k + 6);
     let seven = Plan { timing, streams: (0..7).map(record).collect(), gaps: vec![9] };
     let mut file = file_in(Edition::Two, &seven);
@@ -659,6 +687,111 @@ fn lighter_across_editions() {
         compared(old, new, Compared::RunAgain(Reason::MasterNode));
         compared(new, old, Compared::RunAgain(Reason::MasterNode));
     }
+}
+
+// ---- ETG and LAG ----
+
+/// However the 3 of ETG and LAG are parted, U is 12, the answers are P1's, and one file is written.
+#[test]
+fn p1_with_its_lag_in_etg() {
+    for (etg, lag) in [(3, 0), (2, 1), (1, 2), (0, 3)] {
+        let plan = entered(&p1(), etg, lag);
+        assert_eq!(plain::overhead(&plan.timing), 12);
+        gives(&plan, &[met(43), met(75), met(74)]);
+        assert_eq!(written(&plan), Ok(p1_written().to_vec()));
+        gives(&in_slots(plan.clone(), 30), &[met(47), met(89), met(104)]);
+        gives(&acknowledged(plan, &[3, 2, 0]), &[met(48), met(80), met(79)]);
+    }
+    gives(&entered(&p1(), 2, 0), &[met(41), met(72), met(71)]);
+}
+
+/// Of edition 3, and written anew all the same; what is written has no LAG, and is written back.
+#[test]
+fn a_file_of_edition_3_with_a_lag() {
+    for (etg, lag) in [(2, 1), (1, 2), (0, 3)] {
+        let mut file = ACKNOWLEDGED;
+        [file[68], file[72]] = [etg, lag];
+        assert_eq!(rewritten(&file), Ok(ACKNOWLEDGED.to_vec()));
+        assert_eq!(answers(&file), answers(&ACKNOWLEDGED));
+    }
+    for file in [ACKNOWLEDGED, p1_written()] {
+        assert_eq!(rewritten(&file), Ok(file.to_vec()));
+    }
+}
+
+/// In every edition, and as values: each is at most 65,535, and so are both together. A sum is not cut to 32 bits.
+#[test]
+fn etg_and_lag_are_0_to_65_535_together() {
+    for slot in [0, 65_600] {
+        let plan = in_slots(p1(), slot);
+        for (etg, lag) in [(65_535, 0), (65_534, 1), (32_768, 32_767), (1, 65_534), (0, 65_535)] {
+            gives(&entered(&plan, etg, lag), &[Answer::None; 3]);
+        }
+        let wrong = [
+            (65_535, 1, 11, 68),
+            (32_768, 32_768, 11, 68),
+            (1, 65_535, 11, 68),
+            (65_535, 65_535, 11, 68),
+            (65_536, 0, 3, 68),
+            (0, 65_536, 3, 72),
+            (65_535, 65_536, 3, 72),
+            (65_536, 65_536, 3, 68),
+            (u32::MAX, 1, 3, 68),
+            (1, u32::MAX, 3, 72),
+        ];
+        for (etg, lag, number, place) in wrong {
+            let plan = entered(&plan, etg, lag);
+            values_are_refused(&plan, number, place);
+            is_refused(&file_in(oldest(&plan), &plan), number, place);
+        }
+    }
+}
+
+/// A gap stands last of all, in every edition, and a wrong one still comes before 11.
+#[test]
+fn a_wrong_gap_comes_before_11() {
+    let plan = |edition, gap| {
+        let plan = Plan { gaps: vec![gap], ..entered(&p1(), 1, 65_535) };
+        in_slots(plan, if edition == Edition::Two { 30 } else { 0 })
+    };
+    for (edition, byte) in EDITIONS.into_iter().zip([152, 156, 168]) {
+        is_refused(&file_in(edition, &plan(edition, 0)), 3, byte);
+        is_refused(&file_in(edition, &plan(edition, 1)), 11, 68);
+    }
+}
+
+/// Messages of 18, 20 and 15 ticks with an ETG and a LAG of 3 together: each tick more of either makes all of them longer.
+#[test]
+fn a_lag_is_part_of_the_slot() {
+    let slots = |etg, lag| in_slots(entered(&p1(), etg, lag), 22);
+    for (etg, lag) in [(5, 0), (2, 3), (0, 5)] {
+        gives(&slots(etg, lag), &[met(41), met(75), met(82)]);
+        values_are_refused(&slots(etg, lag + 1), 10, 1);
+        values_are_refused(&slots(etg + 3, lag), 10, 0);
+    }
+}
+
+/// ETG and LAG are compared together, by the name of ETG, after G and before NB.
+#[test]
+fn lighter_with_etg_for_lag() {
+    let file = |etg, lag| file_of(&entered(&p1(), etg, lag));
+    let again = |k| Compared::RunAgain(Reason::GreaterConstant(k));
+    for (etg, lag) in [(2, 1), (3, 0), (0, 3), (2, 0), (1, 1), (0, 0)] {
+        for first in [&P1[..], &p1_written()[..], &file(2, 1)[..]] {
+            compared(first, &file(etg, lag), Compared::Lighter);
+        }
+    }
+    for (etg, lag) in [(2, 2), (3, 1), (4, 0), (0, 4), (1, 65_534)] {
+        compared(&P1, &file(etg, lag), again(ETG));
+        compared(&file(etg, lag), &P1, Compared::Lighter);
+    }
+    compared(&file(2, 0), &P1, again(ETG));
+    let mut greater = entered(&p1(), 2, 2);
+    greater.timing[NB] = 5;
+    compared(&P1, &file_of(&greater), again(ETG));
+    compared(&P1, &file_of(&entered(&greater, 0, 3)), again(NB));
+    greater.timing[5] = 2;
+    compared(&P1, &file_of(&greater), again(5));
 }
 
 // ---- the tournament ----

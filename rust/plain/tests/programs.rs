@@ -6,9 +6,9 @@
 
 mod common;
 
-use common::{any_file_of, file_of, need_all, stream, terms, work, Rng, Tally, BASE, LARGEST, MOST_WORK};
+use common::{any_file_of, etg_and_lag_of, file_of, need_all, stream, terms, work, Rng, Tally, BASE, LARGEST, MOST_WORK};
 use livnakesh::{Compared, Label, Phase, Priority, Reason, Refused};
-use plain::{self, Analysis, Plan, Tournament, NB, ROW};
+use plain::{self, Analysis, Plan, Tournament, ETG, LAG, NB, ROW};
 use std::io::Write;
 use std::path::{Path, PathBuf};
 use std::process::{Command, Stdio};
@@ -104,7 +104,7 @@ fn fine(file: &[u8]) -> String {
     plain::read(file).map_or_else(refusal, |_| "fine\n".into())
 }
 
-/// One file is written of a plan, of edition 3: so what is written back of such a file is what was read.
+/// One file is written of a plan, of edition 3 and without a LAG.
 fn rewritten(file: &[u8]) -> Vec<u8> {
     plain::read(file).map_or_else(|refused| refusal(refused).into_bytes(), |plan| file_of(&plan))
 }
@@ -118,6 +118,7 @@ const CONSTANTS: [&str; 10] = ["F", "E", "TFCS", "SWX", "H", "G", "ETG", "LAG", 
 fn reason(reason: Reason) -> String {
     match reason {
         Reason::MasterNode => "one plan has a master node and the other has none".into(),
+        Reason::GreaterConstant(LAG) => panic!("a plan that was read has no LAG"),
         Reason::GreaterConstant(k) => format!("{} is greater", CONSTANTS[k]),
         Reason::NewLabel(l) => format!("{} is not in the first plan", label(l)),
         Reason::ShorterPeriod(l) => format!("{} has a shorter period", label(l)),
@@ -188,7 +189,7 @@ fn cases() -> Vec<Case> {
         std::fs::read_dir(folder).expect("the cases").map(|entry| entry.expect("a case").path()).collect();
     plans.retain(|path| path.extension().is_some_and(|kind| kind == "plan"));
     plans.sort();
-    assert!(plans.len() >= 570, "only {} cases", plans.len());
+    assert!(plans.len() >= 577, "only {} cases", plans.len());
     let case = |path: PathBuf| Case {
         name: path.file_stem().expect("a name").to_string_lossy().into_owned(),
         plan: std::fs::read(&path).expect("a plan file"),
@@ -225,6 +226,28 @@ fn refusals_on_all_cases() {
 #[test]
 fn rewrite_on_all_cases() {
     on_all_cases("rewrite", |case| if case.shown.starts_with(b"refused ") { case.shown.clone() } else { rewritten(&case.plan) });
+}
+
+/// Whether a file, if it is not refused, is written back byte for byte.
+fn is_as_written(file: &[u8]) -> bool {
+    file[0] == 3 && etg_and_lag_of(file)[1] == 0
+}
+
+/// What `rewrite` must write of the cases is the case itself just where it should be, and they have all kinds.
+#[test]
+fn cases_that_are_written_back() {
+    let mut tally = Tally::default();
+    for case in cases().iter().filter(|case| status(&case.plan) == ANSWERED) {
+        let written = rewritten(&case.plan);
+        assert_eq!(written == case.plan, is_as_written(&case.plan), "{}", case.name);
+        assert!(is_as_written(&written), "{}", case.name);
+        let lag = if etg_and_lag_of(&case.plan)[1] > 0 { "a" } else { "no" };
+        tally.count(format!("edition {}, {lag} LAG", case.plan[0]));
+    }
+    tally.print("cases that are not refused");
+    for edition in 1..=3 {
+        need_all(&tally, &[&format!("edition {edition}, a LAG"), &format!("edition {edition}, no LAG")], 20);
+    }
 }
 
 // ---- drawn plans, damaged plans, random bytes, pipes ----
@@ -273,6 +296,44 @@ fn input_that_comes_byte_by_byte() {
     on_file(&largest.plan[..LARGEST - 1], 1);
     let one_more = [&largest.plan[..], &[0]].concat();
     on_file(&one_more, 1);
+}
+
+/// An example with this ETG and this LAG.
+fn with_lag(name: &str, etg: u32, lag: u32) -> Vec<u8> {
+    let mut file = std::fs::read(top().join("examples").join(name)).expect("an example");
+    file[68..72].copy_from_slice(&etg.to_le_bytes());
+    file[72..76].copy_from_slice(&lag.to_le_bytes());
+    file
+}
+
+/// In each edition: the listing goes by ETG and LAG together, one file is written however they are parted, and 11 tells a sum that is
+/// too great.
+#[test]
+fn files_with_a_lag() {
+    for name in ["p1.plan", "slots.plan", "acknowledged.plan"] {
+        let plain = with_lag(name, 3, 0);
+        let [listed, (written, _)] = ["listing", "rewrite"].map(|program| run(program, &[], &plain));
+        assert_eq!(listed.1, ANSWERED);
+        assert_eq!(etg_and_lag_of(&written), [3, 0]);
+        for (etg, lag) in [(3, 0), (2, 1), (0, 3)] {
+            let file = with_lag(name, etg, lag);
+            assert_eq!(run("listing", &[], &file), listed, "{name}, ETG {etg}, LAG {lag}");
+            assert_eq!(run("rewrite", &[], &file), (written.clone(), ANSWERED), "{name}, ETG {etg}, LAG {lag}");
+        }
+        assert_eq!(run("rewrite", &[], &written), (written, ANSWERED));
+        for (etg, lag, line) in [
+            (65_535, 1, "refused 11 at 68\n"),
+            (1, 65_535, "refused 11 at 68\n"),
+            (65_535, 65_535, "refused 11 at 68\n"),
+            (65_536, 65_535, "refused 3 at 68\n"),
+            (65_535, 65_536, "refused 3 at 72\n"),
+        ] {
+            for program in ["listing", "refusals", "rewrite"] {
+                let ran = run(program, &[], &with_lag(name, etg, lag));
+                assert_eq!(ran, (line.as_bytes().to_vec(), REFUSED), "{program} on {name}, ETG {etg}, LAG {lag}");
+            }
+        }
+    }
 }
 
 /// Every field but the instance has as many digits as it gets: more bytes than any listing had before it had that column.
@@ -361,6 +422,40 @@ fn lighter_with_acknowledgements() {
         ("desk.plan", "acknowledged.plan", longer, RUN_AGAIN),
         ("rewritten.plan", "acknowledged.plan", longer, RUN_AGAIN),
     ]);
+}
+
+/// LAG is never named: it is a part of ETG.
+#[test]
+fn lighter_with_etg_and_lag() {
+    lighter_on(&[
+        ("desk.plan", "etg.plan", "run again: ETG is greater\n", RUN_AGAIN),
+        ("etg.plan", "desk.plan", "lighter\n", ANSWERED),
+    ]);
+    let folder = std::env::temp_dir().join(format!("livnakesh-lags-{}", std::process::id()));
+    std::fs::create_dir_all(&folder).expect("a folder of our own");
+    let (lighter, greater) = (("lighter\n", ANSWERED), ("run again: ETG is greater\n", RUN_AGAIN));
+    let (first, second) = (("first refused 11 at 68\n", REFUSED), ("second refused 11 at 68\n", REFUSED));
+    for (old, new) in [("p1.plan", "p1.plan"), ("p1.plan", "p1-rewritten.plan"), ("slots.plan", "slots.plan")] {
+        for (etg, lag, there, back) in [
+            (2, 1, lighter, lighter),
+            (3, 0, lighter, lighter),
+            (0, 3, lighter, lighter),
+            (2, 0, lighter, greater),
+            (0, 2, lighter, greater),
+            (2, 2, greater, lighter),
+            (4, 0, greater, lighter),
+            (0, 4, greater, lighter),
+            (1, 65_535, second, first),
+        ] {
+            std::fs::write(folder.join("old.plan"), with_lag(old, 2, 1)).expect("a plan");
+            std::fs::write(folder.join("new.plan"), with_lag(new, etg, lag)).expect("a plan");
+            for (names, (line, ended)) in [(["old.plan", "new.plan"], there), (["new.plan", "old.plan"], back)] {
+                let ran = run_in(&folder, "lighter", &names, b"", 1);
+                assert_eq!(ran, (line.as_bytes().to_vec(), ended), "{old}, and {new} with ETG {etg}, LAG {lag}");
+            }
+        }
+    }
+    std::fs::remove_dir_all(folder).expect("it was ours");
 }
 
 /// A name is never cut: a file under the first bytes of another's name is not taken for it.
@@ -486,6 +581,13 @@ fn sham_programs_are_seen() {
         plain::screen(&plan, words)
     };
     assert!(seen(&|case| listing_by(&case.plan, no_acknowledgements).into_bytes()));
+    // of ours: leaves LAG out
+    let no_lag = |file: &[u8], words: &mut [u64]| {
+        let mut plan = plain::read(file)?;
+        plan.timing[ETG] -= etg_and_lag_of(file)[1];
+        plain::screen(&plan, words)
+    };
+    assert!(seen(&|case| listing_by(&case.plan, no_lag).into_bytes()));
     // writes no answers
     assert!(seen(&|case| listing_by(&case.plan, |file, _| plain::read(file).map(|_| ())).into_bytes()));
     // prints the same listing, whatever it reads, and copies its input, whatever that is

@@ -4,11 +4,12 @@
 mod common;
 
 use common::{
-    bytes, drawn, edge_plan, file_of, lent, lent_words, other_slot, plan, plan_in, plan_of, repeat, stream, tally_no_room,
-    tally_refusal, tally_rows, values_of, words, work, ByEdition, Counts, Rng, Tally, EDITIONS, LARGEST, MOST_WORK,
+    as_read, bytes, drawn, edge_plan, etg_and_lag, file_of, lag_case, lent, lent_words, need_lag_cases, other_slot, plan,
+    plan_in, plan_of, repeat, stream, tally_lag, tally_no_room, tally_refusal, tally_rows, values_of, words, work, written_of,
+    ByEdition, Counts, LagCase, Rng, Tally, EDITIONS, LARGEST, MOST_WORK,
 };
 use livnakesh::{Refused, Stream};
-use plain::{self, Plan, P, ROW};
+use plain::{self, Edition, Plan, ETG, LAG, P, ROW};
 
 /// Counts that no plan has, among them some that a cut to fewer bits or a product that wraps would take for a plan's.
 const WRONG_COUNTS: [usize; 10] =
@@ -70,7 +71,7 @@ fn hurt(rng: &mut Rng, plan: &mut Plan, tallies: &mut ByEdition) {
     let row = rng.below(plan.streams.len() as u64) as usize;
     let gap = rng.below(plan.gaps.len().max(1) as u64) as usize;
     let stream = &mut plan.streams[row];
-    match rng.below(10) {
+    match rng.below(11) {
         0 => plan.timing[rng.below(8) as usize] = word,
         1 => plan.timing[plain::NB] = word,
         2 => stream.priority.0 = word,
@@ -78,7 +79,8 @@ fn hurt(rng: &mut Rng, plan: &mut Plan, tallies: &mut ByEdition) {
         4 => stream.payload = word,
         5 => stream.deadline = word,
         6 => stream.acknowledgement = word,
-        7 if !plan.gaps.is_empty() => plan.gaps[gap] = word,
+        7 => [plan.timing[ETG], plan.timing[LAG]] = etg_and_lag(rng),
+        8 if !plan.gaps.is_empty() => plan.gaps[gap] = word,
         _ => repeat(rng, plan, tallies),
     }
 }
@@ -113,8 +115,8 @@ fn plan_from(n: usize, m: usize, values: &[u32]) -> Plan {
 }
 
 fn reads_back(plan: &Plan, file: &[u8]) {
-    assert_eq!(file, file_of(plan), "{plan:?}");
-    assert_eq!(plain::read(file).as_ref(), Ok(plan));
+    assert_eq!(file, written_of(plan), "{plan:?}");
+    assert_eq!(plain::read(file), Ok(as_read(plan)));
     let mut again = vec![0; file.len()];
     assert_eq!(livnakesh::rewrite(file, &mut again), Ok(file.len()), "{plan:?}");
     assert_eq!(again, file, "{plan:?}");
@@ -153,6 +155,7 @@ fn values_of_drawn_plans() {
     for _ in 0..120_000 {
         let plan = if rng.one_in(4) { edge_plan(&mut rng) } else { plan(&mut rng) };
         let (n, m) = (plan.streams.len(), plan.gaps.len());
+        tally_lag(tallies.of(&plan), &plan);
         let mut values = values_of(&plan);
         let more = rng.pick(&[0, 0, 1, 7, 500]);
         tallies.of(&plan).count(if more == 0 { "words: as many as needed" } else { "words: more" });
@@ -163,6 +166,7 @@ fn values_of_drawn_plans() {
     tallies.print("values of drawn plans to the writer");
     tallies.need_all(&["answered", "read back", "words: as many as needed", "words: more"], 10_000);
     tallies.need_all(&["refusal 6", "lent: too short", "lent: exact", "lent: longer"], 5_000);
+    tallies.need_all(&["LAG: 0", "LAG: fits", "LAG: just fits"], 5_000);
 }
 
 /// All numbers of streams and gaps, each into a byte too few, as many as needed, and a byte more.
@@ -250,7 +254,7 @@ fn wrong_values_to_the_writer() {
         _ = write_alike(&mut rng, plan.streams.len(), plan.gaps.len(), &values_of(&plan), &mut tallies);
     }
     tallies.print("wrong values to the writer");
-    tallies.need_all(&["refusal 3", "refusal 4", "refusal 5", "refusal 6", "answered"], 1_000);
+    tallies.need_all(&["refusal 3", "refusal 11", "refusal 4", "refusal 5", "refusal 6", "answered"], 1_000);
     tallies.need_all(&ALL_OF_3, 500);
     tallies.need_slotted(&["refusal 3: P", "refusal 10"], 1_000);
     tallies.three.need("refusal 3: acknowledgement", 500);
@@ -278,6 +282,12 @@ fn screen_into(found: &[u64], plan: &Plan, timing: &[u32], tallies: &mut ByEditi
     assert_eq!(proved, ours, "{}", case());
     assert_eq!(said, as_values(&file, livnakesh::answer_words(&file, &mut by_file)), "{}", case());
     assert_eq!(proved, by_file, "{}", case());
+    if said.is_ok() && plan.timing[LAG] > 0 {
+        let mut by_written = found.to_vec();
+        assert_eq!(livnakesh::answer_words(&written_of(plan), &mut by_written), said, "{}", case());
+        assert_eq!(proved, by_written, "{}", case());
+        tally.count("answered as what is written");
+    }
     let kept = if said.is_ok() { ROW * n } else { 0 };
     assert_eq!(proved[kept..], found[kept..], "words after the answers: {}", case());
     tally_rows(tally, &proved[..kept]);
@@ -298,6 +308,7 @@ fn screens_of_drawn_plans() {
     for _ in 0..90_000 {
         let draw = if rng.one_in(4) { edge_plan } else { plan };
         let plan = drawn(&mut rng, draw, &mut tallies);
+        tally_lag(tallies.of(&plan), &plan);
         let said = screen_alike(&mut rng, &plan, &plan.timing, &mut tallies);
         assert!(matches!(said, Ok(()) | Err(Refused { number: 6, place: 0 })), "{said:?} for {plan:?}");
     }
@@ -305,6 +316,7 @@ fn screens_of_drawn_plans() {
     tallies.need_all(&["answered", "row: met", "row: missed", "row: none"], 10_000);
     tallies.need_all(&["refusal 6", "lent: too short", "lent: exact", "lent: longer"], 5_000);
     tallies.need_all(&["refusal 6: room but for the instances"], 1_000);
+    tallies.need_all(&["LAG: 0", "LAG: fits", "LAG: just fits", "answered as what is written"], 3_000);
     tallies.need_all(&["worst: the second instance", "worst: a later instance"], 300);
 }
 
@@ -340,7 +352,7 @@ fn screens_of_wrong_values() {
         _ = screen_alike(&mut rng, &plan, &plan.timing, &mut tallies);
     }
     tallies.print("screens of wrong values");
-    tallies.need_all(&["refusal 3", "refusal 4", "refusal 5", "refusal 6", "answered"], 1_000);
+    tallies.need_all(&["refusal 3", "refusal 11", "refusal 4", "refusal 5", "refusal 6", "answered"], 1_000);
     tallies.need_all(&ALL_OF_3, 500);
     tallies.need_slotted(&["refusal 3: P", "refusal 10"], 1_000);
     tallies.three.need("refusal 3: acknowledgement", 500);
@@ -409,4 +421,25 @@ fn timings_of_other_lengths() {
     tallies.need_all(&["answered", "row: met"], 3_000);
     tallies.one.need("refusal 3: NB", 3_000);
     tallies.three.need("refusal 3: NB", 3_000);
+}
+
+// ---- ETG and LAG ----
+
+/// Both at and next to their limits, also where more is wrong and where too little memory is lent: the writer and the screen.
+#[test]
+fn etg_and_lag_as_values() {
+    let (mut rng, mut tallies) = (Rng(0x72), ByEdition::default());
+    for _ in 0..120_000 {
+        let oldest = rng.pick(&EDITIONS);
+        let LagCase { plan, short, refused } = lag_case(&mut rng, oldest, Edition::Three, tallies.at(oldest));
+        let (n, m, needed) = (plan.streams.len(), plan.gaps.len(), size(&plan));
+        let said = write_into(&bytes(rng.next(), needed - short), n, m, &values_of(&plan), &mut tallies);
+        assert_eq!(said, refused.map_or(Ok(needed), Err), "{plan:?}");
+        if refused.is_some() || work(&plan, MOST_WORK).is_some() {
+            let said = screen_into(&words(rng.next(), ROW * n - short), &plan, &plan.timing, &mut tallies);
+            assert_eq!(said, refused.map_or(Ok(()), Err), "{plan:?}");
+        }
+    }
+    tallies.print("values with ETG and LAG at and next to their limits");
+    need_lag_cases(&tallies);
 }

@@ -2,7 +2,7 @@
 #![allow(dead_code)]
 
 use livnakesh::{Answer, Label, Priority, Refused, Stream};
-use plain::{self, Analysis, Edition, Level, Plan, ROW};
+use plain::{self, Analysis, Edition, Level, Plan, ETG, LAG, ROW};
 use std::cmp::Ordering;
 use std::collections::BTreeMap;
 use std::io::Write;
@@ -13,6 +13,9 @@ pub const EDITIONS: [Edition; 3] = [Edition::One, Edition::Two, Edition::Three];
 
 /// H's place in the timing.
 pub const H: usize = 4;
+
+/// The greatest of the constants F to LAG, and the most that ETG and LAG are together.
+pub const GREATEST: u32 = 65_535;
 
 /// The longest P.
 pub const LONGEST_SLOT: u32 = 5_000_000;
@@ -62,9 +65,25 @@ fn words_of(plan: &Plan, timing: usize, stream: usize) -> Vec<u32> {
     words
 }
 
-/// The file that is written of a plan, whether its values are right or not.
+/// The file of edition 3 with a plan's values as they are entered, whether they are right or not.
 pub fn file_of(plan: &Plan) -> Vec<u8> {
     file_in(Edition::Three, plan)
+}
+
+/// A plan as it is read: ETG has what was entered as LAG. Of right constants alone, as others may be too great for the sum.
+pub fn as_read(plan: &Plan) -> Plan {
+    let [f, e, tfcs, swx, h, g, etg, lag, nb, p] = plan.timing;
+    Plan { timing: [f, e, tfcs, swx, h, g, etg + lag, 0, nb, p], ..plan.clone() }
+}
+
+/// The file that is written of a plan.
+pub fn written_of(plan: &Plan) -> Vec<u8> {
+    file_of(&as_read(plan))
+}
+
+/// ETG and LAG of a file, which stand in the same place in every edition.
+pub fn etg_and_lag_of(file: &[u8]) -> [u32; 2] {
+    [68, 72].map(|byte| u32::from_le_bytes(*file[byte..].first_chunk().expect("a file with a timing")))
 }
 
 /// The file of a plan in an edition, whether its values are right or not. What the edition has no words for is left out.
@@ -189,10 +208,20 @@ fn bits_for(rng: &mut Rng, streams: usize) -> u32 {
 /// Without a master node.
 fn timing(rng: &mut Rng, streams: usize) -> plain::Timing {
     let most = rng.pick(&[0, 3, 20, 20, 1_000, 65_535]);
-    let mut timing = std::array::from_fn(|_| rng.within(0, most) as u32);
+    let mut timing: plain::Timing = std::array::from_fn(|_| rng.within(0, most) as u32);
+    timing[LAG] = lag(rng, timing[LAG], GREATEST - timing[ETG]);
     timing[plain::NB] = bits_for(rng, streams);
     timing[plain::P] = 0;
     timing
+}
+
+/// None in a third of all plans; in the others no more than ETG leaves room for, and now and then just that.
+fn lag(rng: &mut Rng, drawn: u32, room: u32) -> u32 {
+    match rng.below(12) {
+        0..=3 => 0,
+        4 => room,
+        _ => drawn.min(room),
+    }
 }
 
 /// A slot that all messages fit in, often just so.
@@ -313,6 +342,8 @@ pub fn edge_plan(rng: &mut Rng) -> Plan {
     let bits = rng.pick(&[enough, 32]);
     let most = u32::MAX >> (32 - bits);
     let mut timing: plain::Timing = std::array::from_fn(|_| rng.pick(&[0, 0, 1, 65_534, 65_535]));
+    [timing[ETG], timing[LAG]] =
+        rng.pick(&[[0, 0], [0, 1], [1, 0], [0, 65_534], [1, 65_534], [0, 65_535], [65_534, 0], [65_534, 1], [65_535, 0]]);
     timing[plain::NB] = bits;
     timing[plain::P] = 0;
     let priorities = rng.distinct(n, most);
@@ -345,6 +376,146 @@ pub fn other_slot(rng: &mut Rng, plan: &Plan) -> u32 {
         1 => rng.wide(),
         _ => rng.pick(&[message - 1, message, message + 1]),
     }
+}
+
+/// An ETG and a LAG at or next to the limits of each and of both together; or a sum that is small again where it is cut to 32 bits.
+pub fn etg_and_lag(rng: &mut Rng) -> [u32; 2] {
+    let etg = rng.within(1, 65_534) as u32;
+    let any = rng.within(0, 65_535) as u32;
+    match rng.below(9) {
+        0 => [any, 0],
+        1 => [etg, rng.below(u64::from(GREATEST - etg)) as u32],
+        2 => rng.pick(&[[etg, 65_535 - etg], [0, 65_535]]),
+        3 => rng.pick(&[[etg, 65_536 - etg], [1, 65_535], [65_535, 1]]),
+        4 => [65_535, 65_535],
+        5 => rng.pick(&[[65_535, 2 + any / 2], [2 + any / 2, 65_535]]),
+        6 => [65_536, rng.pick(&[0, any, 65_535, 65_536])],
+        7 => [rng.pick(&[0, any, 65_535]), 65_536],
+        _ => rng.pick(&[[u32::MAX, 1], [1, u32::MAX], [65_535, u32::MAX], [1 << 31, 1 << 31]]),
+    }
+}
+
+/// What an ETG and a LAG are refused for, if every other field is right.
+fn refused_for(etg: u32, lag: u32) -> Option<Refused> {
+    match (etg, lag) {
+        (65_536.., _) => Some(Refused { number: 3, place: 68 }),
+        (_, 65_536..) => Some(Refused { number: 3, place: 72 }),
+        _ if etg + lag > GREATEST => Some(Refused { number: 11, place: 68 }),
+        _ => None,
+    }
+}
+
+/// How great ETG and LAG are as they are entered.
+pub fn tally_lag(tally: &mut Tally, plan: &Plan) {
+    tally.count(match (plan.timing[ETG], plan.timing[LAG]) {
+        (65_536.., _) => "ETG: above its limit",
+        (_, 65_536..) => "LAG: above its limit",
+        (_, 0) => "LAG: 0",
+        (65_535, 65_535) => "LAG: at its limit, and ETG too",
+        (etg, lag) => match etg + lag {
+            0..=65_534 => "LAG: fits",
+            65_535 => "LAG: just fits",
+            65_536 => "LAG: 1 too great for ETG",
+            _ => "LAG: too great for ETG",
+        },
+    });
+}
+
+/// The byte of a stream's field in a file of the edition; gaps follow the streams.
+fn byte_in(edition: Edition, row: usize, field: usize) -> usize {
+    match edition {
+        Edition::One => 80 + 24 * row + 4 * field,
+        Edition::Two => 84 + 24 * row + 4 * field,
+        Edition::Three => 84 + 28 * row + 4 * field,
+    }
+}
+
+/// The order in which a plan is refused.
+const STATED: [u64; 8] = [1, 2, 3, 11, 4, 5, 10, 6];
+
+/// A plan with an ETG and a LAG at or next to their limits, and often with more that is wrong.
+pub struct LagCase {
+    pub plan: Plan,
+    /// How many bytes or words too few are lent.
+    pub short: usize,
+    /// The first refusal that fits, in the stated order.
+    pub refused: Option<Refused>,
+}
+
+/// Of a plan that `oldest` is the oldest edition for, with the places of its file of `edition`.
+pub fn lag_case(rng: &mut Rng, oldest: Edition, edition: Edition, tally: &mut Tally) -> LagCase {
+    let (n, m, short) = (rng.within(1, 5) as usize, rng.below(3) as usize, rng.below(2) as usize);
+    let (mut plan, [etg, lag]) = (plan_in(rng, oldest, n, m), etg_and_lag(rng));
+    let mut wrong = Vec::from_iter(refused_for(etg, lag));
+    let mut add = |number: u64, place: usize| wrong.push(Refused { number, place: place as u64 });
+    if short > 0 {
+        add(6, 0);
+    }
+    if plan.timing[plain::P] > 0 {
+        [plan.timing[ETG], plan.timing[LAG]] = [etg.min(GREATEST), lag.min(GREATEST)];
+        let slot = (shortest_slot(&plan) - rng.below(2) as u32).max(1);
+        if let Some(row) = in_slots(&plan).iter().position(|&message| message > slot) {
+            add(10, row);
+        }
+        plan.timing[plain::P] = slot;
+    }
+    [plan.timing[ETG], plan.timing[LAG]] = [etg, lag];
+    if n > 1 && rng.one_in(4) {
+        plan.streams[n - 1].priority = plan.streams[0].priority;
+        add(4, n - 1);
+    }
+    if n > 1 && rng.one_in(4) {
+        plan.streams[n - 1].label = plan.streams[0].label;
+        add(5, n - 1);
+    }
+    match rng.below(10) {
+        0 => {
+            let k = rng.below(6) as usize;
+            plan.timing[k] = 65_536;
+            add(3, 44 + 4 * k);
+        }
+        1 => {
+            plan.timing[plain::NB] = 33;
+            add(3, 76);
+        }
+        2 => {
+            plan.streams[n - 1].payload = 0;
+            add(3, byte_in(edition, n - 1, 4));
+        }
+        3 if m > 0 => {
+            plan.gaps[m - 1] = 0;
+            add(3, byte_in(edition, n, m - 1));
+        }
+        _ => {}
+    }
+    wrong.sort_by_key(|refused| (STATED.iter().position(|&number| number == refused.number), refused.place));
+    for later in wrong.iter().skip(1) {
+        tally.count(format!("{}, and {}", told(wrong[0]), later.number));
+    }
+    let refused = wrong.first().copied();
+    tally_lag(tally, &plan);
+    tally_refusal(tally, refused.map_or(Ok(()), Err));
+    LagCase { plan, short, refused }
+}
+
+/// A refusal, and for 3 where its field stands.
+fn told(refused: Refused) -> String {
+    match (refused.number, refused.place) {
+        (3, ..68) => "3 before ETG".into(),
+        (3, 68) => "3 of ETG".into(),
+        (3, 72) => "3 of LAG".into(),
+        (3, _) => "3 after LAG".into(),
+        (number, _) => number.to_string(),
+    }
+}
+
+/// Every ETG and LAG that is told apart, and the refusals before and after 11 beside it.
+pub fn need_lag_cases(tallies: &ByEdition) {
+    tallies.need_all(&["LAG: 0", "LAG: fits", "LAG: just fits", "LAG: 1 too great for ETG", "LAG: too great for ETG"], 1_000);
+    tallies.need_all(&["LAG: at its limit, and ETG too", "ETG: above its limit", "LAG: above its limit"], 1_000);
+    tallies.need_all(&["answered", "refusal 6", "refusal 11", "11, and 4", "11, and 5", "11, and 6"], 1_000);
+    tallies.need_slotted(&["11, and 10"], 1_000);
+    tallies.need_all(&["3 before ETG, and 11", "3 after LAG, and 11", "3 of ETG, and 6", "3 of LAG, and 6"], 1_000);
 }
 
 /// How long a slot is beside the longest message, or that there is none.
@@ -512,15 +683,19 @@ pub struct ByEdition {
 
 impl Counts for ByEdition {
     fn of(&mut self, plan: &Plan) -> &mut Tally {
-        match oldest(plan) {
+        self.at(oldest(plan))
+    }
+}
+
+impl ByEdition {
+    pub fn at(&mut self, oldest: Edition) -> &mut Tally {
+        match oldest {
             Edition::One => &mut self.one,
             Edition::Two => &mut self.two,
             Edition::Three => &mut self.three,
         }
     }
-}
 
-impl ByEdition {
     pub fn need_all(&self, kinds: &[&str], least: u64) {
         need_all(&self.one, kinds, least);
         self.need_slotted(kinds, least);
