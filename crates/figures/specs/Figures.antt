@@ -36,9 +36,9 @@ use Rattle.figures.specs.Plans.{olderFile, slots, equallyLate, waits, la
 -- ---- an entry: what is run, and its figures
 
 pub data Entry : Type 0 where
-  -- timing constants, as all that follows as it is entered: V and U
+  -- timing constants as they are entered: V and U
   ofTiming : EnteredTiming → ℕ → ℕ → Entry
-  -- a plan: the answer to its values, and to its file
+  -- a plan as it is entered: the answer to its values, and to its file
   ofPlan : Entered → Checked → Checked → Entry
   -- a plan and a row: C'', L or none, Q, w(q) and the term of q for q from 0 to Q - 1, and the answer
   ofRow : Entered → ℕ → ℕ → Found → ℕ → List (ℕ × ℤ) → Answer → Entry
