@@ -4,7 +4,6 @@ use mathlib.Core.Bool.{cond, _&&_}
 use mathlib.Core.List.{List, [], _∷_, _++_, map}
 use Prim.Native.Nat.{ℕ, _+_, _-_, _*_}
 use native.Mathlib.Nat.{add-assoc}
-use native.Mathlib.Omega.{arith}
 use borrow.Author.Tests.{le-leb, lt-leb}
 use lib.Dec.{leb, ltb}
 use lib.ListN.{length, getD}
@@ -16,7 +15,7 @@ use Rattle.bound.specs.Terms.{Terms}
 use Rattle.bound.specs.Bound.{answer}
 use Rattle.judge.specs.declared.Checked.{Checked, the-variants.Fine, the-variants.Refused}
 use Rattle.judge.specs.Table.{Line, judge, unless, _then_}
-use Rattle.judge.proofs.Table.{given, passed, judged-in-turn, fine-then, fine-parts}
+use Rattle.judge.proofs.Table.{given, passed, refused-not-fine, judged-in-turn, fine-then, fine-parts}
 use Rattle.plan.specs.declared.Stream.{Stream}
 use Rattle.plan.specs.Plan.{blank, planOf}
 use Rattle.plan.specs.Rules.{selfOrSlotted, U, C′, lead, C″, late, hp, lp, B, hit, share, terms, answers}
@@ -94,7 +93,7 @@ same-of-file bs edition n m e fine =
         let right = fine-if-right edition n m (enteredAt edition n m bs) .0 j .1 in
         ap (λ (r : ReadPlan). answers (planOf (r .sheet))) (counts-are bs edition n m e ∙ ap (λ c. readAs c p) j)
         ∙ ap answers (one-sheet p (right .within .count) (right .within .sources))
-    go (Refused r) j a = absurd (let z : _≡_ {A = ℕ} 0 1 = cc in omega arith)
+    go (Refused r) j a = absurd (refused-not-fine a)
 
 -- ---- the refusals: up to 3 the two tables are one, and so are they from 4 on
 module _ (edition : Edition) (n m : ℕ) (v : Entered) where
