@@ -1,15 +1,12 @@
 -- The outcome of a sheet, by its counts and its plan. Assumes nothing.
 use mathlib.Core.Path.{_≡_, sym, ap, _∙_}
-use mathlib.Core.List.{List, _++_}
-use Prim.Native.Nat.{ℕ, _*_}
+use mathlib.Core.List.{_++_}
+use Prim.Native.Nat.{_*_}
 use lib.ListN.{length, drop, length-map}
-use Rattle.names.specs.declared.Refusal.{Refusal}
 use Rattle.row_words.specs.RowWords.{wordsPerRow, answersIn}
 use Rattle.row_words.proofs.RowWords.{rows-read-back}
-use Rattle.plan.specs.declared.Sheet.{Sheet}
 use Rattle.plan.specs.Plan.{planOf}
 use Rattle.plan.specs.Rules.{rowAnswer, answers}
-use Rattle.judge.specs.declared.Checked.the-variants.{Refused}
 use Rattle.carried.specs.declared.Edition.the-variants.{Three}
 use Rattle.carried.specs.Carried.{plainly}
 use Rattle.carried.proofs.Plans.{meant-plainly}
@@ -17,11 +14,6 @@ use Rattle.checks.specs.Checks.{checkedOf}
 use Rattle.checks.proofs.Fine.{fine-within}
 use Rattle.answers.specs.Answers.{answerWords, answerWith, answerOf, RowsAnswered, SheetAnswered}
 use Rattle.answers.proofs.Outcome as outcome
-
--- a sheet whose values are refused
-pub sheet-refused : (s : Sheet) (out : List ℕ) (r : Refusal) → checkedOf s ≡ Refused r → answerOf s out ≡ (Refused r, out)
-unfolding checkedOf answerOf
-sheet-refused s out r e = outcome.refused-is Three (s .count) (s .sources) (plainly (planOf s)) out r e
 
 pub rows-answered : RowsAnswered
 unfolding checkedOf answerOf

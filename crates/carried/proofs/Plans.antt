@@ -14,7 +14,7 @@ use Rattle.laws.proofs.Lists.{rows-same, rows-take}
 use Rattle.laws.proofs.Pieces.{rows-part, flat-append, length-flat, in-piece}
 use Rattle.laws.proofs.Placed.{placed-front, placed-short, placed-reads, drop-replicate}
 use Rattle.plan.specs.declared.Stream.{Stream}
-use Rattle.plan.specs.Plan.{blank}
+use Rattle.plan.specs.Plan.{blank, TimingWithin}
 use Rattle.carried.specs.declared.EnteredTiming.{EnteredTiming}
 use Rattle.carried.specs.Layout as layout
 use Rattle.carried.specs.Carried.{Entered, meant, held, heldTiming, meantTiming, enteredTimingIn, streamIn, enteredIn, timingWords, streamWords, enteredWords, inPlaces, sheetOf, noSheet}
@@ -75,6 +75,10 @@ entered-in-words p after =
     rows-same (length (p .gaps)) _ _ (gap-word p after) ∙ rows-take (p .gaps) 0 (length (p .gaps)) (le-refl _) ∙ take-length (p .gaps) in
     rw (streams, gaps) refl
 
+-- .. and with nothing after them
+pub entered-back : (v : Entered) → enteredIn (length (v .streams)) (length (v .gaps)) (enteredWords v) ≡ v
+entered-back v = ap (enteredIn _ _) (sym (append-nil (enteredWords v))) ∙ entered-in-words v []
+
 -- ---- from words to what is entered in them and back
 module _ (ws : List ℕ) where
   pub timing-back : layout.timingLength ≤ length ws → timingWords (enteredTimingIn ws) ≡ take layout.timingLength ws
@@ -133,6 +137,11 @@ entered-reads n m vs ws e =
 pub entered-in-places : (n m : ℕ) (ws : List ℕ) → n ≤ streams → m ≤ sources → enteredIn n m (inPlaces ws) ≡ enteredIn n m ws
 entered-in-places n m ws few quiet = entered-reads n m (inPlaces ws) ws (λ k h. placed-reads layout.largest 0 ws k (omega arith))
 
+-- so the words of what is entered hold it in places, too
+pub own-places : (v : Entered) → length (v .streams) ≤ streams → length (v .gaps) ≤ sources
+    → enteredIn (length (v .streams)) (length (v .gaps)) (inPlaces (enteredWords v)) ≡ v
+own-places v few quiet = entered-in-places _ _ (enteredWords v) few quiet ∙ entered-back v
+
 pub timing-in-places : (ws : List ℕ) → enteredTimingIn (inPlaces ws) ≡ enteredTimingIn ws
 unfolding enteredIn
 timing-in-places ws = ap (λ (v : Entered). v .timing) (entered-in-places 0 0 ws (omega arith) (omega arith))
@@ -146,12 +155,12 @@ plainly-meant v e =
     let sum : v .timing .etg + v .timing .lag ≡ v .timing .etg = omega arith in
     rw (sum, e) refl
 
--- where a word holds the sum of ETG and LAG, what is held is what is meant
-pub timing-held : (t : EnteredTiming) → t .etg + t .lag ≤ ticks → heldTiming t ≡ meantTiming t
-timing-held t h = let e : min (t .etg + t .lag) ticks ≡ t .etg + t .lag = omega arith in rw e refl
+-- a word holds a constant within its limits, so what is held is what is meant
+pub timing-held : (t : EnteredTiming) → TimingWithin (meantTiming t) → heldTiming t ≡ meantTiming t
+timing-held t w = let e : min (t .etg + t .lag) ticks ≡ t .etg + t .lag = omega (arith, w .etg) in rw e refl
 
-pub plan-held : (v : Entered) → v .timing .etg + v .timing .lag ≤ ticks → held v ≡ meant v
-plan-held v h = ap (λ t. record { timing = t; streams = v .streams; gaps = v .gaps }) (timing-held (v .timing) h)
+pub plan-held : (v : Entered) → TimingWithin (meantTiming (v .timing)) → held v ≡ meant v
+plan-held v w = ap (λ t. record { timing = t; streams = v .streams; gaps = v .gaps }) (timing-held (v .timing) w)
 
 -- ---- a plan's one sheet
 pub one-sheet : OneSheet
@@ -161,7 +170,6 @@ pub no-sheet : {ws : List ℕ} → ws ≡ replicate layout.largest 0 → sheetOf
 unfolding enteredIn
 no-sheet {ws} e =
     ap (λ v. sheetOf (held v)) (entered-reads 0 0 ws [] (λ k h. ap (λ l. getD l k 0) e ∙ getD-replicate layout.largest k 0 0 (omega arith)))
-    ∙ ap sheetOf (plan-held (enteredIn 0 0 []) (omega arith))
 
 -- ---- words that are laid one after the other, over places that hold 0
 abbrev pub padded : List ℕ → List ℕ

@@ -32,7 +32,7 @@ meantTiming t = withETG (t .etg + t .lag) t
 abbrev pub meant : Entered → Plan
 meant v = record { timing = meantTiming (v .timing); streams = v .streams; gaps = v .gaps }
 
--- .. this is it where a word is to hold the sum, or as much of it as a word holds: more than that is refused, ..
+-- .. this is it as words hold it, none of which is above 4,294,967,295: the sum, or as much as that, ..
 abbrev pub heldTiming : EnteredTiming → Timing
 heldTiming t = withETG (min (t .etg + t .lag) ticks) t
 

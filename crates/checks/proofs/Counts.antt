@@ -3,6 +3,8 @@ use mathlib.Core.Path.{_≡_, refl, sym, ap, _∙_}
 use mathlib.Core.Bool.{Bool, true, false, _&&_, and-false}
 use mathlib.Core.List.{List, _∷_, _++_}
 use Prim.Native.Nat.{ℕ, _≤_, _<_}
+use native.Mathlib.Nat.{lt-of-not-le}
+use native.Mathlib.Decide.{decLe}
 use borrow.Author.Tests.{le-leb, lt-leb, leb-true, eq-eqb}
 use lib.Dec.{leb, eqb}
 use lib.ListN.{length}
@@ -39,6 +41,14 @@ module _ (n m : ℕ) where
       let (ab, c) = both (leb 1 n && leb n streams) (leb m sources) e in
       let (a, b) = both (leb 1 n) (leb n streams) ab in
       (leb-true 1 n a, leb-true n streams b, leb-true m sources c)
+
+  -- the counts are few enough for the places, or else out of range
+  pub by-range : {A : Type 0} → (n ≤ streams → m ≤ sources → A) → (inRange n m ≡ false → A) → A
+  by-range in-places out =
+      elim (decLe n streams) [
+        | yes few ↦ elim (decLe m sources) [ yes quiet ↦ in-places few quiet | no noisy ↦ out (too-noisy (lt-of-not-le noisy)) ]
+        | no many ↦ out (too-many (lt-of-not-le many))
+      ]
 
   pub range-refused : inRange n m ≡ false → judge (rangeLines n m) ≡ Refused (record { number = 2; place = 0 })
   range-refused e = given _ _ 0 (ap unless e)

@@ -1,7 +1,8 @@
 -- What is entered is fine exactly if a right plan is meant: each line that is not given says its part of it. Assumes nothing.
 use mathlib.Core.Path.{_≡_, refl, sym, ap, _∙_}
-use mathlib.Core.Bool.{Bool, true, false, cond, _&&_, and-false}
-use Prim.Native.Nat.{ℕ, _+_, _≤_, zero-le}
+use mathlib.Core.Bool.{false, _&&_, and-false}
+use mathlib.Core.List.{List, _++_}
+use Prim.Native.Nat.{ℕ, _+_, _≤_, _<_, zero-le}
 use native.Mathlib.Nat.{lt-of-not-le}
 use native.Mathlib.Decide.{decLe}
 use native.Mathlib.Omega.{arith}
@@ -25,10 +26,10 @@ use Rattle.carried.proofs.Plans.{meant-plainly}
 use Rattle.fields.specs.Fields.{fields, SlotWithin, ConstantsWithin}
 use Rattle.fields.proofs.Inside.{nothing-if-inside}
 use Rattle.fields.proofs.Limits.{inside-if-fields-within, slot-most, slot-three}
-use Rattle.judge.specs.declared.Checked.the-variants.{Fine}
-use Rattle.judge.specs.Table.{judge, unless, rowIn}
-use Rattle.checks.specs.Checks.{inRange, counted, byteIn, priorities, labels, lines, checkedOf, Right, FineIfRight, FineWithin}
-use Rattle.judge.proofs.Table.{passed, nothing-given, not-given, unless-not, row-not}
+use Rattle.judge.specs.declared.Checked.the-variants.{Fine, Refused}
+use Rattle.judge.specs.Table.{Line, judge, unlessAt, unless, rowIn}
+use Rattle.checks.specs.Checks.{inRange, counted, byteIn, lagLines, priorities, labels, lines, checkedOf, Right, FineIfRight, FineWithin}
+use Rattle.judge.proofs.Table.{given, passed, nothing-given, not-given, unless-at-not, unless-not, row-not}
 use Rattle.checks.proofs.Counts.{range-within, within-range, counted-so}
 
 -- ---- a line that is not given
@@ -36,9 +37,16 @@ pub byte-not : (edition : Edition) (n : ℕ) (f : Found) → byteIn edition n f 
 byte-not edition n (At k) e = absurd (apart e)
 byte-not edition n Nothing e = refl
 
-pub place-not : (t : Bool) (k : ℕ) → cond t Nothing (At k) ≡ Nothing → t ≡ true
-place-not true k e = refl
-place-not false k e = absurd (apart e)
+-- 11 is given exactly where ETG + LAG is above 65,535, whatever lines come after it
+module _ (t : EnteredTiming) (more : List Line) where
+  pub lag-passed : t .etg + t .lag ≤ constant → judge (lagLines t ++ more) ≡ judge more
+  lag-passed h = passed _ _ (ap (unlessAt _) (le-leb _ constant h))
+
+  pub lag-given : constant < t .etg + t .lag → judge (lagLines t ++ more) ≡ Refused (record { number = 11; place = layout.byteOf layout.etgAt })
+  lag-given h = given _ _ _ (ap (unlessAt _) (lt-leb _ constant h))
+
+  pub lag-fine : judge (lagLines t ++ more) ≡ Fine → t .etg + t .lag ≤ constant
+  lag-fine e = leb-true _ constant (unless-at-not _ _ (not-given _ _ e .0))
 
 -- the timing that is meant is within the limits exactly if each constant is, and ETG + LAG too
 pub timing-meant : (edition : Edition) (t : EnteredTiming) → ConstantsWithin t → SlotWithin edition (t .p) → t .etg + t .lag ≤ constant → TimingWithin (meantTiming t)
@@ -100,7 +108,6 @@ fine-if-right edition n m v = (right, fine)
         let (range, n-are) = both (inRange n m) (eqb (length (p .streams)) n) range-n in
         let (some, few, quiet) = range-within n m range in
         let w = inside-if-fields-within edition v .0 (nothing-if-inside 0 (fields edition v) .0 (byte-not edition (length (p .streams)) _ three)) in
-        let sum : v .timing .etg + v .timing .lag ≤ constant = leb-true _ constant (place-not _ _ eleven) in
         let n-is : length (p .streams) ≡ n = eqb-true _ _ n-are in
         let m-is : length (p .gaps) ≡ m = eqb-true _ _ m-are in
         let short = finds-nothing (λ k. exceedsSlot (p .timing) (at p k)) 0 (length (p .streams)) .0 ten in (
@@ -111,7 +118,7 @@ fine-if-right edition n m v = (right, fine)
                   some-stream = omega (arith, some);
                   count = omega (arith, few);
                   sources = omega (arith, quiet);
-                  timing = timing-meant edition (v .timing) (w .timing) (w .slot) sum;
+                  timing = timing-meant edition (v .timing) (w .timing) (w .slot) (lag-fine (v .timing) _ e₁₁);
                   stream = w .stream;
                   gap = w .gap;
                 };
@@ -131,7 +138,7 @@ fine-if-right edition n m v = (right, fine)
         let inside = inside-if-fields-within edition v .1 (record { slot = is; timing = constants-within (v .timing) (w .timing); stream = w .stream; label = r .label; gap = w .gap }) in
         passed _ _ (ap unless (counted-so n m v (r .count) (r .sources) ∙ range))
         ∙ passed _ _ (ap (byteIn edition (length (p .streams))) (nothing-if-inside 0 (fields edition v) .1 inside))
-        ∙ passed _ _ (ap (λ b. cond b Nothing (At (layout.byteOf layout.etgAt))) (le-leb _ constant (w .timing .etg)))
+        ∙ lag-passed (v .timing) _ (w .timing .etg)
         ∙ passed _ _ (ap rowIn (nothing-if-distinct (priorities (p .streams)) .1 (r .priorities)))
         ∙ passed _ _ (ap rowIn (nothing-if-distinct (labels (p .streams)) .1 (r .labels)))
         ∙ passed _ _ (finds-nothing (λ k. exceedsSlot (p .timing) (at p k)) 0 (length (p .streams)) .1 (λ k a h. fitting (p .timing) (at p k) (r .slots k (omega arith))))

@@ -3,25 +3,20 @@ use mathlib.Core.Path.{_≡_, sym, ap, ap₂, _∙_}
 use mathlib.Core.Bool.{false}
 use mathlib.Core.List.{List, [], _++_}
 use Prim.Native.Nat.{_≤_}
-use native.Mathlib.Nat.{lt-of-not-le}
-use native.Mathlib.Decide.{decLe}
 use native.Mathlib.Omega.{arith}
-use lib.ListN.{length}
 use lib.Seq.{length-take-le}
 use Rattle.names.specs.Limits.{streams, sources}
 use Rattle.plan.specs.declared.Sheet.{Sheet}
 use Rattle.plan.specs.Plan.{planOf}
 use Rattle.carried.specs.declared.Edition.the-variants.{Three}
-use Rattle.carried.specs.Layout as layout
 use Rattle.carried.specs.Carried.{Entered, plainly, enteredIn, valuesOf, inPlaces}
 use Rattle.plan.proofs.Places.{Owned, stream-places, gap-places}
-use Rattle.carried.proofs.Plans.{length-words, entered-in-words}
-use Rattle.laws.proofs.Placed.{placed-short}
+use Rattle.carried.proofs.Plans.{own-places}
 use Rattle.judge.specs.declared.Checked.the-variants.{Fine}
 use Rattle.judge.specs.Table.{Line, judge}
 use Rattle.checks.specs.Checks.{inRange, lines, checkedOf}
 use Rattle.judge.proofs.Table.{fine-parts}
-use Rattle.checks.proofs.Counts.{too-many, too-noisy, out-of-range}
+use Rattle.checks.proofs.Counts.{by-range, out-of-range}
 use Rattle.checks.proofs.Fine.{fine-is-right}
 
 module _ (s : Sheet) (o : Owned s) where
@@ -33,10 +28,7 @@ module _ (s : Sheet) (o : Owned s) where
   same-entered few quiet =
       let n = length-take-le (s .count) (s .streams) (omega (arith, stream-places s o)) in
       let m = length-take-le (s .sources) (s .gaps) (omega (arith, gap-places s o)) in
-      let room : length (valuesOf (planOf s)) ≤ layout.largest = omega (arith, length-words (plainly (planOf s))) in
-      ap₂ (λ i j. enteredIn i j (inPlaces (valuesOf (planOf s)))) (sym n) (sym m)
-      ∙ ap (enteredIn _ _) (placed-short layout.largest 0 (valuesOf (planOf s)) room)
-      ∙ entered-in-words (plainly (planOf s)) _
+      ap₂ (λ i j. enteredIn i j (inPlaces (valuesOf (planOf s)))) (sym n) (sym m) ∙ own-places (plainly (planOf s)) (omega arith) (omega arith)
 
   -- the table of the values, with whatever lines after it
   module _ (more : List Line) where
@@ -46,14 +38,7 @@ module _ (s : Sheet) (o : Owned s) where
 
     pub same-lines : judge (lines Three (s .count) (s .sources) enteredInWords ++ more) ≡ judge (lines Three (s .count) (s .sources) (plainly (planOf s)) ++ more)
     same-lines =
-        elim (decLe (s .count) streams) [
-          | yes few ↦
-              elim (decLe (s .sources) sources) [
-                | yes quiet ↦ ap (λ p. judge (lines Three (s .count) (s .sources) p ++ more)) (same-entered few quiet)
-                | no noisy ↦ both-refused (too-noisy (s .count) (s .sources) (lt-of-not-le noisy))
-              ]
-          | no many ↦ both-refused (too-many (s .count) (s .sources) (lt-of-not-le many))
-        ]
+        by-range (s .count) (s .sources) (λ few quiet. ap (λ v. judge (lines Three (s .count) (s .sources) v ++ more)) (same-entered few quiet)) both-refused
 
 pub same-check : (s : Sheet) (o : Owned s) → judge (lines Three (s .count) (s .sources) (enteredInWords s o)) ≡ checkedOf s
 unfolding checkedOf

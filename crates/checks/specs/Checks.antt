@@ -1,7 +1,7 @@
 -- Document 01, "When the answer is no", and document 02, requests 01, 05 and 06: refusals 2, 3, 11, 4, 5 and 10 of what is entered, as the
 -- lines of their table. The order of the lines decides, and not the size of a number.
 use mathlib.Core.Path.{_≡_}
-use mathlib.Core.Bool.{Bool, cond, _&&_}
+use mathlib.Core.Bool.{Bool, _&&_}
 use mathlib.Core.List.{List, [], _∷_, _++_, map}
 use mathlib.Core.Logic.{_↔_}
 use Prim.Native.Nat.{ℕ, _+_, _≤_, _<_}
@@ -12,7 +12,7 @@ use Rattle.laws.specs.declared.Found.{Found, the-variants.At, the-variants.Noth
 use Rattle.laws.specs.Search.{first}
 use Rattle.repeats.specs.Repeats.{firstRepeat, Distinct}
 use Rattle.judge.specs.declared.Checked.{Checked, the-variants.Fine}
-use Rattle.judge.specs.Table.{Line, judge, unless, rowIn}
+use Rattle.judge.specs.Table.{Line, judge, unlessAt, unless, rowIn}
 use Rattle.plan.specs.declared.Timing.{Timing}
 use Rattle.plan.specs.declared.Stream.{Stream}
 use Rattle.plan.specs.declared.Sheet.{Sheet}
@@ -49,10 +49,9 @@ byteIn edition n Nothing = Nothing
 abbrev pub fieldLines : Edition → Entered → List Line
 fieldLines edition v = record { number = 3; place = byteIn edition (length (v .streams)) (lowest 0 (fields edition v)) } ∷ []
 
--- 11: ETG + LAG, each within its limits, is above 65,535 (the byte of ETG, the same in every edition)
+-- 11: ETG + LAG is above 65,535 (the byte of ETG, the same in every edition)
 abbrev pub lagLines : EnteredTiming → List Line
-lagLines t =
-    record { number = 11; place = cond (leb (t .etg + t .lag) constant) Nothing (At (layout.byteOf layout.etgAt)) } ∷ []
+lagLines t = record { number = 11; place = unlessAt (layout.byteOf layout.etgAt) (leb (t .etg + t .lag) constant) } ∷ []
 
 -- ---- the rows
 

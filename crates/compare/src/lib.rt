@@ -64,7 +64,7 @@ fn kit(old: Timing, new: Timing) -> Change
     Change::Of(Reason::MasterNode)
 }
 
-// The constants of a plan's timing.
+// How many constants a plan's timing has.
 const CONSTANTS: usize = 9;
 
 fn constants_of(t: Timing) -> [u32; CONSTANTS]

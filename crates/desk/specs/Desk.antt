@@ -57,7 +57,7 @@ abbrev pub SameFile : Type 0
 SameFile =
     (bs : List ℕ) → Below 256 bs → readOf bs .answer ≡ Fine → editionIn (wordsOf bs) ≡ Three → lagIn (wordsOf bs) ≡ 0 → shownFile bs ≡ bs
 
--- .. and any other as a file of edition 3 with a LAG of 0 of which the same is read, ..
+-- .. and one of any edition, with a LAG or with none, as a file of edition 3 with a LAG of 0 of which the same is read, ..
 abbrev pub SameMeaning : Type 0
 SameMeaning =
     (bs : List ℕ) → readOf bs .answer ≡ Fine

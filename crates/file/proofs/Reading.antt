@@ -1,7 +1,7 @@
 -- What the contents say, answer by answer; what reading gives then; what a fine answer says. Assumes nothing.
 use mathlib.Core.Path.{_≡_, refl, sym, ap, ap₂, _∙_}
 use mathlib.Core.Bool.{Bool, true, false}
-use mathlib.Core.List.{List, [], _++_, append-nil}
+use mathlib.Core.List.{List, _++_}
 use Prim.Native.Nat.{ℕ, _≤_}
 use native.Mathlib.Omega.{arith}
 use borrow.Author.Tests.{eqb-true}
@@ -18,8 +18,8 @@ use Rattle.judge.proofs.Table.{given, passed, not-given, refused-then, unless-n
 use Rattle.plan.specs.Plan.{Plan}
 use Rattle.carried.specs.declared.Edition.{Edition, the-variants.Three}
 use Rattle.carried.specs.Layout as layout
-use Rattle.carried.specs.Carried.{plainly, enteredIn, enteredWords, sheetOf, noSheet}
-use Rattle.carried.proofs.Plans.{one-sheet, entered-in-places, entered-in-words}
+use Rattle.carried.specs.Carried.{plainly, enteredIn, enteredWords, inPlaces, sheetOf, noSheet}
+use Rattle.carried.proofs.Plans.{one-sheet, own-places}
 use Rattle.checks.specs.Checks.{rangeLines, valueLines, lines, checkedOf}
 use Rattle.checks.proofs.Counts.{range-number, fine-range, ranges-counted}
 use Rattle.file.specs.declared.Counts.{Counts, the-variants.Of, the-variants.Refused as Counts·Refused}
@@ -132,13 +132,11 @@ module _ (bs : List ℕ) (edition : Edition) (n m : ℕ) (e : countsOf bs ≡ Of
   -- what is entered in the words that are carried, laid onto zeros, is what is entered in the file
   pub counts-entered : {ws : List ℕ} → ws ≡ carriedOf bs (replicate layout.largest 0) → enteredIn n m ws ≡ enteredAt edition n m bs
   counts-entered d =
-      let p = enteredAt edition n m bs in
+      let v = enteredAt edition n m bs in
       let (n-is, m-is) = length-at edition n m (drop layout.contentsLength (wordsOf bs)) in
-      ap (enteredIn n m) (d ∙ ap (λ r. carriedAs r bs (replicate layout.largest 0)) e ∙ laid-on-zeros (enteredWords p) layout.largest)
-      ∙ entered-in-places n m (enteredWords p) (counts-right .1) (counts-right .2)
-      ∙ ap₂ (λ i j. enteredIn i j (enteredWords p)) (sym n-is) (sym m-is)
-      ∙ ap (enteredIn _ _) (sym (append-nil (enteredWords p)))
-      ∙ entered-in-words p []
+      ap (enteredIn n m) (d ∙ ap (λ r. carriedAs r bs (replicate layout.largest 0)) e ∙ laid-on-zeros (enteredWords v) layout.largest)
+      ∙ ap₂ (λ i j. enteredIn i j (inPlaces (enteredWords v))) (sym n-is) (sym m-is)
+      ∙ own-places v (omega (arith, n-is, counts-right)) (omega (arith, m-is, counts-right))
 
 -- ---- what a fine answer says
 pub record ReadFine (bs : List ℕ) : Type 0 where

@@ -1,7 +1,7 @@
 -- One plan, one file: bytes and words are each other's inverse, words and plans are too, and what is within the limits fits its words.
 -- Assumes nothing.
 use mathlib.Core.Path.{_≡_, refl, sym, ap, ap₂, _∙_}
-use mathlib.Core.List.{List, [], _++_, flatMap, append-nil}
+use mathlib.Core.List.{List, _++_, flatMap}
 use Prim.Native.Nat.{ℕ, _+_, _*_, _^_, _≤_, _<_}
 use native.Mathlib.Nat.{lt-of-not-le, lt-of-le-of-lt, lt-of-lt-of-le}
 use native.Mathlib.Decide.{decLe}
@@ -17,8 +17,8 @@ use Rattle.words.proofs.Laws as W
 use Rattle.plan.specs.Plan.{Plan, planOf, blank}
 use Rattle.carried.specs.declared.Edition.the-variants.{Three}
 use Rattle.carried.specs.Layout as layout
-use Rattle.carried.specs.Carried.{Entered, meant, plainTiming, plainly, enteredIn, timingWords, streamWords, enteredWords, valuesOf, sheetOf}
-use Rattle.carried.proofs.Plans.{meant-plainly, plainly-meant, one-sheet, entered-in-words}
+use Rattle.carried.specs.Carried.{Entered, meant, plainTiming, plainly, timingWords, streamWords, enteredWords, valuesOf, sheetOf}
+use Rattle.carried.proofs.Plans.{meant-plainly, plainly-meant, one-sheet, entered-back}
 use Rattle.fields.proofs.All.{none, next, All, shown, all-both, flat-all}
 use Rattle.judge.specs.declared.Checked.{Checked, the-variants.Fine, the-variants.Refused}
 use Rattle.judge.specs.Table.{judge}
@@ -103,7 +103,7 @@ reads-as-its-values v few quiet fits =
     let m-is : sourcesIn (contents Three n m ++ enteredWords v) ≡ m = omega arith in
     let head : take layout.contentsLength (wordsOf (enteredFile v)) ≡ contents Three n m = ap (take layout.contentsLength) ws in
     let back : enteredAt Three n m (enteredFile v) ≡ v =
-    ap (λ l. enteredInBodies Three n m (drop layout.contentsLength l)) ws ∙ as-carried n m (enteredWords v) ∙ ap (enteredIn n m) (sym (append-nil (enteredWords v))) ∙ entered-in-words v [] in
+    ap (λ l. enteredInBodies Three n m (drop layout.contentsLength l)) ws ∙ as-carried n m (enteredWords v) ∙ entered-back v in
     read-values (enteredFile v) Three n m (ap editionIn ws) (ap (countIn Three) ws ∙ n-is) (ap sourcesIn ws ∙ m-is)
     (simp (le-leb (layout.byteOf 0) (length (enteredFile v)) (omega arith), le-leb (length (enteredFile v)) layout.largestFile (omega arith)))
     (rw head (rw (same-refl (contents Three n m)) (eq-eqb _ _ long)))

@@ -3,12 +3,9 @@ use mathlib.Core.Path.{_≡_, refl, sym, ap, _∙_}
 use mathlib.Core.List.{List, [], _∷_, _++_}
 use Prim.Native.Nat.{ℕ, _≤_, _<_}
 use mathlib.Core.Bool.{false}
-use native.Mathlib.Nat.{lt-of-not-le}
-use native.Mathlib.Decide.{decLe}
 use borrow.Author.Tests.{le-leb, lt-leb}
 use lib.Dec.{leb}
 use lib.ListN.{length, drop}
-use Rattle.names.specs.Limits.{streams, sources}
 use Rattle.names.specs.declared.Refusal.{Refusal}
 use Rattle.plan.specs.declared.Sheet.{Sheet}
 use Rattle.plan.specs.Plan.{planOf}
@@ -21,7 +18,7 @@ use Rattle.carried.specs.Carried.{Entered, meant, plainly, enteredIn, inPlaces}
 use Rattle.carried.proofs.Plans.{meant-plainly, entered-in-places}
 use Rattle.checks.specs.Checks.{inRange, lines}
 use Rattle.judge.proofs.Table.{given, passed, nothing-given, fine-then, refused-then}
-use Rattle.checks.proofs.Counts.{too-few, too-many, too-noisy, out-of-range}
+use Rattle.checks.proofs.Counts.{too-few, too-many, too-noisy, by-range, out-of-range}
 use Rattle.checks.proofs.Fine.{fine-when-meant}
 use Rattle.checks.proofs.Words.{enteredInWords, same-lines, same-entered-if-fine}
 use Rattle.file.specs.declared.Written.the-variants.{Bytes, Refused as Written·Refused}
@@ -74,21 +71,17 @@ same-writing s o buf = go (judge (linesOut Three n m (plainly (planOf s)) buf)) 
     go (Refused r) e = ap (λ c. writeAs c n m (meant (enteredInWords s o)) buf) (same-lines s o six ∙ e) ∙ sym (ap (λ c. writeAs c n m (meant (plainly (planOf s))) buf) e)
 
 -- ---- counts out of range, and lent words in places
+refused-2 : (edition : Edition) (n m : ℕ) (v : Entered) (buf : List ℕ) → inRange n m ≡ false
+    → writeWith edition n m v buf ≡ (Written·Refused (record { number = 2; place = 0 }), buf)
+refused-2 edition n m v buf e = write-refused edition n m v buf _ (out-of-range n m e edition v [])
+
 pub wrong-counts : WrongCounts
 wrong-counts edition n m v buf =
-    let two : inRange n m ≡ false → writeWith edition n m v buf ≡ _ = λ e. write-refused edition n m v buf _ (out-of-range n m e edition v []) in
+    let two = refused-2 edition n m v buf in
     (λ h. two (too-few n m h), λ h. two (too-many n m h), λ h. two (too-noisy n m h))
 
 pub values-written : (edition : Edition) (n m : ℕ) (ws buf : List ℕ)
     → writeWith edition n m (enteredIn n m (inPlaces ws)) buf ≡ writeWith edition n m (enteredIn n m ws) buf
 values-written edition n m ws buf =
-    let p = enteredIn n m (inPlaces ws) in
-    let q = enteredIn n m ws in
-    elim (decLe n streams) [
-      | yes few ↦
-          elim (decLe m sources) [
-            | yes quiet ↦ ap (λ r. writeWith edition n m r buf) (entered-in-places n m ws few quiet)
-            | no noisy ↦ let h = lt-of-not-le noisy in wrong-counts edition n m p buf .2 h ∙ sym (wrong-counts edition n m q buf .2 h)
-          ]
-      | no many ↦ let h = lt-of-not-le many in wrong-counts edition n m p buf .1 h ∙ sym (wrong-counts edition n m q buf .1 h)
-    ]
+    by-range n m (λ few quiet. ap (λ v. writeWith edition n m v buf) (entered-in-places n m ws few quiet))
+    (λ e. refused-2 edition n m _ buf e ∙ sym (refused-2 edition n m _ buf e))

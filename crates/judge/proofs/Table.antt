@@ -10,7 +10,7 @@ use Rattle.laws.specs.declared.Found.{Found, the-variants.At, the-variants.Noth
 use Rattle.laws.proofs.Tests.{apart}
 use Rattle.names.specs.declared.FoundRow.{FoundRow, the-variants.At as FoundRow·At, the-variants.Nothing as FoundRow·Nothing}
 use Rattle.judge.specs.declared.Checked.{Checked, the-variants.Fine, the-variants.Refused}
-use Rattle.judge.specs.Table.{Line, judge, unless, rowIn, _then_, lineAt, FirstGiven, RefusedByTheFirst, FineIfNone, JudgedInTurn}
+use Rattle.judge.specs.Table.{Line, judge, unlessAt, unless, rowIn, _then_, lineAt, FirstGiven, RefusedByTheFirst, FineIfNone, JudgedInTurn}
 
 -- ---- one line
 pub given : (l : Line) (ls : List Line) (p : ℕ) → l .place ≡ At p → judge (l ∷ ls) ≡ Refused (record { number = l .number; place = p })
@@ -37,9 +37,12 @@ not-given l ls e = go (l .place) refl
     go Nothing d = (d, sym (passed l ls d) ∙ e)
 
 -- a test that is a line's passes where the line is not given, and a row that is its place was not found
+pub unless-at-not : (place : ℕ) (t : Bool) → unlessAt place t ≡ Nothing → t ≡ true
+unless-at-not place true e = refl
+unless-at-not place false e = absurd (apart e)
+
 pub unless-not : (t : Bool) → unless t ≡ Nothing → t ≡ true
-unless-not true e = refl
-unless-not false e = absurd (apart e)
+unless-not = unless-at-not 0
 
 pub row-not : (r : FoundRow) → rowIn r ≡ Nothing → r ≡ FoundRow·Nothing
 row-not (FoundRow·At r) e = absurd (apart e)

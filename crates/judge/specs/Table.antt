@@ -20,9 +20,13 @@ unfoldable pub judge : List Line → Checked
 judge [] = Fine
 judge (l ∷ ls) = elim (l .place) [ At p ↦ Refused (record { number = l .number; place = p }) | Nothing ↦ judge ls ]
 
--- a line whose place is 0 if a test fails
+-- the place of a line that is given if a test fails: some place, ..
+abbrev pub unlessAt : ℕ → Bool → Found
+unlessAt place t = cond t Nothing (At place)
+
+-- .. or 0
 abbrev pub unless : Bool → Found
-unless t = cond t Nothing (At 0)
+unless = unlessAt 0
 
 -- a line whose place is a row
 abbrev pub rowIn : FoundRow → Found

@@ -1,31 +1,27 @@
 -- U has the same value, and every other letter of the two rules is put together from it in the same way. Assumes nothing.
 use mathlib.Core.Path.{_≡_, refl, sym, ap, fun-ext, _∙_}
-use mathlib.Core.Bool.{cond, _&&_}
+use mathlib.Core.Bool.{_&&_}
 use mathlib.Core.List.{List, [], _∷_, _++_, map}
 use Prim.Native.Nat.{ℕ, _+_, _-_, _*_}
 use native.Mathlib.Nat.{add-assoc}
-use borrow.Author.Tests.{le-leb, lt-leb}
 use lib.Dec.{leb, ltb}
 use lib.ListN.{length, getD}
-use Rattle.names.specs.Limits.{constant}
-use Rattle.laws.specs.declared.Found.the-variants.{At, Nothing}
 use Rattle.laws.specs.Lists.{largestOf}
 use Rattle.laws.specs.Search.{first}
 use Rattle.bound.specs.Terms.{Terms}
 use Rattle.bound.specs.Bound.{answer}
 use Rattle.judge.specs.declared.Checked.{Checked, the-variants.Fine, the-variants.Refused}
 use Rattle.judge.specs.Table.{Line, judge, unless, _then_}
-use Rattle.judge.proofs.Table.{given, passed, refused-not-fine, judged-in-turn, fine-then, fine-parts}
+use Rattle.judge.proofs.Table.{refused-not-fine, judged-in-turn, fine-then, fine-parts}
 use Rattle.plan.specs.declared.Stream.{Stream}
 use Rattle.plan.specs.Plan.{blank, planOf}
 use Rattle.plan.specs.Rules.{selfOrSlotted, U, C′, lead, C″, late, hp, lp, B, hit, share, terms, answers}
 use Rattle.carried.specs.declared.Edition.{Edition}
 use Rattle.carried.specs.declared.EnteredTiming.{EnteredTiming}
-use Rattle.carried.specs.Layout as layout
 use Rattle.carried.specs.Carried.{Entered, meantTiming, meant}
 use Rattle.carried.proofs.Plans.{one-sheet}
 use Rattle.checks.specs.Checks.{counted, fieldLines, lagLines, rowLines, slotLines, lines}
-use Rattle.checks.proofs.Fine.{fine-if-right}
+use Rattle.checks.proofs.Fine.{lag-passed, lag-given, fine-if-right}
 use Rattle.file.specs.declared.ReadPlan.{ReadPlan}
 use Rattle.file.specs.File.{enteredAt, readAs, readOf}
 use Rattle.file.proofs.Reading.{counts-are}
@@ -110,10 +106,8 @@ pub same-refusals : SameRefusals
 same-refusals edition n m v h =
     let before = upTo3 edition n m v in
     let after = from4 edition n m v in
-    let no-11 : judge (lagLines (v .timing) ++ after) ≡ judge after =
-    passed _ _ (ap (λ b. cond b Nothing (At (layout.byteOf layout.etgAt))) (le-leb _ constant h)) in
     judged-in-turn before (lagLines (v .timing) ++ after)
-    ∙ ap (λ next. judge before then next) no-11
+    ∙ ap (λ next. judge before then next) (lag-passed (v .timing) after h)
     ∙ sym (judged-in-turn before after)
     ∙ ap judge (older-lines edition n m v)
 
@@ -122,4 +116,4 @@ newly-refused edition n m v h e =
     let before = upTo3 edition n m v in
     let after = from4 edition n m v in
     fine-then before (lagLines (v .timing) ++ after) (fine-parts before after (ap judge (older-lines edition n m v) ∙ e) .0)
-    ∙ given _ _ 68 (ap (λ b. cond b Nothing (At (layout.byteOf layout.etgAt))) (lt-leb _ constant h))
+    ∙ lag-given (v .timing) after h

@@ -1,5 +1,5 @@
 -- The rule of request 05, as it stood, on what is entered: LAG is in U. Its letters are those of the crate plan, specs/Rules.antt, each with
--- 05 after it, and in the same order; what reads no constant is used as it is. At the end, the table of refusals that had no 11.
+-- 05 after it, and in the same order. At the end, the table of refusals that had no 11; its lines of 2, 3, 4 and 5 are today's.
 use mathlib.Core.Bool.{Bool, _&&_}
 use mathlib.Core.List.{List, [], _∷_, _++_, map}
 use Prim.Native.Nat.{ℕ, _+_, _-_, _*_, max}

@@ -1,5 +1,5 @@
 -- No condition is idle: one test over the whole table, which antt computes, and what it says of a pair that passes. Assumes nothing.
-use mathlib.Core.Path.{_≡_, refl, sym, ap, subst, _∙_}
+use mathlib.Core.Path.{_≡_, refl, sym, ap, _∙_}
 use mathlib.Core.Bool.{Bool, true, false, not, _&&_, _||_, true≢false}
 use mathlib.Core.List.{[], _∷_, flatMap}
 use Prim.Native.Nat.{ℕ, zero, suc, _≤_, _<_}
@@ -21,13 +21,12 @@ use Rattle.plan.specs.Plan.{Plan, at}
 use Rattle.plan.specs.Rules.{selfOrSlotted, B, hit, terms, rowAnswer}
 use Rattle.carried.specs.declared.Edition.the-variants.{Three}
 use Rattle.carried.specs.Carried.{plainly}
-use Rattle.carried.proofs.Plans.{meant-plainly}
 use Rattle.cover.specs.Cover.{Partnered}
 use Rattle.fields.specs.Fields.{fields, lowest}
 use Rattle.judge.specs.declared.Checked.{Checked, the-variants.Fine, the-variants.Refused}
 use Rattle.judge.specs.Table.{judge}
-use Rattle.checks.specs.Checks.{lines, Right}
-use Rattle.checks.proofs.Fine.{fine-if-right}
+use Rattle.checks.specs.Checks.{lines}
+use Rattle.checks.proofs.Fine.{fine-is-right}
 use Rattle.promise.specs.Lighter.{NotRefused, NoGreater, Stands}
 use Rattle.compare.specs.Changes.{rowOf}
 use Rattle.needed.specs.Needed.{conditions, howMany, Pair, pair, Broken, Lost, EachNeeded, easier, NotEmpty}
@@ -45,8 +44,7 @@ abbrev fine : Plan → Bool
 fine p = isFine (judge (lines Three (length (p .streams)) (length (p .gaps)) (plainly p)))
 
 fine-says : (p : Plan) → fine p ≡ true → NotRefused p
-fine-says p e =
-    subst (Right (length (p .streams)) (length (p .gaps))) (meant-plainly p) (fine-if-right Three _ _ (plainly p) .0 (go _ e) .1)
+fine-says p e = fine-is-right _ _ p (go _ e)
   where
     go : (c : Checked) → isFine c ≡ true → c ≡ Fine
     go Fine d = refl

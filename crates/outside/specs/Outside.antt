@@ -3,15 +3,18 @@ use mathlib.Core.Path.{_≡_}
 use mathlib.Core.Bool.{cond}
 use mathlib.Core.List.{List, _∷_}
 use mathlib.Core.Logic.{_↔_}
-use Prim.Native.Nat.{ℕ, _≤_, _<_}
+use Prim.Native.Nat.{ℕ, _+_, _≤_, _<_}
 use lib.Dec.{leb, ltb, eqb}
 use lib.ListN.{length, getD}
 use Rattle.names.specs.declared.Refusal.{Refusal}
 use Rattle.judge.specs.declared.Checked.{Checked, the-variants.Fine, the-variants.Refused}
 use Rattle.judge.specs.Table.{Line, judge, unless}
+use Rattle.plan.specs.declared.Timing.{Timing}
 use Rattle.plan.specs.declared.Stream.{Stream}
 use Rattle.carried.specs.declared.Edition.the-variants.{Three}
-use Rattle.carried.specs.Carried.{enteredTimingIn, enteredIn}
+use Rattle.carried.specs.Layout as layout
+use Rattle.carried.specs.Carried.{plainTiming, enteredTimingIn, enteredIn, timingWords}
+use Rattle.compare.specs.Changes.{constantsOf, manyConstants}
 use Rattle.compare.specs.declared.Reason.{Reason}
 use Rattle.compare.specs.declared.Reason.the-variants.{MasterNode, GreaterConstant, NewLabel, ShorterPeriod, LongerJitter}
 use Rattle.compare.specs.declared.Reason.the-variants.{LongerPayload, ShorterDeadline, LongerAcknowledgement, LessUrgent, MoreNoise}
@@ -61,9 +64,9 @@ writeFrom n m values out = writeWith Three n m (enteredIn n m values) out
 abbrev pub Screened : List Stream → List ℕ → List ℕ → List ℕ → Said → List ℕ → Type 0
 Screened xs ws gaps out said left = let o = screenOf xs (enteredTimingIn ws) gaps out in (said ≡ checked (o .0)) × (left ≡ o .1)
 
--- a plan's constant by its place in the file, from 0: NB and P come after LAG, which is 7 and which a plan has not
+-- a plan's constant by its place in the file, from 0: NB comes after LAG, which a plan has not, and P is the last
 abbrev pub constantAt : ℕ → ℕ
-constantAt k = cond (ltb k 7) k (cond (eqb k 7) 8 9)
+constantAt k = cond (ltb k layout.lagAt) k (cond (eqb k layout.lagAt) (layout.lagAt + 1) layout.slotAt)
 
 -- run again: the conditions of the lighter plan, each with its number and with what breaks it, the constant by its place in the file, the
 -- label, or the gap. 1 to 8 are numbered in the order in which they are looked at; 9, which came later, is looked at before them, and 10 after 6
@@ -142,6 +145,13 @@ startMarks NB ps bs = startBytes (startFrom NB ps bs) bs
 
 abbrev pub stepMarks : ℕ → ℕ → ℕ → List ℕ → List ℕ → List ℕ
 stepMarks NB phase at ps bs = stepBytes (stepFrom NB phase at ps bs) bs
+
+-- ---- What a caller that compares two plans can count on, beside the definitions. Proved in proofs/Constants.antt.
+
+-- a constant of a plan stands in the plan's file under its number
+abbrev pub ConstantInFile : Type 0
+ConstantInFile =
+    (t : Timing) (k : ℕ) → k < manyConstants → getD (timingWords (plainTiming t)) (constantAt k) 0 ≡ getD (constantsOf t) k 0
 
 -- ---- What a caller that lends a tournament can count on, beside the definitions. Proved in proofs/Fewer.antt and proofs/Marks.antt.
 

@@ -29,7 +29,8 @@ RewritesTheSame =
     → length bs ≤ length buf
     → rewriteOf bs buf ≡ (Bytes (length bs), bs ++ drop (length bs) buf)
 
--- .. and any other as a file of edition 3 with no LAG and the same meaning, wherever as many bytes are lent as that has
+-- .. and one of any edition, with a LAG or with none, as a file of edition 3 with no LAG and the same meaning, wherever as many bytes are
+-- lent as that has
 pub record BroughtUpToDate (bs buf file : List ℕ) : Type 0 where
   pub written : length file ≤ length buf → rewriteOf bs buf ≡ (Bytes (length file), file ++ drop (length file) buf)
   pub edition : editionIn (wordsOf file) ≡ Three

@@ -4,34 +4,32 @@ use mathlib.Core.Path.{_≡_, sym, ap, ap₂, _∙_}
 use mathlib.Core.Bool.{false}
 use mathlib.Core.List.{List, []}
 use Prim.Native.Nat.{ℕ, _≤_}
-use native.Mathlib.Nat.{lt-of-not-le}
-use native.Mathlib.Decide.{decLe}
-use native.Mathlib.Omega.{arith}
 use lib.ListN.{length}
 use Rattle.names.specs.Limits.{streams, sources}
-use Rattle.laws.proofs.Placed.{placed-front, placed-short}
+use Rattle.laws.proofs.Placed.{placed-front}
 use Rattle.plan.specs.declared.Stream.{Stream}
 use Rattle.plan.specs.Plan.{blank}
 use Rattle.carried.specs.declared.Edition.the-variants.{Three}
 use Rattle.carried.specs.declared.EnteredTiming.{EnteredTiming}
-use Rattle.carried.specs.Layout as layout
 use Rattle.carried.specs.Carried.{Entered, enteredIn, enteredWords, inPlaces}
-use Rattle.carried.proofs.Plans.{length-words, entered-in-words}
+use Rattle.carried.proofs.Plans.{own-places}
 use Rattle.judge.specs.declared.Checked.the-variants.{Refused}
 use Rattle.checks.specs.Checks.{inRange}
-use Rattle.checks.proofs.Counts.{too-few, too-many, too-noisy, out-of-range}
+use Rattle.checks.proofs.Counts.{too-few, too-many, too-noisy, by-range, out-of-range}
 use Rattle.answers.specs.Answers.{answerWith}
 use Rattle.answers.proofs.Outcome.{refused-is}
 use Rattle.screen.specs.Screen.{enteredFor, screenOf, WrongLists}
 use Rattle.screen.specs.private.Gathering.{takenOf, wordsTaken, takenOutcome}
+
+refused-2 : (n m : ℕ) (v : Entered) (out : List ℕ) → inRange n m ≡ false → answerWith Three n m v out ≡ (Refused (record { number = 2; place = 0 }), out)
+refused-2 n m v out e = refused-is Three n m v out _ (out-of-range n m e Three v [])
 
 pub wrong-counts : WrongLists
 unfolding screenOf
 wrong-counts xs t gaps out =
     let n = length xs in
     let m = length gaps in
-    let two : inRange n m ≡ false → screenOf xs t gaps out ≡ (Refused (record { number = 2; place = 0 }), out) =
-    (λ e. refused-is Three n m (enteredFor xs t gaps) out _ (out-of-range n m e Three (enteredFor xs t gaps) [])) in
+    let two = refused-2 n m (enteredFor xs t gaps) out in
     (λ h. two (too-few n m h), λ h. two (too-many n m h), λ h. two (too-noisy n m h))
 
 module _ (xs : List Stream) (t : EnteredTiming) (gaps out : List ℕ) where
@@ -42,27 +40,12 @@ module _ (xs : List Stream) (t : EnteredTiming) (gaps out : List ℕ) where
   all-taken : length xs ≤ streams → length gaps ≤ sources → taken ≡ enteredFor xs t gaps
   unfolding wordsTaken takenOf
   all-taken few quiet =
-      let v = enteredFor xs t gaps in
-      let room : length (enteredWords v) ≤ layout.largest = omega (arith, length-words v) in
       ap₂ (λ a b. enteredIn (length xs) (length gaps) (inPlaces (enteredWords (record { timing = t; streams = a; gaps = b }))))
       (placed-front streams blank xs few) (placed-front sources 0 gaps quiet)
-      ∙ ap (enteredIn (length xs) (length gaps)) (placed-short layout.largest 0 (enteredWords v) room)
-      ∙ entered-in-words v _
-
-  either-refused : inRange (length xs) (length gaps) ≡ false → takenOutcome (takenOf xs) t gaps out ≡ screenOf xs t gaps out
-  unfolding takenOutcome screenOf takenOf
-  either-refused e =
-      refused-is Three (length xs) (length gaps) taken out _ (out-of-range (length xs) (length gaps) e Three taken [])
-      ∙ sym (refused-is Three (length xs) (length gaps) (enteredFor xs t gaps) out _ (out-of-range (length xs) (length gaps) e Three (enteredFor xs t gaps) []))
+      ∙ own-places (enteredFor xs t gaps) few quiet
 
   pub taken-is : takenOutcome (takenOf xs) t gaps out ≡ screenOf xs t gaps out
   unfolding takenOutcome screenOf takenOf
   taken-is =
-      elim (decLe (length xs) streams) [
-        | yes few ↦
-            elim (decLe (length gaps) sources) [
-              | yes quiet ↦ ap (λ v. answerWith Three (length xs) (length gaps) v out) (all-taken few quiet)
-              | no noisy ↦ either-refused (too-noisy (length xs) (length gaps) (lt-of-not-le noisy))
-            ]
-        | no many ↦ either-refused (too-many (length xs) (length gaps) (lt-of-not-le many))
-      ]
+      by-range (length xs) (length gaps) (λ few quiet. ap (λ v. answerWith Three (length xs) (length gaps) v out) (all-taken few quiet))
+      (λ e. refused-2 _ _ taken out e ∙ sym (refused-2 _ _ (enteredFor xs t gaps) out e))

@@ -2,8 +2,8 @@
 //
 // `screen` answers for every list, however long, just as `answers::answer_words` does for the words of these values: the
 // first 64 streams and 8 gaps are copied out, and the list's own lengths are its counts, so an empty or over-long list is
-// refused 2. The timing is lent as it is entered, with a LAG or with none. Nothing is assumed. Its code must not know of files or text, and it makes no check and no bound
-// of its own; specs/Screen.antt holds it against the file.
+// refused 2. The timing is lent as it is entered, with a LAG or with none. Nothing is assumed. Its code must not know of
+// files or text, and it makes no check and no bound of its own; specs/Screen.antt holds it against the file.
 ghost use mathlib.Core.Path.{_≡_};
 ghost use Prim.Native.Nat.{_<_};
 ghost use lib.ListN.{length, getD, set, replicate};

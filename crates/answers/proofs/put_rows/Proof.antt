@@ -32,9 +32,9 @@ loop-holds : tie.Need-loop-holds Inv-loop μ-loop
 unfolding rows flatMap
 loop-holds c = (omega arith, refl, refl, record { of-costs = refl; of-periods = refl; of-jitters = refl })
 
--- a word holds ETG + LAG, so the timing is the one that is meant
+-- the timing is the one that is meant
 timing-is : (g : tie.After-timing-in Inv-loop μ-loop) → let s = g .before .before in g .timing-in .result ≡ timingIn (now (s .args .words))
-timing-is g = let s = g .before .before in g .timing-in .ensures ∙ timing-held (enteredTimingIn (now (s .args .words))) (omega (arith, s .pre .0 .timing .etg))
+timing-is g = let s = g .before .before in g .timing-in .ensures ∙ timing-held (enteredTimingIn (now (s .args .words))) (s .pre .0 .timing)
 
 gathered-requires : tie.Need-gathered-requires Inv-loop μ-loop
 gathered-requires c κs =

@@ -21,7 +21,7 @@ use Rattle.costs.specs.declared.Overheads.{Overheads}
 use Rattle.costs.specs.Costs.{mostV, mostU, Overhead, overheadsOf}
 use Rattle.costs.proofs.Costs.{overhead-within}
 use Rattle.carried.specs.Layout as layout
-use Rattle.carried.specs.Carried.{heldTiming, enteredTimingIn, timingIn, streamIn, streamsIn}
+use Rattle.carried.specs.Carried.{enteredTimingIn, timingIn, streamIn, streamsIn}
 use Rattle.carried.proofs.Plans.{timing-held}
 use Rattle.checks.proofs.check_slots.Statement.{statement}
 use Rattle.checks.proofs.check_slots.Tie as tie
@@ -66,10 +66,6 @@ module _ (ws : List ℕ) (n k slot beside : ℕ) (h : k < n) (b : Beside ws slot
 none-at-all : (ws : List ℕ) (n k : ℕ) → timingIn ws .p ≡ 0 → long ws n k ≡ false
 none-at-all ws n k e = simp (lt-leb 1 (timingIn ws .p) (omega (arith, e)))
 
--- a timing within the limits is the one that is meant
-timing-is : (ws : List ℕ) (t : Timing) → t ≡ heldTiming (enteredTimingIn ws) → TimingWithin (timingIn ws) → t ≡ timingIn ws
-timing-is ws t e w = e ∙ timing-held (enteredTimingIn ws) (omega (arith, w .etg))
-
 abbrev Inv-loop : tie.InvT-loop
 Inv-loop words n slot beside r₀ r = (r ≤ n) × Beside words slot beside × NoneBelow (long words n) r
 
@@ -87,7 +83,7 @@ worked-out : (c : tie.After-overheads-of Inv-loop μ-loop) → let t = c .before
     Beside (t .before .args .words .now) (t .timing-in .result .p) (c .overheads-of .result .lead + c .overheads-of .result .u)
 worked-out c =
     let t = c .before .before in
-    let e = timing-is (t .before .args .words .now) (t .timing-in .result) (t .timing-in .ensures) (t .before .pre .0) in
+    let e = t .timing-in .ensures ∙ timing-held (enteredTimingIn (t .before .args .words .now)) (t .before .pre .0) in
     beside-is (t .before .args .words .now) _ _ (c .overheads-of .result) (ap (λ (x : Timing). x .p) e) (c .before .if1 .left) (t .before .pre .0)
     (c .overheads-of .ensures ∙ ap overheadsOf e)
     refl

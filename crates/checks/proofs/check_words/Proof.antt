@@ -1,6 +1,6 @@
 -- The table is judged part by part; counts in range are no more than a plan may have. Assumes nothing.
 use mathlib.Core.Path.{_≡_, sym, ap, ap₂, _∙_}
-use mathlib.Core.List.{List}
+use mathlib.Core.List.{List, []}
 use Prim.Native.Nat.{ℕ, min, _≤_}
 use native.Mathlib.Omega.{arith}
 use denote.Ref.{now}
@@ -16,9 +16,8 @@ use Rattle.fields.proofs.Inside.{nothing-if-inside}
 use Rattle.fields.proofs.Limits.{inside-if-fields-within}
 use Rattle.checks.specs.Checks.{rangeLines, fieldLines, lagLines, rowLines, slotLines, lines}
 use Rattle.checks.proofs.Counts.{fine-range, carried-in-parts}
-use Rattle.checks.proofs.Fine.{byte-not, place-not, timing-meant}
+use Rattle.checks.proofs.Fine.{byte-not, lag-fine, timing-meant}
 use borrow.Author.Needs.{needs}
-use borrow.Author.Tests.{leb-true}
 use Rattle.checks.proofs.check_words.Statement.{statement}
 use Rattle.checks.proofs.check_words.Tie as tie
 
@@ -84,7 +83,7 @@ module _ (b : tie.Start) where
         timing =
             let v = enteredIn (min n streams) (min m sources) ws in
             let w = inside-if-fields-within (b .args .edition) v .0 (nothing-if-inside 0 (fields (b .args .edition) v) .0 (byte-not (b .args .edition) _ _ (not-given _ _ inside .0))) in
-            timing-meant (b .args .edition) (enteredTimingIn ws) (w .timing) (w .slot) (leb-true _ _ (place-not _ _ (not-given _ _ folds .0)))
+            timing-meant (b .args .edition) (enteredTimingIn ws) (w .timing) (w .slot) (lag-fine (enteredTimingIn ws) [] folds)
 
 returns : tie.Need-returns
 returns c = let p = c .before .before .before in sym (counts-refused (p .before) _ (sym (p .check-counts .ensures) ∙ c .before .r .given .1))
@@ -98,8 +97,8 @@ counts-fine t = sym (t .before .before .check-counts .ensures) ∙ t .enum-told 
 fields-fine : (u : tie.After-enum-told2) → let b = u .before .before .before .before .before .before in fields-of b (min (b .args .n) streams) (min (b .args .m) sources) ≡ Fine
 fields-fine u = sym (u .before .before .check-fields .ensures) ∙ u .enum-told2 .given .1
 
-lag-fine : (v : tie.After-enum-told3) → lag-of (v .before .before .before .before .before .before .before .before .before) ≡ Fine
-lag-fine v = sym (v .before .before .check-lag .ensures) ∙ v .enum-told3 .given .1
+sum-fine : (v : tie.After-enum-told3) → lag-of (v .before .before .before .before .before .before .before .before .before) ≡ Fine
+sum-fine v = sym (v .before .before .check-lag .ensures) ∙ v .enum-told3 .given .1
 
 returns-2 : tie.Need-returns-2
 returns-2 c =
@@ -120,7 +119,7 @@ returns-4 c =
     let v = r .before in
     let u = v .before .before .before in
     let t = u .before .before .before in
-    sym (after-rows (t .before .before .before) (counts-fine t) (fields-fine u) (lag-fine v) (Refused _) (sym (r .check-rows .ensures) ∙ c .before .r4 .given .1))
+    sym (after-rows (t .before .before .before) (counts-fine t) (fields-fine u) (sum-fine v) (Refused _) (sym (r .check-rows .ensures) ∙ c .before .r4 .given .1))
 
 check-slots-requires : tie.Need-check-slots-requires
 check-slots-requires c κs =
@@ -128,7 +127,7 @@ check-slots-requires c κs =
     let u = v .before .before .before in
     let t = u .before .before .before in
     let b = t .before .before .before in
-    (timing b (counts-fine t) (fields-fine u) (lag-fine v), few b (counts-fine t))
+    (timing b (counts-fine t) (fields-fine u) (sum-fine v), few b (counts-fine t))
 
 returns-5 : tie.Need-returns-5
 returns-5 c =
@@ -138,7 +137,7 @@ returns-5 c =
     let u = v .before .before .before in
     let t = u .before .before .before in
     c .check-slots .ensures
-    ∙ sym (after-rows (t .before .before .before) (counts-fine t) (fields-fine u) (lag-fine v) Fine (sym (r .check-rows .ensures) ∙ w .enum-told4 .given .1))
+    ∙ sym (after-rows (t .before .before .before) (counts-fine t) (fields-fine u) (sum-fine v) Fine (sym (r .check-rows .ensures) ∙ w .enum-told4 .given .1))
 
 pub check-words-spec : {M : Type 1} → statement M
 check-words-spec =

@@ -65,7 +65,7 @@ returns-2 c =
     let m : min (m-at w) sources ≡ m-at w = omega (arith, quiet) in
     let v = enteredIn (n-at w) (m-at w) ws in
     let right = fine-if-right (x-at w) (n-at w) (m-at w) v .0 (sym (k .check-words .ensures) ∙ told .enum-told .given .1) .1 in
-    ap (λ s. record { answer = Fine; sheet = s }) (c .sheet-in .ensures ∙ ap₂ (λ i j. sheetOf (held (enteredIn i j ws))) n m ∙ ap sheetOf (plan-held v (omega (arith, right .within .timing .etg))))
+    ap (λ s. record { answer = Fine; sheet = s }) (c .sheet-in .ensures ∙ ap₂ (λ i j. sheetOf (held (enteredIn i j ws))) n m ∙ ap sheetOf (plan-held v (right .within .timing)))
     ∙ sym (answered k ∙ ap (λ a. readAs a (meant v)) (told .enum-told .given .1))
 
 returns-3 : tie.Need-returns-3

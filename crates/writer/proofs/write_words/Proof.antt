@@ -1,12 +1,13 @@
 -- Each return is an answer of the definition: a line of the values, 6, or the file; and nothing is put before the last of them. Assumes nothing.
 use mathlib.Core.Path.{_≡_, sym, ap, _∙_}
-use Prim.Native.Nat.{ℕ, _+_, _≤_}
+use Prim.Native.Nat.{ℕ, _≤_}
 use native.Mathlib.Omega.{arith}
 use borrow.Author.Needs.{needs}
 use denote.Ref.{now}
 use Rattle.names.specs.Limits as limit
 use Rattle.carried.specs.declared.Edition.{Edition}
-use Rattle.carried.specs.Carried.{Entered, enteredTimingIn, enteredIn}
+use Rattle.plan.specs.Plan.{TimingWithin}
+use Rattle.carried.specs.Carried.{Entered, meantTiming, enteredTimingIn, enteredIn}
 use Rattle.carried.proofs.Plans.{timing-held}
 use Rattle.judge.specs.declared.Checked.the-variants.{Fine}
 use Rattle.judge.specs.Table.{judge}
@@ -25,11 +26,11 @@ asked b = enteredIn (b .args .n) (b .args .m) (now (b .args .words))
 fine : (c : tie.After-enum-told) → let b = c .before .before .before .before in judge (lines (b .args .edition) (b .args .n) (b .args .m) (asked b)) ≡ Fine
 fine c = sym (c .before .before .check-words .ensures) ∙ c .enum-told .given .1
 
--- n is at most 64 and m at most 8, and a word holds ETG + LAG
-few : (x : Edition) (n m : ℕ) (v : Entered) → judge (lines x n m v) ≡ Fine → (n ≤ limit.streams) × (m ≤ limit.sources) × (v .timing .etg + v .timing .lag ≤ limit.ticks)
+-- n is at most 64 and m at most 8, and the timing is within the limits
+few : (x : Edition) (n m : ℕ) (v : Entered) → judge (lines x n m v) ≡ Fine → (n ≤ limit.streams) × (m ≤ limit.sources) × TimingWithin (meantTiming (v .timing))
 few x n m v e =
     let (is, r) = fine-if-right x n m v .0 e in
-    (omega (arith, r .count, r .within .count), omega (arith, r .sources, r .within .sources), omega (arith, r .within .timing .etg))
+    (omega (arith, r .count, r .within .count), omega (arith, r .sources, r .within .sources), r .within .timing)
 
 returns : tie.Need-returns
 returns c =
@@ -61,8 +62,8 @@ put-file-requires c κs =
     let z = i .before in
     let f = z .before in
     let b = f .before .before .before .before in
-    let (n, m, sum) = few (b .args .edition) (b .args .n) (b .args .m) (asked b) (fine f) in
-    (t .timing-in .ensures ∙ timing-held (enteredTimingIn (now (b .args .words))) sum, (search needs, (n, (m, omega (arith, i .if1 .left, z .size .ensures)))))
+    let (n, m, timing) = few (b .args .edition) (b .args .n) (b .args .m) (asked b) (fine f) in
+    (t .timing-in .ensures ∙ timing-held (enteredTimingIn (now (b .args .words))) timing, (search needs, (n, (m, omega (arith, i .if1 .left, z .size .ensures)))))
 
 returns-3 : tie.Need-returns-3
 returns-3 c =
