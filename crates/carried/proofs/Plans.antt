@@ -25,54 +25,54 @@ seven s = refl
 
 -- the words after those of the timing
 abbrev tail : Entered → List ℕ
-tail p = flatMap streamWords (p .streams) ++ p .gaps
+tail v = flatMap streamWords (v .streams) ++ v .gaps
 
-pub length-words : (p : Entered) → length (enteredWords p) ≡ layout.gapAt (length (p .streams)) (length (p .gaps))
-length-words p =
-    omega (arith, length-append (flatMap streamWords (p .streams)) (p .gaps), length-flat layout.streamLength streamWords seven (p .streams))
+pub length-words : (v : Entered) → length (enteredWords v) ≡ layout.gapAt (length (v .streams)) (length (v .gaps))
+length-words v =
+    omega (arith, length-append (flatMap streamWords (v .streams)) (v .gaps), length-flat layout.streamLength streamWords seven (v .streams))
 
 -- ---- from what is entered to its words and back
-module _ (p : Entered) (after : List ℕ) where
+module _ (v : Entered) (after : List ℕ) where
   abbrev among : List ℕ
-  among = enteredWords p ++ after
+  among = enteredWords v ++ after
 
-  past-timing : (i : ℕ) → getD among (layout.timingLength + i) 0 ≡ getD (tail p ++ after) i 0
+  past-timing : (i : ℕ) → getD among (layout.timingLength + i) 0 ≡ getD (tail v ++ after) i 0
   past-timing i = sym (getD-drop layout.timingLength among i 0)
 
-  pub stream-word : (r j : ℕ) → r < length (p .streams) → j < layout.streamLength → getD among (layout.streamAt r + j) 0 ≡ getD (streamWords (getD (p .streams) r blank)) j 0
+  pub stream-word : (r j : ℕ) → r < length (v .streams) → j < layout.streamLength → getD among (layout.streamAt r + j) 0 ≡ getD (streamWords (getD (v .streams) r blank)) j 0
   stream-word r j h k =
-      let flat = flatMap streamWords (p .streams) in
-      let i : layout.streamLength * r + j < length flat = omega (arith, length-flat layout.streamLength streamWords seven (p .streams)) in
+      let flat = flatMap streamWords (v .streams) in
+      let i : layout.streamLength * r + j < length flat = omega (arith, length-flat layout.streamLength streamWords seven (v .streams)) in
       ap (λ n. getD among n 0) (add-assoc layout.timingLength (layout.streamLength * r) j)
       ∙ past-timing (layout.streamLength * r + j)
-      ∙ List·getD-append (tail p) after 0 (layout.streamLength * r + j) (omega (arith, length-append flat (p .gaps)))
-      ∙ List·getD-append flat (p .gaps) 0 (layout.streamLength * r + j) i
-      ∙ in-piece layout.streamLength streamWords seven (p .streams) r j blank 0 h k
+      ∙ List·getD-append (tail v) after 0 (layout.streamLength * r + j) (omega (arith, length-append flat (v .gaps)))
+      ∙ List·getD-append flat (v .gaps) 0 (layout.streamLength * r + j) i
+      ∙ in-piece layout.streamLength streamWords seven (v .streams) r j blank 0 h k
 
-  pub gap-word : (k : ℕ) → k < length (p .gaps) → getD among (layout.gapAt (length (p .streams)) k) 0 ≡ getD (p .gaps) k 0
+  pub gap-word : (k : ℕ) → k < length (v .gaps) → getD among (layout.gapAt (length (v .streams)) k) 0 ≡ getD (v .gaps) k 0
   gap-word k h =
-      let flat = flatMap streamWords (p .streams) in
-      let n : layout.streamLength * length (p .streams) + k ≡ length flat + k = omega (arith, length-flat layout.streamLength streamWords seven (p .streams)) in
-      ap (λ n. getD among n 0) (add-assoc layout.timingLength (layout.streamLength * length (p .streams)) k)
-      ∙ past-timing (layout.streamLength * length (p .streams) + k)
-      ∙ ap (λ i. getD (tail p ++ after) i 0) n
-      ∙ List·getD-append (tail p) after 0 (length flat + k) (omega (arith, length-append flat (p .gaps)))
-      ∙ getD-append-add flat (p .gaps) k 0
+      let flat = flatMap streamWords (v .streams) in
+      let n : layout.streamLength * length (v .streams) + k ≡ length flat + k = omega (arith, length-flat layout.streamLength streamWords seven (v .streams)) in
+      ap (λ n. getD among n 0) (add-assoc layout.timingLength (layout.streamLength * length (v .streams)) k)
+      ∙ past-timing (layout.streamLength * length (v .streams) + k)
+      ∙ ap (λ i. getD (tail v ++ after) i 0) n
+      ∙ List·getD-append (tail v) after 0 (length flat + k) (omega (arith, length-append flat (v .gaps)))
+      ∙ getD-append-add flat (v .gaps) k 0
 
-  stream-is : (r : ℕ) → r < length (p .streams) → streamIn among (layout.streamAt r) ≡ getD (p .streams) r blank
+  stream-is : (r : ℕ) → r < length (v .streams) → streamIn among (layout.streamAt r) ≡ getD (v .streams) r blank
   stream-is r h =
-      let first : getD among (layout.streamAt r) 0 ≡ getD (streamWords (getD (p .streams) r blank)) 0 0 =
+      let first : getD among (layout.streamAt r) 0 ≡ getD (streamWords (getD (v .streams) r blank)) 0 0 =
       ap (λ n. getD among n 0) (sym (add-zero (layout.streamAt r))) ∙ stream-word r 0 h (omega arith) in
       rw (first, stream-word r 1 h (omega arith), stream-word r 2 h (omega arith), stream-word r 3 h (omega arith), stream-word r 4 h (omega arith), stream-word r 5 h (omega arith), stream-word r 6 h (omega arith)) refl
 
 pub entered-in-words : EnteredInWords
 unfolding enteredIn
-entered-in-words p after =
-    let ws = enteredWords p ++ after in
-    let streams : rows (length (p .streams)) (λ r. streamIn ws (layout.streamAt r)) ≡ p .streams =
-    rows-same (length (p .streams)) _ _ (stream-is p after) ∙ rows-take (p .streams) blank (length (p .streams)) (le-refl _) ∙ take-length (p .streams) in
-    let gaps : rows (length (p .gaps)) (λ k. getD ws (layout.gapAt (length (p .streams)) k) 0) ≡ p .gaps =
-    rows-same (length (p .gaps)) _ _ (gap-word p after) ∙ rows-take (p .gaps) 0 (length (p .gaps)) (le-refl _) ∙ take-length (p .gaps) in
+entered-in-words v after =
+    let ws = enteredWords v ++ after in
+    let streams : rows (length (v .streams)) (λ r. streamIn ws (layout.streamAt r)) ≡ v .streams =
+    rows-same (length (v .streams)) _ _ (stream-is v after) ∙ rows-take (v .streams) blank (length (v .streams)) (le-refl _) ∙ take-length (v .streams) in
+    let gaps : rows (length (v .gaps)) (λ k. getD ws (layout.gapAt (length (v .streams)) k) 0) ≡ v .gaps =
+    rows-same (length (v .gaps)) _ _ (gap-word v after) ∙ rows-take (v .gaps) 0 (length (v .gaps)) (le-refl _) ∙ take-length (v .gaps) in
     rw (streams, gaps) refl
 
 -- .. and with nothing after them
@@ -204,11 +204,11 @@ module _ (t : EnteredTiming) (streams : List Stream) (r : ℕ) where
       rw (d, all) (lay-next first-laid last (layout.streamAt r) (first-long (omega arith)) e)
 
 -- .. and the gaps after the last of them
-pub lay-gaps : (p : Entered) (streams : List Stream) (n : ℕ) {ws o : List ℕ} → n ≤ length streams → take n streams ≡ p .streams → ws ≡ p .gaps
-    → length (enteredWords p) ≤ layout.largest → o ≡ padded (first-laid (p .timing) streams n) → paste o (layout.streamAt n) ws (length ws) ≡ inPlaces (enteredWords p)
-lay-gaps p places n {ws} {o} h d g few e =
-    let laid : paste o (layout.streamAt n) ws (length ws) ≡ padded (first-laid (p .timing) places n ++ p .gaps) =
-    rw g (lay-next (first-laid (p .timing) places n) (p .gaps) (layout.streamAt n) (first-long (p .timing) places n h) e) in
+pub lay-gaps : (v : Entered) (streams : List Stream) (n : ℕ) {ws o : List ℕ} → n ≤ length streams → take n streams ≡ v .streams → ws ≡ v .gaps
+    → length (enteredWords v) ≤ layout.largest → o ≡ padded (first-laid (v .timing) streams n) → paste o (layout.streamAt n) ws (length ws) ≡ inPlaces (enteredWords v)
+lay-gaps v places n {ws} {o} h d g few e =
+    let laid : paste o (layout.streamAt n) ws (length ws) ≡ padded (first-laid (v .timing) places n ++ v .gaps) =
+    rw g (lay-next (first-laid (v .timing) places n) (v .gaps) (layout.streamAt n) (first-long (v .timing) places n h) e) in
     laid
-    ∙ ap (λ s. padded (timingWords (p .timing) ++ (flatMap streamWords s ++ p .gaps))) d
-    ∙ sym (placed-short layout.largest 0 (enteredWords p) few)
+    ∙ ap (λ s. padded (timingWords (v .timing) ++ (flatMap streamWords s ++ v .gaps))) d
+    ∙ sym (placed-short layout.largest 0 (enteredWords v) few)

@@ -67,16 +67,16 @@ module _ (n m : ℕ) where
   fine-range e = range-within (unless-not (inRange n m) (not-given _ _ e .0))
 
   -- counts out of range are refused 2 at 0, whatever is entered and whatever comes after its lines
-  pub out-of-range : inRange n m ≡ false → (edition : Edition) (p : Entered) (more : List Line) → judge (lines edition n m p ++ more) ≡ Refused (record { number = 2; place = 0 })
-  out-of-range e edition p more = refused-then (lines edition n m p) more _ (given _ _ 0 (ap (λ t. unless (t && eqb (length (p .streams)) n && eqb (length (p .gaps)) m)) e))
+  pub out-of-range : inRange n m ≡ false → (edition : Edition) (v : Entered) (more : List Line) → judge (lines edition n m v ++ more) ≡ Refused (record { number = 2; place = 0 })
+  out-of-range e edition v more = refused-then (lines edition n m v) more _ (given _ _ 0 (ap (λ t. unless (t && eqb (length (v .streams)) n && eqb (length (v .gaps)) m)) e))
 
   -- what has as many streams and gaps as are said
-  module _ (p : Entered) (n-is : length (p .streams) ≡ n) (m-is : length (p .gaps) ≡ m) where
-    pub counted-so : counted n m p ≡ inRange n m
-    counted-so = rw (eq-eqb (length (p .streams)) n n-is, eq-eqb (length (p .gaps)) m m-is) (and-true (inRange n m && true) ∙ and-true (inRange n m))
+  module _ (v : Entered) (n-is : length (v .streams) ≡ n) (m-is : length (v .gaps) ≡ m) where
+    pub counted-so : counted n m v ≡ inRange n m
+    counted-so = rw (eq-eqb (length (v .streams)) n n-is, eq-eqb (length (v .gaps)) m m-is) (and-true (inRange n m && true) ∙ and-true (inRange n m))
 
-    pub ranges-counted : (edition : Edition) → judge (rangeLines n m ++ valueLines edition p) ≡ judge (lines edition n m p)
-    ranges-counted edition = ap (λ t. judge (record { number = 2; place = unless t } ∷ valueLines edition p)) (sym counted-so)
+    pub ranges-counted : (edition : Edition) → judge (rangeLines n m ++ valueLines edition v) ≡ judge (lines edition n m v)
+    ranges-counted edition = ap (λ t. judge (record { number = 2; place = unless t } ∷ valueLines edition v)) (sym counted-so)
 
   -- of the words that are carried as many streams and gaps are taken as are said, so their table is judged part by part
   pub carried-in-parts : (edition : Edition) (ws : List ℕ)

@@ -21,11 +21,11 @@ use Rattle.names.specs.Limits.{constant}
 use Rattle.carried.specs.declared.Edition.{Edition, the-variants.Three}
 use Rattle.carried.specs.declared.EnteredTiming.{EnteredTiming}
 use Rattle.carried.specs.Layout as layout
-use Rattle.carried.specs.Carried.{Entered, meantTiming, meant, plainly}
+use Rattle.carried.specs.Carried.{Entered, withETG, meant, plainly}
 use Rattle.carried.proofs.Plans.{meant-plainly}
-use Rattle.fields.specs.Fields.{fields, SlotWithin, ConstantsWithin}
+use Rattle.fields.specs.Fields.{fields, SlotWithin}
 use Rattle.fields.proofs.Inside.{nothing-if-inside}
-use Rattle.fields.proofs.Limits.{inside-if-fields-within, slot-most, slot-three}
+use Rattle.fields.proofs.Limits.{inside-if-fields-within, slot-three}
 use Rattle.judge.specs.declared.Checked.the-variants.{Fine, Refused}
 use Rattle.judge.specs.Table.{Line, judge, unlessAt, unless, rowIn}
 use Rattle.checks.specs.Checks.{inRange, counted, byteIn, lagLines, priorities, labels, lines, checkedOf, Right, FineIfRight, FineWithin}
@@ -48,9 +48,9 @@ module _ (t : EnteredTiming) (more : List Line) where
   pub lag-fine : judge (lagLines t ++ more) ≡ Fine → t .etg + t .lag ≤ constant
   lag-fine e = leb-true _ constant (unless-at-not _ _ (not-given _ _ e .0))
 
--- the timing that is meant is within the limits exactly if each constant is, and ETG + LAG too
-pub timing-meant : (edition : Edition) (t : EnteredTiming) → ConstantsWithin t → SlotWithin edition (t .p) → t .etg + t .lag ≤ constant → TimingWithin (meantTiming t)
-timing-meant edition t w slot sum =
+-- a timing that is within the limits is so with another constant for its ETG
+pub another-etg : (t : EnteredTiming) {was is : ℕ} → TimingWithin (withETG was t) → is ≤ constant → TimingWithin (withETG is t)
+another-etg t w h =
     record {
       f = w .f;
       e = w .e;
@@ -58,25 +58,10 @@ timing-meant edition t w slot sum =
       swx = w .swx;
       h = w .h;
       g = w .g;
-      etg = sum;
+      etg = h;
       some-bit = w .some-bit;
       nb = w .nb;
-      p = slot-most edition (t .p) (slot .1);
-    }
-
-constants-within : (t : EnteredTiming) → TimingWithin (meantTiming t) → ConstantsWithin t
-constants-within t w =
-    record {
-      f = w .f;
-      e = w .e;
-      tfcs = w .tfcs;
-      swx = w .swx;
-      h = w .h;
-      g = w .g;
-      etg = omega (arith, w .etg);
-      lag = omega (arith, w .etg);
-      some-bit = w .some-bit;
-      nb = w .nb;
+      p = w .p;
     }
 
 -- no stream exceeds its slot exactly if each fits it
@@ -118,7 +103,7 @@ fine-if-right edition n m v = (right, fine)
                   some-stream = omega (arith, some);
                   count = omega (arith, few);
                   sources = omega (arith, quiet);
-                  timing = timing-meant edition (v .timing) (w .timing) (w .slot) (lag-fine (v .timing) _ e₁₁);
+                  timing = another-etg (v .timing) (w .timing) (lag-fine (v .timing) _ e₁₁);
                   stream = w .stream;
                   gap = w .gap;
                 };
@@ -135,7 +120,7 @@ fine-if-right edition n m v = (right, fine)
     fine (is, r) =
         let w = r .within in
         let range = within-range n m (omega (arith, w .some-stream, r .count)) (omega (arith, w .count, r .count)) (omega (arith, w .sources, r .sources)) in
-        let inside = inside-if-fields-within edition v .1 (record { slot = is; timing = constants-within (v .timing) (w .timing); stream = w .stream; label = r .label; gap = w .gap }) in
+        let inside = inside-if-fields-within edition v .1 (record { slot = is; timing = another-etg (v .timing) (w .timing) (omega (arith, w .timing .etg)); lag = omega (arith, w .timing .etg); stream = w .stream; label = r .label; gap = w .gap }) in
         passed _ _ (ap unless (counted-so n m v (r .count) (r .sources) ∙ range))
         ∙ passed _ _ (ap (byteIn edition (length (p .streams))) (nothing-if-inside 0 (fields edition v) .1 inside))
         ∙ lag-passed (v .timing) _ (w .timing .etg)

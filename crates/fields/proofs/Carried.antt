@@ -12,14 +12,14 @@ use Rattle.fields.specs.Fields.{Field, streamFields, gapField, fields, W
 
 pub words-are-carried : WordsAreCarried
 unfolding fields
-words-are-carried edition p =
-    let f = streamFields (p .timing .nb) in
+words-are-carried edition v =
+    let f = streamFields (v .timing .nb) in
     let word : Field → ℕ = λ f. f .word in
-    ap (λ r. timingWords (p .timing) ++ r)
-    (map-append word (flatMap f (p .streams)) (map gapField (p .gaps))
-    ∙ ap₂ _++_ (map-flat word f (p .streams)) (map-map word gapField (p .gaps) ∙ map-id (p .gaps)))
+    ap (λ r. timingWords (v .timing) ++ r)
+    (map-append word (flatMap f (v .streams)) (map gapField (v .gaps))
+    ∙ ap₂ _++_ (map-flat word f (v .streams)) (map-map word gapField (v .gaps) ∙ map-id (v .gaps)))
 
-pub length-fields : (edition : Edition) (p : Entered) → length (fields edition p) ≡ layout.gapAt (length (p .streams)) (length (p .gaps))
-length-fields edition p =
+pub length-fields : (edition : Edition) (v : Entered) → length (fields edition v) ≡ layout.gapAt (length (v .streams)) (length (v .gaps))
+length-fields edition v =
     let word : Field → ℕ = λ f. f .word in
-    sym (length-map (fields edition p) word) ∙ ap length (words-are-carried edition p) ∙ length-words p
+    sym (length-map (fields edition v) word) ∙ ap length (words-are-carried edition v) ∙ length-words v

@@ -8,11 +8,12 @@ use lib.ListN.{getD}
 use lib.Pow.{pow-pos}
 use Rattle.carried.specs.declared.Edition.{Edition, the-variants.One, the-variants.Two, the-variants.Three}
 use Rattle.carried.specs.Layout as layout
-use Rattle.names.specs.Limits.{payload, slot, ticks}
+use Rattle.names.specs.Limits.{constant, payload, slot, ticks}
 use Rattle.carried.specs.declared.EnteredTiming.{EnteredTiming}
+use Rattle.carried.specs.Carried.{withETG}
 use Rattle.plan.specs.declared.Stream.{Stream}
-use Rattle.plan.specs.Plan.{blank, StreamWithin, GapWithin}
-use Rattle.fields.specs.Fields.{Field, _from_to_, slotMost, SlotWithin, ConstantsWithin, timingFields, streamFields, gapField, fields, inside, fieldAt, AllInside, InsideIfFieldsWithin}
+use Rattle.plan.specs.Plan.{blank, TimingWithin, StreamWithin, GapWithin}
+use Rattle.fields.specs.Fields.{Field, _from_to_, slotMost, SlotWithin, timingFields, streamFields, gapField, fields, inside, fieldAt, AllInside, InsideIfFieldsWithin}
 use Rattle.fields.proofs.All.{Shown, none, next, shown, all-front, all-back, all-both, flat-each, flat-all, map-each, map-all}
 use Rattle.fields.proofs.Lowest.{within}
 use Rattle.fields.proofs.Inside.{inside-if-within}
@@ -28,7 +29,7 @@ within-next : {w a b : ℕ} {fs : List Field} → a ≤ w → w ≤ b → Shown 
 within-next {w} {a} {b} h k s = next (within w a b h k) s
 
 -- ---- P, which has the limits of its edition
-pub slot-most : (edition : Edition) (P : ℕ) → P ≤ slotMost edition → P ≤ slot
+slot-most : (edition : Edition) (P : ℕ) → P ≤ slotMost edition → P ≤ slot
 slot-most One P h = omega arith
 slot-most Two P h = h
 slot-most Three P h = h
@@ -38,7 +39,8 @@ pub slot-three : (P : ℕ) → P ≤ slot → SlotWithin Three P
 slot-three P h = (zero-le, h)
 
 -- ---- the three bodies
-timing-to : (edition : Edition) (t : EnteredTiming) → AllInside (timingFields edition t) → ConstantsWithin t × SlotWithin edition (t .p)
+timing-to : (edition : Edition) (t : EnteredTiming) → AllInside (timingFields edition t)
+    → TimingWithin (withETG (t .etg) t) × (t .lag ≤ constant) × SlotWithin edition (t .p)
 timing-to edition t a =
     let limits : (i : ℕ) → i < layout.timingLength → (fieldAt (timingFields edition t) i .least ≤ fieldAt (timingFields edition t) i .word) × (fieldAt (timingFields edition t) i .word ≤ fieldAt (timingFields edition t) i .most) = λ i h. inside-if-within (fieldAt (timingFields edition t) i) .0 (a i h) in
     let (low, high) = limits 9 (omega arith) in (
@@ -50,21 +52,22 @@ timing-to edition t a =
         h = limits 4 (omega arith) .1;
         g = limits 5 (omega arith) .1;
         etg = limits 6 (omega arith) .1;
-        lag = limits 7 (omega arith) .1;
         some-bit = limits 8 (omega arith) .0;
         nb = limits 8 (omega arith) .1;
+        p = slot-most edition (t .p) high;
       },
+      limits 7 (omega arith) .1,
       (low, high),
     )
 
-timing-back : (edition : Edition) (t : EnteredTiming) → SlotWithin edition (t .p) → ConstantsWithin t → AllInside (timingFields edition t)
-timing-back edition t (low, high) w =
+timing-back : (edition : Edition) (t : EnteredTiming) → SlotWithin edition (t .p) → TimingWithin (withETG (t .etg) t) → t .lag ≤ constant → AllInside (timingFields edition t)
+timing-back edition t (low, high) w lag =
     shown Inside none-there
     (within-next zero-le (w .f)
     (within-next zero-le (w .e)
     (within-next zero-le (w .tfcs)
     (within-next zero-le (w .swx)
-    (within-next zero-le (w .h) (within-next zero-le (w .g) (within-next zero-le (w .etg) (within-next zero-le (w .lag) (within-next (w .some-bit) (w .nb) (within-next low high none))))))))))
+    (within-next zero-le (w .h) (within-next zero-le (w .g) (within-next zero-le (w .etg) (within-next zero-le lag (within-next (w .some-bit) (w .nb) (within-next low high none))))))))))
 
 stream-to : (nb : ℕ) (s : Stream) → AllInside (streamFields nb s) → StreamWithin nb s × (s .label .0 ≤ ticks)
 stream-to nb s a =
@@ -97,23 +100,24 @@ gap-to n e = let (a, b) = inside-if-within (gapField n) .0 e in record { some-ga
 
 pub inside-if-fields-within : InsideIfFieldsWithin
 unfolding fields
-inside-if-fields-within edition p =
-    let t = timingFields edition (p .timing) in
-    let s = flatMap (streamFields (p .timing .nb)) (p .streams) in
-    let g = map gapField (p .gaps) in (
+inside-if-fields-within edition v =
+    let t = timingFields edition (v .timing) in
+    let s = flatMap (streamFields (v .timing .nb)) (v .streams) in
+    let g = map gapField (v .gaps) in (
       λ a.
-          let each = flat-each Inside none-there blank (streamFields (p .timing .nb)) (p .streams) (all-front Inside none-there s g (all-back Inside none-there t (s ++ g) a)) in
-          let (timing, is) = timing-to edition (p .timing) (all-front Inside none-there t (s ++ g) a) in
+          let each = flat-each Inside none-there blank (streamFields (v .timing .nb)) (v .streams) (all-front Inside none-there s g (all-back Inside none-there t (s ++ g) a)) in
+          let (timing, lag, is) = timing-to edition (v .timing) (all-front Inside none-there t (s ++ g) a) in
           record {
             slot = is;
             timing = timing;
-            stream = λ k h. stream-to (p .timing .nb) (getD (p .streams) k blank) (each k h) .0;
-            label = λ k h. stream-to (p .timing .nb) (getD (p .streams) k blank) (each k h) .1;
-            gap = λ k h. gap-to (getD (p .gaps) k 0) (map-each Inside none-there 0 gapField (p .gaps) (all-back Inside none-there s g (all-back Inside none-there t (s ++ g) a)) k h);
+            lag = lag;
+            stream = λ k h. stream-to (v .timing .nb) (getD (v .streams) k blank) (each k h) .0;
+            label = λ k h. stream-to (v .timing .nb) (getD (v .streams) k blank) (each k h) .1;
+            gap = λ k h. gap-to (getD (v .gaps) k 0) (map-each Inside none-there 0 gapField (v .gaps) (all-back Inside none-there s g (all-back Inside none-there t (s ++ g) a)) k h);
           },
       λ w.
-          all-both Inside none-there t (s ++ g) (timing-back edition (p .timing) (w .slot) (w .timing))
+          all-both Inside none-there t (s ++ g) (timing-back edition (v .timing) (w .slot) (w .timing) (w .lag))
           (all-both Inside none-there s g
-          (flat-all Inside none-there blank (streamFields (p .timing .nb)) (p .streams) (λ k h. stream-back (p .timing .nb) (getD (p .streams) k blank) (w .stream k h) (w .label k h)))
-          (map-all Inside none-there 0 gapField (p .gaps) (λ k h. within (getD (p .gaps) k 0) 1 ticks (w .gap k h .some-gap) (w .gap k h .gap)))),
+          (flat-all Inside none-there blank (streamFields (v .timing .nb)) (v .streams) (λ k h. stream-back (v .timing .nb) (getD (v .streams) k blank) (w .stream k h) (w .label k h)))
+          (map-all Inside none-there 0 gapField (v .gaps) (λ k h. within (getD (v .gaps) k 0) 1 ticks (w .gap k h .some-gap) (w .gap k h .gap)))),
     )

@@ -90,24 +90,24 @@ unfolding flatMap
 length-streams nb [] = refl
 length-streams nb (s ∷ streams) = omega (arith, length-streams nb streams)
 
-module _ (edition : Edition) (p : Entered) where
-  pub timing-here : (k : ℕ) → lowest 0 (timingFields edition (p .timing)) ≡ At k → lowest 0 (fields edition p) ≡ At k
+module _ (edition : Edition) (v : Entered) where
+  pub timing-here : (k : ℕ) → lowest 0 (timingFields edition (v .timing)) ≡ At k → lowest 0 (fields edition v) ≡ At k
   unfolding fields
-  timing-here k e = append-at 0 k (timingFields edition (p .timing)) _ e
+  timing-here k e = append-at 0 k (timingFields edition (v .timing)) _ e
 
-  module _ (e : lowest 0 (timingFields edition (p .timing)) ≡ Nothing) where
-    pub streams-here : (k : ℕ) → lowest (layout.streamAt 0) (flatMap (streamFields (p .timing .nb)) (p .streams)) ≡ At k → lowest 0 (fields edition p) ≡ At k
+  module _ (e : lowest 0 (timingFields edition (v .timing)) ≡ Nothing) where
+    pub streams-here : (k : ℕ) → lowest (layout.streamAt 0) (flatMap (streamFields (v .timing .nb)) (v .streams)) ≡ At k → lowest 0 (fields edition v) ≡ At k
     unfolding fields
     streams-here k d =
-        append-none 0 (timingFields edition (p .timing)) _ e ∙ append-at (layout.streamAt 0) k (flatMap (streamFields (p .timing .nb)) (p .streams)) _ d
+        append-none 0 (timingFields edition (v .timing)) _ e ∙ append-at (layout.streamAt 0) k (flatMap (streamFields (v .timing .nb)) (v .streams)) _ d
 
-    pub gaps-left : lowest (layout.streamAt 0) (flatMap (streamFields (p .timing .nb)) (p .streams)) ≡ Nothing
-        → lowest 0 (fields edition p) ≡ lowest (layout.streamAt (length (p .streams))) (map gapField (p .gaps))
+    pub gaps-left : lowest (layout.streamAt 0) (flatMap (streamFields (v .timing .nb)) (v .streams)) ≡ Nothing
+        → lowest 0 (fields edition v) ≡ lowest (layout.streamAt (length (v .streams))) (map gapField (v .gaps))
     unfolding fields
     gaps-left d =
-        append-none 0 (timingFields edition (p .timing)) _ e
-        ∙ append-none (layout.streamAt 0) (flatMap (streamFields (p .timing .nb)) (p .streams)) _ d
-        ∙ ap (λ n. lowest (layout.streamAt 0 + n) (map gapField (p .gaps))) (length-streams (p .timing .nb) (p .streams))
+        append-none 0 (timingFields edition (v .timing)) _ e
+        ∙ append-none (layout.streamAt 0) (flatMap (streamFields (v .timing .nb)) (v .streams)) _ d
+        ∙ ap (λ n. lowest (layout.streamAt 0 + n) (map gapField (v .gaps))) (length-streams (v .timing .nb) (v .streams))
 
 -- ---- a loop over words with their limits beside them
 module _ (words least most : List ℕ) where

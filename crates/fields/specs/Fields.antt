@@ -9,10 +9,10 @@ use lib.ListN.{length, getD}
 use Rattle.names.specs.Limits.{constant, payload, acknowledgement, bits, slot, ticks}
 use Rattle.laws.specs.declared.Found.{Found, the-variants.At, the-variants.Nothing}
 use Rattle.plan.specs.declared.Stream.{Stream}
-use Rattle.plan.specs.Plan.{blank, StreamWithin, GapWithin}
+use Rattle.plan.specs.Plan.{blank, TimingWithin, StreamWithin, GapWithin}
 use Rattle.carried.specs.declared.Edition.{Edition, the-variants.One, the-variants.Two, the-variants.Three}
 use Rattle.carried.specs.declared.EnteredTiming.{EnteredTiming}
-use Rattle.carried.specs.Carried.{Entered, enteredWords}
+use Rattle.carried.specs.Carried.{Entered, withETG, enteredWords}
 
 -- a word that is entered, and the least and the most that it may be
 pub record Field : Type 0 where
@@ -111,24 +111,12 @@ InsideIfWithin = (f : Field) → (inside f ≡ true) ↔ ((f .least ≤ f .word)
 abbrev pub SlotWithin : Edition → ℕ → Type 0
 SlotWithin edition P = (slotLeast edition ≤ P) × (P ≤ slotMost edition)
 
--- F to LAG are 0 to 65,535, each by itself, and NB is 1 to 32
-pub record ConstantsWithin (t : EnteredTiming) : Type 0 where
-  pub f : t .f ≤ constant
-  pub e : t .e ≤ constant
-  pub tfcs : t .tfcs ≤ constant
-  pub swx : t .swx ≤ constant
-  pub h : t .h ≤ constant
-  pub g : t .g ≤ constant
-  pub etg : t .etg ≤ constant
-  pub lag : t .lag ≤ constant
-  pub some-bit : 1 ≤ t .nb
-  pub nb : t .nb ≤ bits
-
--- all fields are inside exactly if the timing, the streams and the gaps are within the limits, each label is a word, and P is within the
--- limits of the edition
+-- all fields are inside exactly if the timing without LAG, LAG by itself, the streams and the gaps are within the limits, each label is a
+-- word, and P is within the limits of the edition
 pub record FieldsWithin (edition : Edition) (v : Entered) : Type 0 where
   pub slot : SlotWithin edition (v .timing .p)
-  pub timing : ConstantsWithin (v .timing)
+  pub timing : TimingWithin (withETG (v .timing .etg) (v .timing))
+  pub lag : v .timing .lag ≤ constant
   pub stream : (k : ℕ) → k < length (v .streams) → StreamWithin (v .timing .nb) (getD (v .streams) k blank)
   pub label : (k : ℕ) → k < length (v .streams) → getD (v .streams) k blank .label .0 ≤ ticks
   pub gap : (k : ℕ) → k < length (v .gaps) → GapWithin (getD (v .gaps) k 0)

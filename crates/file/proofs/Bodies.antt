@@ -23,9 +23,9 @@ use Rattle.checks.proofs.Counts.{and-true}
 use Rattle.file.specs.File.{contents, fileWords, recordIn, enteredInBodies}
 
 -- ---- the words of a file
-pub length-words : (p : Entered) → length (fileWords p) ≡ layout.contentsLength + layout.gapAt (length (p .streams)) (length (p .gaps))
+pub length-words : (v : Entered) → length (fileWords v) ≡ layout.contentsLength + layout.gapAt (length (v .streams)) (length (v .gaps))
 unfolding fileWords
-length-words p = omega (arith, length-entered p)
+length-words v = omega (arith, length-entered v)
 
 -- of the plan that is meant by words that may have more after it: its timing has words of its own, and the others stand as they are
 pub words-meant : (n m : ℕ) (ws : List ℕ) → layout.gapAt n m ≤ length ws
@@ -78,25 +78,25 @@ words-of-plan ws n m long e =
 
 -- ---- the words of what is entered in the bodies, one by one
 module _ (edition : Edition) (n m : ℕ) (bodies : List ℕ) where
-  abbrev p : Entered
-  p = enteredInBodies edition n m bodies
+  abbrev v : Entered
+  v = enteredInBodies edition n m bodies
 
   abbrev pub valueAt : ℕ → ℕ
-  valueAt k = getD (enteredWords p) k 0
+  valueAt k = getD (enteredWords v) k 0
 
   in-timing : (k : ℕ) → k < layout.timingLength → valueAt k ≡ getD (take (layout.timingBody edition) bodies) k 0
   unfolding enteredInBodies rows
   in-timing k h =
       let ws = take (layout.timingBody edition) bodies in
-      List·getD-append (timingWords (enteredTimingIn ws)) (flatMap streamWords (p .streams) ++ p .gaps) 0 k h ∙ rows-at layout.timingLength (λ j. getD ws j 0) 0 k h
+      List·getD-append (timingWords (enteredTimingIn ws)) (flatMap streamWords (v .streams) ++ v .gaps) 0 k h ∙ rows-at layout.timingLength (λ j. getD ws j 0) 0 k h
 
   in-record : (r j : ℕ) → r < n → j < layout.streamLength
       → valueAt (layout.streamAt r + j) ≡ getD (take (layout.streamBody edition) (drop (layout.recordAt edition r) bodies)) j 0
   unfolding enteredInBodies rows
   in-record r j h g =
       let ws = take (layout.streamBody edition) (drop (layout.recordAt edition r) bodies) in
-      ap (λ l. getD l (layout.streamAt r + j) 0) (sym (append-nil (enteredWords p)))
-      ∙ stream-word p [] r j (omega (arith, length-at edition n m bodies)) g
+      ap (λ l. getD l (layout.streamAt r + j) 0) (sym (append-nil (enteredWords v)))
+      ∙ stream-word v [] r j (omega (arith, length-at edition n m bodies)) g
       ∙ ap (λ s. getD (streamWords s) j 0) (rows-at n (recordIn edition bodies) blank r h)
       ∙ rows-at layout.streamLength (λ j. getD ws j 0) 0 j g
 
@@ -104,9 +104,9 @@ module _ (edition : Edition) (n m : ℕ) (bodies : List ℕ) where
   unfolding enteredInBodies
   in-gaps i h =
       let (n-is, m-is) = length-at edition n m bodies in
-      ap (λ l. getD l (layout.gapAt n i) 0) (sym (append-nil (enteredWords p)))
-      ∙ ap (λ k. getD (enteredWords p ++ []) (layout.gapAt k i) 0) (sym n-is)
-      ∙ gap-word p [] i (omega arith)
+      ap (λ l. getD l (layout.gapAt n i) 0) (sym (append-nil (enteredWords v)))
+      ∙ ap (λ k. getD (enteredWords v ++ []) (layout.gapAt k i) 0) (sym n-is)
+      ∙ gap-word v [] i (omega arith)
       ∙ rows-at m (λ k. getD bodies (layout.recordAt edition n + k) 0) 0 i h
 
 -- a word past the end of those that were taken is 0

@@ -34,13 +34,13 @@ first-number edition n m bs (suc (suc zero)) h = omega arith
 first-number edition n m bs (suc (suc (suc i))) h = absurd (omega arith)
 
 -- no line of the values has a number below 3, nor is one a 6, which is for lent memory
-value-number : (edition : Edition) (p : Entered) (i : ℕ) → i < 5 → (3 ≤ lineAt (valueLines edition p) i .number) × (lineAt (valueLines edition p) i .number ≡ 6 → ⊥)
-value-number edition p zero h = (omega arith, λ e. omega arith)
-value-number edition p (suc zero) h = (omega arith, λ e. omega arith)
-value-number edition p (suc (suc zero)) h = (omega arith, λ e. omega arith)
-value-number edition p (suc (suc (suc zero))) h = (omega arith, λ e. omega arith)
-value-number edition p (suc (suc (suc (suc zero)))) h = (omega arith, λ e. omega arith)
-value-number edition p (suc (suc (suc (suc (suc i))))) h = absurd (omega arith)
+value-number : (edition : Edition) (v : Entered) (i : ℕ) → i < 5 → (3 ≤ lineAt (valueLines edition v) i .number) × (lineAt (valueLines edition v) i .number ≡ 6 → ⊥)
+value-number edition v zero h = (omega arith, λ e. omega arith)
+value-number edition v (suc zero) h = (omega arith, λ e. omega arith)
+value-number edition v (suc (suc zero)) h = (omega arith, λ e. omega arith)
+value-number edition v (suc (suc (suc zero))) h = (omega arith, λ e. omega arith)
+value-number edition v (suc (suc (suc (suc zero)))) h = (omega arith, λ e. omega arith)
+value-number edition v (suc (suc (suc (suc (suc i))))) h = absurd (omega arith)
 
 module _ (bs : List ℕ) (r : Refusal) where
   small : countsOf bs ≡ Counts·Refused r → r .number ≤ 2

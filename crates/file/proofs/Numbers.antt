@@ -32,10 +32,10 @@ pub place-is-offset : PlaceIsOffset
 place-is-offset bs edition n m e i h =
     let word : Field → ℕ = λ f. f .word in
     let bodies = drop layout.contentsLength (wordsOf bs) in
-    let p = enteredAt edition n m bs in
+    let v = enteredAt edition n m bs in
     let (n-is, m-is) = length-at edition n m bodies in
-    let value = ap (λ l. getD l i 0) (sym (words-are-carried edition p)) ∙ List·getD-map word (fields edition p) i (0 from 0 to 0) in
-    let among : i < layout.gapAt n m = omega (arith, length-fields edition p) in (
+    let value = ap (λ l. getD l i 0) (sym (words-are-carried edition v)) ∙ List·getD-map word (fields edition v) i (0 from 0 to 0) in
+    let among : i < layout.gapAt n m = omega (arith, length-fields edition v) in (
       refl,
       λ has. sym (getD-drop layout.contentsLength (wordsOf bs) (layout.inBodies edition n i) 0) ∙ sym (word-there edition n m bodies i among has) ∙ value,
       λ not. sym value ∙ word-not edition n m bodies i among not,

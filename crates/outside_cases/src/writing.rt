@@ -141,28 +141,10 @@ pub(crate) fn p1_file(at: usize, byte: u8, also: usize, other: u8) -> [u8; 168] 
     file
 }
 
-// The file of one stream: P3 has a period of 25, and P4 one of 24.
+// The file of P1's first stream by itself, with another period: 25 as in P3, 24 as in P4.
 pub(crate) fn one_file(period: u32) -> [u8; 112] {
     let mut file = [7; 112];
-    let words = [
-        4,
-        1,
-        1,
-        2,
-        1,
-        1,
-        2,
-        1,
-        4,
-        0,
-        655361,
-        1,
-        period,
-        0,
-        5,
-        1000,
-        0,
-    ];
+    let words = values(12, period);
     livnakesh_write(1, 0, &words, &mut file);
     file
 }

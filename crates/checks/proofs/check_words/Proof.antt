@@ -16,7 +16,7 @@ use Rattle.fields.proofs.Inside.{nothing-if-inside}
 use Rattle.fields.proofs.Limits.{inside-if-fields-within}
 use Rattle.checks.specs.Checks.{rangeLines, fieldLines, lagLines, rowLines, slotLines, lines}
 use Rattle.checks.proofs.Counts.{fine-range, carried-in-parts}
-use Rattle.checks.proofs.Fine.{byte-not, lag-fine, timing-meant}
+use Rattle.checks.proofs.Fine.{byte-not, lag-fine, another-etg}
 use borrow.Author.Needs.{needs}
 use Rattle.checks.proofs.check_words.Statement.{statement}
 use Rattle.checks.proofs.check_words.Tie as tie
@@ -83,7 +83,7 @@ module _ (b : tie.Start) where
         timing =
             let v = enteredIn (min n streams) (min m sources) ws in
             let w = inside-if-fields-within (b .args .edition) v .0 (nothing-if-inside 0 (fields (b .args .edition) v) .0 (byte-not (b .args .edition) _ _ (not-given _ _ inside .0))) in
-            timing-meant (b .args .edition) (enteredTimingIn ws) (w .timing) (w .slot) (lag-fine (enteredTimingIn ws) [] folds)
+            another-etg (enteredTimingIn ws) (w .timing) (lag-fine (enteredTimingIn ws) [] folds)
 
 returns : tie.Need-returns
 returns c = let p = c .before .before .before in sym (counts-refused (p .before) _ (sym (p .check-counts .ensures) ∙ c .before .r .given .1))
