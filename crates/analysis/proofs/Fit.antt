@@ -1,9 +1,10 @@
--- Lent terms within the limits: the theory's conditions hold, and every number fits its word. The bounds hold with room for 256 streams. Assumes nothing.
+-- Lent terms within the limits: the theory's conditions hold, and every number fits its word. Assumes nothing.
 use mathlib.Core.Path.{_≡_}
-use mathlib.Core.Bool.{true}
-use mathlib.Core.List.{List}
+use mathlib.Core.Bool.{true, false}
+use mathlib.Core.List.{List, []}
 use Prim.Native.Nat.{ℕ, _+_, _*_, _^_, _≤_, _<_}
 use native.Mathlib.Nat.{le-trans, zero-mul, mul-le-mul, mul-le-mul-right}
+use native.Mathlib.Decide.{decLe}
 use native.Mathlib.Omega.{arith}
 use lib.Dec.{T, leb}
 use lib.ListN.{getD}
@@ -11,14 +12,15 @@ use borrow.Author.Tests.{leb-true, ltb-true, eqb-true}
 use Rattle.names.specs.Limits.{sources, ticks}
 use Rattle.laws.specs.Lists.{ceil, sumOf}
 use Rattle.laws.proofs.Round.{ceil-le}
-use Rattle.laws.proofs.Lists.{sum-rows, sumTo-at-most, every-each}
+use Rattle.laws.proofs.Lists.{sum-rows, sumTo-at-most, every-none, every-each}
+use Rattle.laws.proofs.Rows.{is-false}
 use Rattle.laws.proofs.Tests.{both}
 use Rattle.bound.specs.Terms as Terms
 use Rattle.bound.specs.Bound.{E, demand, sideL}
 use Rattle.bound.specs.Claims.{Sound}
 use Rattle.bound.proofs.Sides.{demand-own}
 use Rattle.analysis.specs.declared.Gathered.{Gathered}
-use Rattle.analysis.specs.Gathered.{Lent, termsWith, termsOf, shareAt, gapOf, cost, shareFits, sourceFits, rowFits, fits}
+use Rattle.analysis.specs.Gathered.{Lent, lent, termsWith, termsOf, shareAt, gapOf, cost, shareFits, sourceFits, rowFits, fits, SideFits}
 use Rattle.analysis.specs.private.Chains.{ownL, restL, aloneTerms}
 use Rattle.analysis.specs.private.Fit.{FitShare, FitRow, Fit}
 
@@ -43,7 +45,7 @@ pub sideL-fits : (t : Lent) → Fit t → (x : ℕ) → x ≤ ticks → sideL (t
 unfolding sideL E demand most
 sideL-fits t f x h =
     let g = t .row in
-    let d : demand (termsOf t .urgent) x ≤ g .urgent * most = le-trans (le-of-eq (sum-rows _ (g .urgent) (shareAt t))) (sumTo-at-most _ most (g .urgent) (λ k p. part (getD (t .costs) k 0) (getD (t .periods) k 0) (getD (t .jitters) k 0) x (f .urgent k p) h)) in
+    let d : demand (termsOf t .urgent) x ≤ g .urgent * most = le-trans (le-of-eq (sum-rows _ (g .urgent) (shareAt t))) (sumTo-at-most _ most (g .urgent) (λ k p. part (shareAt t k .C″) (shareAt t k .T) (shareAt t k .J) x (f .urgent k p) h)) in
     let hits : sumOf (λ N. ceil x N) (termsOf t .gaps) ≤ g .sources * ticks = le-trans (le-of-eq (sum-rows _ (g .sources) (gapOf t))) (sumTo-at-most _ ticks (g .sources) (λ k p. le-trans (ceil-le x (gapOf t k) (f .some-gap k p)) h)) in
     let e : E (termsOf t) x ≤ sources * ticks * cost = mul-le-mul (le-trans hits (mul-le-mul-right ticks (f .row .quiet))) (f .row .hit) in
     omega (arith, demand-own (termsOf t .own) (termsOf t .urgent) x, part (g .cost) (g .period) (g .jitter) x (f .row .own) h, d, mul-le-mul-right most (f .row .few), e, f .row .blocking)
@@ -101,7 +103,7 @@ unfolding fits
 fit-known t e =
     let (e2, each) = both _ _ e in
     let (row, urgent) = both _ _ e2 in
-    let source : (k : ℕ) → k < t .row .sources → (1 ≤ gapOf t k) × (gapOf t k ≤ ticks) × (getD (t .costs) (t .row .urgent + k) 0 ≡ t .row .hit) =
+    let source : (k : ℕ) → k < t .row .sources → (1 ≤ gapOf t k) × (gapOf t k ≤ ticks) × (getD (t .costs) k 0 ≡ t .row .hit) =
     λ k h. source-known _ _ _ (every-each _ (t .row .sources) each k h) in
     record {
       row = row-known (t .row) row;
@@ -110,3 +112,21 @@ fit-known t e =
       gap = λ k h. source k h .1;
       each = λ k h. source k h .2;
     }
+
+pub side-fits : SideFits
+side-fits t e = sideL-fits t (fit-known t e)
+
+-- ---- nobody else is on the channel, and nothing is lent
+pub lone-fits : (g : Gathered) → rowFits g ≡ true → g .sources + g .urgent ≡ 0 → fits (lent g [] [] []) ≡ true
+unfolding fits
+lone-fits g row none =
+    let s : g .sources ≡ 0 = omega arith in
+    let u : g .urgent ≡ 0 = omega arith in
+    simp (row, u, s, every-none (λ k. shareFits (shareAt (lent g [] [] []) k)), every-none (λ k. sourceFits (g .hit) 0 0))
+
+-- what is not lent is 0, and no period and no gap is
+pub lone-outside : (g : Gathered) → (g .sources + g .urgent ≡ 0 → ⊥) → fits (lent g [] [] []) ≡ false
+lone-outside g some = is-false _ (λ e. never (fit-known (lent g [] [] []) e))
+  where
+    never : Fit (lent g [] [] []) → ⊥
+    never f = elim (decLe 1 (g .sources)) [ yes h ↦ omega (arith, f .some-gap 0 h) | no h ↦ omega (arith, f .urgent 0 (omega (arith, some, h)) .some) ]

@@ -1,19 +1,20 @@
 -- What a row's gathered terms are, when they are within the limits, and what is then answered.
-use mathlib.Core.Bool.{Bool, cond, _&&_}
-use Prim.Native.Nat.{ℕ, _+_}
+use mathlib.Core.Bool.{Bool, true, cond, _&&_}
+use mathlib.Core.Path.{_≡_}
+use Prim.Native.Nat.{ℕ, _+_, _^_, _≤_, _<_}
 use mathlib.Core.List.{List}
 use lib.ListN.{getD}
 use lib.Dec.{leb, ltb, eqb}
 use Rattle.names.specs.Limits.{streams, sources, ticks}
 use Rattle.laws.specs.Lists.{rows, every}
 use Rattle.bound.specs.Terms.{Share, Terms}
-use Rattle.bound.specs.Bound.{answer}
+use Rattle.bound.specs.Bound.{sideL, answer}
 use Rattle.analysis.specs.declared.Gathered.{Gathered}
 use Rattle.analysis.specs.declared.Answered.{Answered, the-variants.Outside, the-variants.Exact}
 
--- how many costs and periods are lent: a stair for each more urgent stream, and after them one for each noise source
+-- how many costs and periods are lent: a stair for each noise source, and after them one for each more urgent stream
 abbrev pub stairs : ℕ
-stairs = streams + sources
+stairs = sources + streams
 
 -- a row's own terms, and what is lent beside them
 pub record Lent : Type 0 where
@@ -25,12 +26,13 @@ pub record Lent : Type 0 where
 abbrev pub lent : Gathered → List ℕ → List ℕ → List ℕ → Lent
 lent g costs periods jitters = record { row = g; costs = costs; periods = periods; jitters = jitters }
 
--- the share of a stream of hp(i), and the gap of a noise source, which stands after them
-abbrev pub shareAt : Lent → ℕ → Share
-shareAt t k = record { C″ = getD (t .costs) k 0; T = getD (t .periods) k 0; J = getD (t .jitters) k 0 }
-
+-- the gap of a noise source, and the share of a stream of hp(i), which stands after the noise sources; only streams have a jitter
 abbrev pub gapOf : Lent → ℕ → ℕ
-gapOf t k = getD (t .periods) (t .row .urgent + k) 0
+gapOf t k = getD (t .periods) k 0
+
+abbrev pub shareAt : Lent → ℕ → Share
+shareAt t k =
+    record { C″ = getD (t .costs) (t .row .sources + k) 0; T = getD (t .periods) (t .row .sources + k) 0; J = getD (t .jitters) k 0 }
 
 -- a row's own terms, with the shares of hp(i) and the gaps
 abbrev pub termsWith : Gathered → List Share → List ℕ → Terms
@@ -75,9 +77,9 @@ rowFits g =
 abbrev pub sharesFit : Lent → Bool
 sharesFit t = every (t .row .urgent) (λ k. shareFits (shareAt t k))
 
--- the noise sources, which stand after the streams of hp(i), are within the limits
+-- the noise sources are within the limits
 abbrev pub sourcesFit : Gathered → List ℕ → List ℕ → Bool
-sourcesFit g costs periods = every (g .sources) (λ k. sourceFits (g .hit) (getD costs (g .urgent + k) 0) (getD periods (g .urgent + k) 0))
+sourcesFit g costs periods = every (g .sources) (λ k. sourceFits (g .hit) (getD costs k 0) (getD periods k 0))
 
 -- the terms are within the limits
 unfoldable pub fits : Lent → Bool
@@ -86,3 +88,13 @@ fits t = rowFits (t .row) && sharesFit t && sourcesFit (t .row) (t .costs) (t .p
 -- the answer of the row's terms for the deadline D, where they are within the limits
 abbrev pub answered : Lent → ℕ → Answered
 answered t D = cond (fits t) (Exact (answer (termsOf t) D)) Outside
+
+-- ---- What is proved of terms within the limits; the proofs are in proofs/Fit.antt and proofs/Most.antt.
+
+-- L's right side fits a word of 64 bits up to the last L that is looked for, and with it every number of that search, ..
+abbrev pub SideFits : Type 0
+SideFits = (t : Lent) → fits t ≡ true → (x : ℕ) → x ≤ ticks → sideL (termsOf t) x < 2 ^ 64
+
+-- .. and no word of 63 bits will do: 256 streams of 5,000,000 ticks may ask for more than 10^19
+abbrev pub SideNeedsAll : Type 0
+SideNeedsAll = (t : Lent) × (fits t ≡ true) × (10 ^ 19 < sideL (termsOf t) ticks)

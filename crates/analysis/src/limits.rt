@@ -25,13 +25,15 @@ fn shares_fit<'a>(
     jitters: &'a [u64; STREAMS],
 ) -> bool
     requires { ⌜ g .urgent ≤ streams ⌝ }
+    requires { ⌜ g .sources ≤ sources ⌝ }
     ensures { λ r. ⌜ r ≡ sharesFit (lent g (now (costs .entry)) (now (periods .entry)) (now (jitters .entry))) ⌝ }
 {
+    let from = g.sources;
     let n = g.urgent;
     let mut all = true;
     let mut k: usize = 0;
     while k < n {
-        all = all & share_fits(costs[k], periods[k], jitters[k]);
+        all = all & share_fits(costs[from + k], periods[from + k], jitters[k]);
         k += 1;
     }
     all
@@ -45,23 +47,21 @@ fn source_fits(hit: u64, each: u64, gap: u64) -> bool
 }
 
 fn sources_fit(g: Gathered, costs: &[u64; STAIRS], periods: &[u64; STAIRS]) -> bool
-    requires { ⌜ g .urgent ≤ streams ⌝ }
     requires { ⌜ g .sources ≤ sources ⌝ }
     ensures { λ r. ⌜ r ≡ sourcesFit g (now (costs .entry)) (now (periods .entry)) ⌝ }
 {
-    let from = g.urgent;
     let n = g.sources;
     let hit = g.hit;
     let mut all = true;
     let mut k: usize = 0;
     while k < n {
-        all = all & source_fits(hit, costs[from + k], periods[from + k]);
+        all = all & source_fits(hit, costs[k], periods[k]);
         k += 1;
     }
     all
 }
 
-fn row_fits(g: Gathered) -> bool
+pub(crate) fn row_fits(g: Gathered) -> bool
     ensures { λ r. ⌜ r ≡ rowFits g ⌝ }
 {
     (g.blocking <= COST)

@@ -88,8 +88,8 @@ fn busy_period<'a>(
     ensures { λ r. ⌜ r ≡ rule.busy (termsOf (lent g (now (costs .entry)) (now (periods .entry)) (now (jitters .entry)))) ⌝ }
     ensures { λ _. ⌜ length (now (edges .exit)) ≡ most ⌝ }
 {
-    let n = g.urgent + g.sources;
-    start_edges(jitters, g.urgent, n, 0, 0, edges);
+    let n = g.sources + g.urgent;
+    start_edges(jitters, g.sources, g.urgent, 0, 0, edges);
     let mut nearest = [0; LOTS];
     let mut own = own_start(g);
     let mut rest: u64 = 0;
@@ -189,8 +189,8 @@ fn largest_term<'a>(
     ensures { λ r. ⌜ r .bound ≡ rule.bound (termsOf (lent g (now (costs .entry)) (now (periods .entry)) (now (jitters .entry)))) l ⌝ }
     ensures { λ r. ⌜ r .instance ≡ rule.worst (termsOf (lent g (now (costs .entry)) (now (periods .entry)) (now (jitters .entry)))) l ⌝ }
 {
-    let n = g.urgent + g.sources;
-    start_edges(jitters, g.urgent, n, g.late + 1, g.cost, edges);
+    let n = g.sources + g.urgent;
+    start_edges(jitters, g.sources, g.urgent, g.late + 1, g.cost, edges);
     let count = instances(l, g.jitter, g.period);
     let ends = g.jitter + g.last;
     let cost = g.cost;
@@ -279,7 +279,7 @@ pub(crate) fn answer_among<'a>(
     requires { ⌜ Fit (lent g (now costs) (now periods) (now jitters)) ⌝ }
     ensures { λ r. ⌜ r ≡ rule.answer (termsOf (lent g (now (costs .entry)) (now (periods .entry)) (now (jitters .entry)))) deadline ⌝ }
 {
-    let mut edges = [START; STAIRS];
+    let mut edges = [0; STAIRS];
     let found = busy_period(g, costs, periods, jitters, &mut edges);
     let Found::At(l) = found else {
         return Answer {

@@ -1,10 +1,10 @@
-// A right side as stairs, one for each more urgent stream and noise source: where they start, and how they go on to x.
+// A right side as stairs, one for each noise source and each more urgent stream: where they start, and how they go on to x.
 //
 // Stairs stand in lots, so that those which do not rise are passed over eight at a time.
 ghost use mathlib.Core.Path.{_≡_};
 ghost use Prim.Native.Nat.{ℕ, _+_, _-_, _≤_, _<_, min};
 ghost use lib.ListN.{length, getD};
-ghost use Rattle.names.specs.Limits.{streams, ticks};
+ghost use Rattle.names.specs.Limits.{streams, sources, ticks};
 ghost use Rattle.laws.specs.Lists.{ceil};
 ghost use Rattle.analysis.specs.Gathered.{stairs as most, cost};
 ghost use Rattle.analysis.specs.private.Stairs.{far, lots, height, Due, Risen, NoEdgeBefore, Near, NewNearest, LotEnds, Moved};
@@ -163,54 +163,59 @@ pub(crate) fn climbed(
     total
 }
 
-// A stream's stair starts its jitter and `late` before time's start.
-fn start_streams(jitters: &[u64; STREAMS], n: usize, late: u64, edges: &mut [u64; STAIRS])
-    requires { ⌜ n ≤ streams ⌝ }
-    requires { ⌜ late ≤ cost ⌝ }
-    requires { ⌜ ((k : ℕ) → k < n → getD (now jitters) k 0 ≤ ticks) ⌝ }
-    requires { ⌜ length (now edges) ≡ most ⌝ }
-    ensures { λ _. ⌜ StreamsStarted (now (jitters .entry)) n late (now (edges .exit)) ⌝ }
-{
-    let mut k: usize = 0;
-    while k < n {
-        edges[k] = START - (jitters[k] + late);
-        k += 1;
-    }
-}
-
 // A noise source's stair starts `window` before time's start.
-fn start_sources(from: usize, n: usize, window: u64, edges: &mut [u64; STAIRS])
-    requires { ⌜ from ≤ n ⌝ }
+fn start_sources(n: usize, window: u64, edges: &mut [u64; STAIRS])
     requires { ⌜ n ≤ most ⌝ }
     requires { ⌜ window ≤ cost ⌝ }
     requires { ⌜ length (now edges) ≡ most ⌝ }
-    ensures { λ _. ⌜ SourcesStarted from n window (now (edges .entry)) (now (edges .exit)) ⌝ }
+    ensures { λ _. ⌜ SourcesStarted n window (now (edges .exit)) ⌝ }
 {
-    let mut k = from;
+    let mut k: usize = 0;
     while k < n {
         edges[k] = START - window;
         k += 1;
     }
 }
 
-// Where all stairs start: those of the streams, and the noise sources' after them.
+// A stream's stair starts its jitter and `late` before time's start.
+fn start_streams(
+    jitters: &[u64; STREAMS],
+    from: usize,
+    n: usize,
+    late: u64,
+    edges: &mut [u64; STAIRS],
+)
+    requires { ⌜ from ≤ sources ⌝ }
+    requires { ⌜ n ≤ streams ⌝ }
+    requires { ⌜ late ≤ cost ⌝ }
+    requires { ⌜ ((k : ℕ) → k < n → getD (now jitters) k 0 ≤ ticks) ⌝ }
+    requires { ⌜ length (now edges) ≡ most ⌝ }
+    ensures { λ _. ⌜ StreamsStarted (now (jitters .entry)) from n late (now (edges .entry)) (now (edges .exit)) ⌝ }
+{
+    let mut k: usize = 0;
+    while k < n {
+        edges[from + k] = START - (jitters[k] + late);
+        k += 1;
+    }
+}
+
+// Where all stairs start: those of the noise sources, and the streams' after them.
 pub(crate) fn start_edges(
     jitters: &[u64; STREAMS],
+    from: usize,
     urgent: usize,
-    n: usize,
     late: u64,
     window: u64,
     edges: &mut [u64; STAIRS],
 )
+    requires { ⌜ from ≤ sources ⌝ }
     requires { ⌜ urgent ≤ streams ⌝ }
-    requires { ⌜ urgent ≤ n ⌝ }
-    requires { ⌜ n ≤ most ⌝ }
     requires { ⌜ late ≤ cost ⌝ }
     requires { ⌜ window ≤ cost ⌝ }
     requires { ⌜ ((k : ℕ) → k < urgent → getD (now jitters) k 0 ≤ ticks) ⌝ }
     requires { ⌜ length (now edges) ≡ most ⌝ }
-    ensures { λ _. ⌜ Started (now (jitters .entry)) urgent n late window (now (edges .exit)) ⌝ }
+    ensures { λ _. ⌜ Started (now (jitters .entry)) from urgent late window (now (edges .exit)) ⌝ }
 {
-    start_streams(jitters, urgent, late, edges);
-    start_sources(urgent, n, window, edges);
+    start_sources(from, window, edges);
+    start_streams(jitters, from, urgent, late, edges);
 }

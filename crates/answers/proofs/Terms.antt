@@ -1,22 +1,27 @@
--- What was gathered are the terms of the rules, and within the analysis' limits. Assumes nothing.
+-- A row's own terms, and the streams in order before which hits and gaps stand, are the terms of the rules, and within the analysis' limits. Assumes nothing.
 use mathlib.Core.Path.{_≡_, refl, sym, ap, ap₂, _∙_}
-use mathlib.Core.Bool.{true}
-use mathlib.Core.List.{List, map, map-map}
-use Prim.Native.Nat.{ℕ, max, _+_, _-_, _^_, _≤_, _<_}
+use mathlib.Core.Bool.{true, false, cond}
+use mathlib.Core.List.{List, [], map}
+use Prim.Native.Nat.{ℕ, max, _+_, _-_, _*_, _^_, _≤_, _<_}
+use native.Mathlib.Nat.{le-refl}
 use native.Mathlib.Omega.{arith}
-use borrow.Author.Tests.{le-leb, lt-ltb, eq-eqb}
+use borrow.Author.Tests.{le-leb, lt-ltb, le-ltb, eq-eqb}
 use lib.Dec.{ltb}
 use lib.ListN.{getD}
 use Rattle.names.specs.Limits.{streams, sources}
-use Rattle.laws.specs.Lists.{largestOf, rows}
-use Rattle.laws.proofs.Lists.{largest-those, largest-map, rows-map, rows-same, every-all}
+use Rattle.laws.specs.Lists.{ceil, sumTo, largestOf, those, rows}
+use Rattle.laws.specs.Ranks.{rank}
+use Rattle.laws.proofs.Lists.{largest-those, length-rows, rows-at, rows-same, every-all, sum-rows, sumTo-same}
+use Rattle.laws.proofs.Ranks.{rank-below, rank-less, rank-apart, rank-onto, sum-in-order, sum-front, sum-map-those, largest-same}
 use Rattle.bound.specs.Terms as bound
-use Rattle.bound.specs.Bound.{answer}
+use Rattle.bound.specs.Bound.{demand, answer}
 use Rattle.bound.specs.Claims.{Sound}
 use Rattle.bound.specs.declared.Answer.{Answer}
+use Rattle.bound.proofs.Same.{instead, same-answer}
 use Rattle.analysis.specs.declared.Gathered.{Gathered}
 use Rattle.analysis.specs.declared.Answered.{Answered, the-variants.Outside, the-variants.Exact}
-use Rattle.analysis.specs.Gathered.{Lent, lent, termsOf, cost, shareFits, sourceFits, rowFits, fits, answered}
+use Rattle.analysis.specs.Gathered.{Lent, lent, termsOf, shareAt, cost, shareFits, sourceFits, rowFits, fits, answered}
+use Rattle.analysis.proofs.Fit.{lone-fits}
 use Rattle.plan.specs.declared.Timing.{Timing}
 use Rattle.plan.specs.declared.Stream.{Stream}
 use Rattle.plan.specs.Plan.{Plan}
@@ -24,154 +29,242 @@ use Rattle.plan.specs.Rules as rule
 use Rattle.plan.proofs.Rules.{terms-sound}
 use Rattle.carried.specs.Layout as layout
 use Rattle.carried.specs.Carried.{enteredIn, timingIn, planIn}
-use Rattle.costs.specs.declared.Overheads.{Overheads}
-use Rattle.costs.specs.Costs.{Overhead}
 use Rattle.answers.specs.declared.Others.{Others}
-use Rattle.answers.specs.private.Gather.{PlacesWithin, Gathers, Extremes, Slotted, After, RowTerms, sent, blocks, shareOf, lentShare, rowStream}
-use Rattle.answers.proofs.Gather.{fits-here, either-within, fits-either}
+use Rattle.answers.specs.private.Gather.{PlacesWithin, Tolls, Column, Extremes, Slotted, InOrder, Before, RowOf, RowTerms, sent, shareOf, urgency, rowStream}
+use Rattle.answers.proofs.Gather.{place-is, fits-here, either-within}
 
-module _ (ws : List ℕ) (n m k : ℕ) (c : Overheads) (slot : ℕ) (fine : PlacesWithin ws n m) (framed : Overhead (timingIn ws) c)
-    (slot-is : slot ≡ timingIn ws .p) (among : k < n) where
+module _ (ws : List ℕ) (n m : ℕ) (u all late slot : ℕ) (fine : PlacesWithin ws n m) (tolls : Tolls (timingIn ws) u all late slot) where
   abbrev t : Timing
   t = timingIn ws
 
   abbrev p : Plan
   p = planIn n m ws
 
-  abbrev i : Stream
-  i = rowStream ws k
-
   few-ticks : slot ≤ cost
-  few-ticks = omega (arith, slot-is, fine .timing .p)
+  few-ticks = omega (arith, tolls .slot-is, fine .timing .p)
 
   -- without slots and with them
   either-is : {x y a b : ℕ} → x ≡ a → y ≡ b → rule.selfOrSlotted slot x y ≡ rule.selfOrSlotted (t .p) a b
-  either-is e d = λ z. rule.selfOrSlotted (slot-is z) (e z) (d z)
+  either-is e d = λ z. rule.selfOrSlotted (tolls .slot-is z) (e z) (d z)
 
-  blocking-is : largestOf (blocks (c .u) (i .priority)) (rows n (rowStream ws)) ≡ largestOf (λ j. rule.C′ t j - 1) (rule.lp p i)
-  unfolding enteredIn
-  blocking-is =
-      largest-those (λ j. sent j + c .u - 1) (λ j. ltb (i .priority .0) (j .priority .0)) (rows n (rowStream ws))
-      ∙ ap (λ u. largestOf (λ j. sent j + u - 1) (rule.lp p i)) (framed .u-is)
+  whole-is : (j : Stream) → all + sent j ≡ rule.C″ t j
+  whole-is j = omega (arith, tolls .all-is)
 
-  whole-is : (j : Stream) → c .lead + c .u + sent j ≡ rule.C″ t j
-  whole-is j = omega (arith, framed .lead-is, framed .u-is)
+  whole-within : (k : ℕ) → k < n → all + sent (rowStream ws k) ≤ cost
+  whole-within k h = let w = fine .rows .stream k h in omega (arith, tolls .most, w .payload, w .acknowledgement)
 
-  whole-within : c .lead + c .u + sent i ≤ cost
-  whole-within = omega (arith, framed .little, framed .small, fine .rows .stream k among .payload, fine .rows .stream k among .acknowledgement)
+  -- ---- row k
+  module _ (k : ℕ) (among : k < n) where
+    abbrev i : Stream
+    i = rowStream ws k
 
-  -- a share once its cost is the airtime
-  abbrev aired : bound.Share → bound.Share
-  aired j = record { C″ = rule.selfOrSlotted slot (j .C″) slot; T = j .T; J = j .J }
+    abbrev place : ℕ
+    place = rank (urgency ws) n k
 
-  urgent-is : map aired (map (shareOf (c .lead + c .u)) (rule.hp p i)) ≡ map (rule.share t) (rule.hp p i)
-  urgent-is =
-      map-map aired (shareOf (c .lead + c .u)) (rule.hp p i)
-      ∙ ap (λ f. map f (rule.hp p i)) (λ x j. record { C″ = either-is (whole-is j) slot-is x; T = j .period; J = j .jitter })
+    -- ---- its own terms
+    module _ (ps ms : List ℕ) (cp : Column (λ j. j .priority .0) ws n ps) (cm : Column sent ws n ms) (found o : Others) (q mine whole own period jitter : ℕ)
+        (eq : q ≡ urgency ws k) (em : mine ≡ sent i) (ew : whole ≡ all + mine) (eo : own ≡ rule.selfOrSlotted slot whole slot)
+        (ex : Extremes ps ms n q u all (all + mine) found) (es : Slotted slot found o)
+        (et : (period ≡ i .period) × (period < 2 ^ 32)) (ej : (jitter ≡ i .jitter) × (jitter < 2 ^ 32)) where
+      abbrev row : Gathered
+      row = record { blocking = o .blocking; cost = own; period = period; jitter = jitter; urgent = o .urgent; sources = m; hit = o .hit; late = late; last = whole }
 
-  module _ (costs₀ periods₀ jitters costs₁ costs periods : List ℕ) (found o : Others) (whole own period jitter : ℕ)
-      (ew : whole ≡ c .lead + c .u + sent i) (eo : own ≡ rule.selfOrSlotted slot whole slot)
-      (eg : Gathers ws n (i .priority) (c .lead + c .u) costs₀ periods₀ jitters (found .urgent))
-      (ex : Extremes ws n (i .priority) (c .u) (c .lead + c .u + sent i) costs₀ found) (es : Slotted slot found costs₀ costs₁ o)
-      (ec : After (λ j. o .hit) m (o .urgent) costs₁ costs) (ep : After (λ j. getD ws (layout.streamAt n + j) 0) m (o .urgent) periods₀ periods)
-      (et : (period ≡ i .period) × (period < 2 ^ 32)) (ej : (jitter ≡ i .jitter) × (jitter < 2 ^ 32)) where
-    abbrev row : Gathered
-    row = record { blocking = o .blocking; cost = own; period = period; jitter = jitter; urgent = o .urgent; sources = m; hit = o .hit; late = c .late; last = whole }
+      last-is : whole ≡ rule.C″ t i
+      last-is = ew ∙ ap (λ z. all + z) em ∙ whole-is i
 
-    abbrev given : Lent
-    given = lent row costs periods jitters
+      own-is : own ≡ rule.airtime t i
+      own-is = eo ∙ either-is last-is (tolls .slot-is)
 
-    -- a share of hp(i), once the slots stand in the costs and the noise after them
-    share-at : (j : ℕ) → j < o .urgent → lentShare costs periods jitters j ≡ aired (lentShare costs₀ periods₀ jitters j)
-    share-at j h = rw (ec .front j h, ep .front j h, es .costs j (omega (arith, es .urgent))) refl
+      blocking-is : found .blocking ≡ largestOf (λ j. rule.C′ t j - 1) (rule.lp p i)
+      unfolding enteredIn
+      blocking-is =
+          ex .blocking
+          ∙ largest-same _ (λ j. cond (ltb (i .priority .0) (j .priority .0)) (rule.C′ t j - 1) 0) (rowStream ws) n
+          (λ j h. λ z. cond (ltb (eq z) (cp .is j h z)) (cm .is j h z + tolls .u-is z - 1) 0)
+          ∙ largest-those (λ j. rule.C′ t j - 1) (λ j. ltb (i .priority .0) (j .priority .0)) (rows n (rowStream ws))
 
-    shares-are : rows (o .urgent) (lentShare costs periods jitters) ≡ map (rule.share t) (rule.hp p i)
-    unfolding enteredIn
-    shares-are =
-        rows-same (o .urgent) _ _ share-at
-        ∙ ap (λ r. rows r (λ j. aired (lentShare costs₀ periods₀ jitters j))) (es .urgent)
-        ∙ sym (rows-map aired (found .urgent) (lentShare costs₀ periods₀ jitters))
-        ∙ ap (map aired) (eg .is)
-        ∙ urgent-is
+      blocked-is : o .blocking ≡ rule.B p i
+      unfolding rule.B enteredIn
+      blocked-is = es .blocking ∙ either-is blocking-is (ap (λ s. s - 1) (tolls .slot-is))
 
-    costs-are : largestOf (λ x. x) (rows (found .urgent) (λ j. getD costs₀ j 0)) ≡ largestOf (rule.C″ t) (rule.hp p i)
-    unfolding enteredIn
-    costs-are =
-        ap (largestOf (λ x. x)) (sym (rows-map (λ (j : bound.Share). j .C″) (found .urgent) (lentShare costs₀ periods₀ jitters)))
-        ∙ largest-map (λ x. x) (λ (j : bound.Share). j .C″) (rows (found .urgent) (lentShare costs₀ periods₀ jitters))
-        ∙ ap (largestOf (λ (j : bound.Share). j .C″)) (eg .is)
-        ∙ largest-map (λ (j : bound.Share). j .C″) (shareOf (c .lead + c .u)) (rule.hp p i)
-        ∙ ap (λ f. largestOf f (rule.hp p i)) (λ x j. whole-is j x)
+      dearest-is : largestOf (λ j. cond (ltb (getD ps j 0) q) (all + getD ms j 0) 0) (rows n (λ j. j)) ≡ largestOf (rule.C″ t) (rule.hp p i)
+      unfolding enteredIn
+      dearest-is =
+          largest-same _ (λ j. cond (ltb (j .priority .0) (i .priority .0)) (rule.C″ t j) 0) (rowStream ws) n
+          (λ j h. ap₂ (λ a b. cond (ltb a b) (all + getD ms j 0) 0) (cp .is j h) eq ∙ ap (λ c. cond (ltb (urgency ws j) (i .priority .0)) c 0) (ap (λ z. all + z) (cm .is j h) ∙ whole-is (rowStream ws j)))
+          ∙ largest-those (rule.C″ t) (λ j. ltb (j .priority .0) (i .priority .0)) (rows n (rowStream ws))
 
-    last-is : whole ≡ rule.C″ t i
-    last-is = ew ∙ whole-is i
+      hit-is : o .hit ≡ rule.hit p i
+      unfolding rule.hit largestOf enteredIn
+      hit-is = es .hit ∙ either-is (ex .hit ∙ ap₂ max (ap (λ z. all + z) em ∙ whole-is i) dearest-is) (tolls .slot-is)
 
-    own-is : own ≡ rule.airtime t i
-    own-is = eo ∙ either-is last-is slot-is
+      urgent-is : o .urgent ≡ place
+      urgent-is = es .urgent ∙ ex .urgent ∙ place-is ws n k q ps cp eq
 
-    blocked-is : o .blocking ≡ rule.B p i
-    unfolding rule.B enteredIn
-    blocked-is = es .blocking ∙ either-is (ex .blocking ∙ blocking-is) (ap (λ s. s - 1) slot-is)
+      own-sound : Sound (rule.terms p i)
+      unfolding enteredIn
+      own-sound = terms-sound p i (fine .rows .stream k among) (fine .slots k among)
 
-    hit-is : o .hit ≡ rule.hit p i
-    unfolding rule.hit largestOf enteredIn
-    hit-is = es .hit ∙ either-is (ex .hit ∙ ap₂ max (whole-is i) costs-are) slot-is
+      row-fits : rowFits row ≡ true
+      unfolding rowFits rule.terms enteredIn
+      row-fits =
+          let h : o .hit ≤ cost = rw (es .hit) (either-within slot (ex .small) few-ticks) in
+          let b : o .blocking ≤ cost = rw (es .blocking) (either-within slot (ex .little) (omega (arith, few-ticks))) in
+          let each : own ≤ cost = rw eo (either-within slot (omega (arith, ew, em, whole-within k among)) few-ticks) in
+          simp (
+            le-leb (o .blocking) cost b,
+            le-leb (o .hit) cost h,
+            lt-ltb late own (omega (arith, own-sound .late, own-is, tolls .late-is)),
+            le-leb 1 whole (omega (arith, own-sound .ends, last-is)),
+            le-leb whole own (omega (arith, own-sound .last, last-is, own-is)),
+            le-leb (o .urgent) streams (omega (arith, urgent-is, rank-below (urgency ws) n k among, fine .rows .few)),
+            le-leb m sources (fine .quiet),
+            fits-here {a = own} {b = period} {d = jitter} each et ej (fine .rows .stream k among .some-period),
+          )
 
-    terms-are : termsOf given ≡ rule.terms p i
-    unfolding rule.terms enteredIn
-    terms-are = λ j.
+      pub row-of : RowOf ws n m k row
+      row-of =
+          record {
+            fits = row-fits;
+            urgent = urgent-is;
+            sources = refl;
+            blocking = blocked-is;
+            cost = own-is;
+            period = et .0;
+            jitter = ej .0;
+            hit = hit-is;
+            late = tolls .late-is;
+            last = last-is;
+          }
+
+    -- ---- with the streams in order beside them
+    module _ (g : Gathered) (costs₀ costs periods jitters : List ℕ) (own : RowOf ws n m k g) (o : InOrder ws n m slot all n costs periods jitters)
+        (hits : Before (λ j. g .hit) m costs₀ costs) (gaps : (j : ℕ) → j < m → getD periods j 0 ≡ getD ws (layout.gapAt n j) 0) where
+      abbrev given : Lent
+      given = lent g costs periods jitters
+
+      -- the share in the place of row j is the rules'
+      share-in-place : (j : ℕ) → j < n → shareAt given (rank (urgency ws) n j) ≡ rule.share t (rowStream ws j)
+      share-in-place j h =
+          λ z.
+          record {
+            C″ = (ap (λ s. getD costs (s + rank (urgency ws) n j) 0) (own .sources) ∙ o .cost j h ∙ either-is (whole-is (rowStream ws j)) (tolls .slot-is)) z;
+            T = (ap (λ s. getD periods (s + rank (urgency ws) n j) 0) (own .sources) ∙ o .period j h) z;
+            J = o .jitter j h z;
+          }
+
+      -- what hp(i) asks for is what the front of them asks for, since a row's place is before that of i exactly if it is more urgent
+      same-demand : (x : ℕ) → demand (termsOf given .urgent) x ≡ demand (map (rule.share t) (rule.hp p i)) x
+      unfolding demand enteredIn
+      same-demand x =
+          let asks : bound.Share → ℕ = λ j. ceil (x + j .J) (j .T) * j .C″ in
+          let q = rank (urgency ws) n in
+          sum-rows asks (g .urgent) (shareAt given)
+          ∙ ap (sumTo (λ a. asks (shareAt given a))) (own .urgent)
+          ∙ sym (sum-front (λ a. asks (shareAt given a)) place n (omega (arith, rank-below (urgency ws) n k among)))
+          ∙ sym (sum-in-order q n (rank-below (urgency ws) n) (rank-apart (urgency ws) n (fine .rows .apart)) (λ a. cond (ltb a place) (asks (shareAt given a)) 0))
+          ∙ sumTo-same _ _ n (λ j h. ap₂ (λ b v. cond b v 0) (rank-less (urgency ws) n j k h) (ap asks (share-in-place j h)))
+          ∙ sym (sum-map-those asks (rule.share t) (λ j. ltb (j .priority .0) (i .priority .0)) (rowStream ws) n)
+
+      same-urgent : (x : ℕ) → demand (termsOf given .urgent) x ≡ demand (rule.terms p i .urgent) x
+      unfolding rule.terms enteredIn
+      same-urgent x = same-demand x
+
+      -- all else is the rules' as it stands
+      terms-but : termsOf given ≡ instead (rule.terms p i) (termsOf given .urgent) same-urgent
+      unfolding rule.terms enteredIn
+      terms-but = λ z.
+          record {
+            B = own .blocking z;
+            own = record { C″ = own .cost z; T = own .period z; J = own .jitter z };
+            urgent = termsOf given .urgent;
+            gaps = (ap (λ s. rows s (λ j. getD periods j 0)) (own .sources) ∙ rows-same m _ _ gaps) z;
+            hit = own .hit z;
+            late = own .late z;
+            last = own .last z;
+          }
+
+      shares-fit : (a : ℕ) → a < g .urgent → shareFits (shareAt given a) ≡ true
+      shares-fit a h =
+          let (j, l, e) = rank-onto (urgency ws) n (fine .rows .apart) a (omega (arith, own .urgent, rank-below (urgency ws) n k among)) in
+          let w = fine .rows .stream j l in
+          let c : rule.airtime t (rowStream ws j) ≤ cost = either-within (t .p) (omega (arith, whole-is (rowStream ws j), whole-within j l)) (omega (arith, few-ticks, tolls .slot-is)) in
+          ap (λ a. shareFits (shareAt given a)) (sym e) ∙ ap shareFits (share-in-place j l)
+          ∙ fits-here {a = rule.airtime t (rowStream ws j)} {b = rowStream ws j .period} {d = rowStream ws j .jitter} c (refl, omega (arith, w .period)) (refl, omega (arith, w .jitter)) (w .some-period)
+
+      terms-fit : fits given ≡ true
+      unfolding fits
+      terms-fit =
+          simp (
+            own .fits,
+            every-all (λ a. shareFits (shareAt given a)) (g .urgent) shares-fit,
+            every-all (λ j. sourceFits (g .hit) (getD costs j 0) (getD periods j 0)) (g .sources)
+                (λ j h. let l : j < m = omega (arith, own .sources) in rw (hits .put j l, gaps j l) (simp (le-leb _ _ (fine .gap j l .some-gap), le-leb _ _ (fine .gap j l .gap), eq-eqb (g .hit) (g .hit) refl))),
+          )
+
+      pub row-terms : RowTerms ws n m k given
+      row-terms =
+          record {
+            fits = terms-fit;
+            same = λ D. ap (λ r. answer r D) terms-but ∙ same-answer (rule.terms p i) (termsOf given .urgent) same-urgent D;
+          }
+
+-- ---- one stream, which is alone on the channel
+module _ (ws : List ℕ) where
+  abbrev pub own-priorities : List ℕ
+  own-priorities = rows streams (urgency ws)
+
+  abbrev pub own-messages : List ℕ
+  own-messages = rows streams (λ k. sent (rowStream ws k))
+
+  pub lone-priorities : Column (λ j. j .priority .0) ws 1 own-priorities
+  lone-priorities = record { long = length-rows streams (urgency ws); is = λ k h. rows-at streams (urgency ws) 0 k (omega arith) }
+
+  pub lone-messages : Column sent ws 1 own-messages
+  lone-messages = record { long = length-rows streams (λ k. sent (rowStream ws k)); is = λ k h. rows-at streams (λ k. sent (rowStream ws k)) 0 k (omega arith) }
+
+  -- a stream is neither more nor less urgent than itself
+  not-itself : ltb (getD own-priorities 0 0) (urgency ws 0) ≡ false
+  not-itself = le-ltb (getD own-priorities 0 0) (urgency ws 0) (omega (arith, rows-at streams (urgency ws) 0 0 (omega arith)))
+
+  nor-itself : ltb (urgency ws 0) (getD own-priorities 0 0) ≡ false
+  nor-itself = le-ltb (urgency ws 0) (getD own-priorities 0 0) (omega (arith, rows-at streams (urgency ws) 0 0 (omega arith)))
+
+  pub lone-extremes : (u all own : ℕ) → own ≤ cost → Extremes own-priorities own-messages 1 (urgency ws 0) u all own (record { urgent = 0; blocking = 0; hit = own })
+  unfolding sumTo rows largestOf
+  lone-extremes u all own h =
+      record {
+        urgent = simp not-itself;
+        blocking = simp nor-itself;
+        little = omega arith;
+        hit = simp not-itself (omega arith);
+        small = h;
+      }
+
+  nobody : rule.hp (planIn 1 0 ws) (rowStream ws 0) ≡ []
+  unfolding enteredIn rows those
+  nobody = simp (le-ltb (urgency ws 0) (urgency ws 0) (le-refl (urgency ws 0)))
+
+  module _ (g : Gathered) (own : RowOf ws 1 0 0 g) where
+    none : g .sources + g .urgent ≡ 0
+    none = omega (arith, own .sources, own .urgent, rank-below (urgency ws) 1 0 (omega arith))
+
+    pub lone-fit : fits (lent g [] [] []) ≡ true
+    lone-fit = lone-fits g (own .fits) none
+
+    pub lone-terms : termsOf (lent g [] [] []) ≡ rule.terms (planIn 1 0 ws) (rowStream ws 0)
+    unfolding rule.terms enteredIn rows
+    lone-terms =
+        let u : g .urgent ≡ 0 = omega (arith, none) in
+        λ z.
         record {
-          B = blocked-is j;
-          own = record { C″ = own-is j; T = et .0 j; J = ej .0 j };
-          urgent = shares-are j;
-          gaps = rows-same m (λ h. getD periods (o .urgent + h) 0) (λ h. getD ws (layout.gapAt n h) 0) (ep .put) j;
-          hit = hit-is j;
-          late = framed .late-is j;
-          last = last-is j;
-        }
-
-    -- they are sound, since the stream fits its slot
-    sound : Sound (termsOf given)
-    unfolding enteredIn
-    sound = rw terms-are (terms-sound p i (fine .rows .stream k among) (fine .slots k among))
-
-    row-fits : rowFits row ≡ true
-    unfolding rowFits
-    row-fits =
-        let h : o .hit ≤ cost = rw (es .hit) (either-within slot (ex .small) few-ticks) in
-        let b : o .blocking ≤ cost = rw (es .blocking) (either-within slot (ex .little) (omega (arith, few-ticks))) in
-        let each : own ≤ cost = rw eo (either-within slot (omega (arith, ew, whole-within)) few-ticks) in
-        simp (
-          le-leb (o .blocking) cost b,
-          le-leb (o .hit) cost h,
-          lt-ltb (c .late) own (omega (arith, sound .late)),
-          le-leb 1 whole (sound .ends),
-          le-leb whole own (sound .last),
-          le-leb (o .urgent) streams (omega (arith, es .urgent, eg .few, fine .rows .few)),
-          le-leb m sources (fine .quiet),
-          fits-here {a = own} {b = period} {d = jitter} each et ej (fine .rows .stream k among .some-period),
-        )
-
-    shares-fit : (j : ℕ) → j < o .urgent → shareFits (lentShare costs periods jitters j) ≡ true
-    shares-fit j h =
-        ap shareFits (share-at j h) ∙ fits-either slot (lentShare costs₀ periods₀ jitters j) few-ticks (eg .fits j (omega (arith, es .urgent)))
-
-    terms-fit : fits given ≡ true
-    unfolding fits
-    terms-fit =
-        simp (
-          row-fits,
-          every-all (λ j. shareFits (lentShare costs periods jitters j)) (o .urgent) shares-fit,
-          every-all (λ j. sourceFits (o .hit) (getD costs (o .urgent + j) 0) (getD periods (o .urgent + j) 0)) m
-              (λ j h. rw (ec .put j h, ep .put j h) (simp (le-leb _ _ (fine .gap j h .some-gap), le-leb _ _ (fine .gap j h .gap), eq-eqb (o .hit) (o .hit) refl))),
-        )
-
-    pub gathered-is : RowTerms ws n m k given
-    gathered-is =
-        record {
-          long = record { of-costs = ec .long ∙ es .long ∙ eg .long .of-costs; of-periods = ep .long ∙ eg .long .of-periods; of-jitters = eg .long .of-jitters };
-          fits = terms-fit;
-          is = terms-are;
+          B = own .blocking z;
+          own = record { C″ = own .cost z; T = own .period z; J = own .jitter z };
+          urgent = (ap (λ k. rows k (shareAt (lent g [] [] []))) u ∙ sym (ap (map (rule.share (timingIn ws))) nobody)) z;
+          gaps = ap (λ k. rows k (λ (j : ℕ). 0)) (own .sources) z;
+          hit = own .hit z;
+          late = own .late z;
+          last = own .last z;
         }
 
 -- ---- the analysis' answer to such terms is the rules' answer

@@ -4,3 +4,4 @@ pub mod Largest
 pub mod Alone
 pub mod AboveZero
 pub mod Answers
+pub mod Same

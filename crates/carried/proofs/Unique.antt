@@ -5,6 +5,8 @@ use Rattle.carried.proofs.timing_body.Kinds as timing-body-kinds
 use Rattle.carried.proofs.timing_body.Reads as timing-body
 use Rattle.carried.proofs.stream_body.Kinds as stream-body-kinds
 use Rattle.carried.proofs.stream_body.Reads as stream-body
+use Rattle.carried.proofs.most_streams.Kinds as most-streams-kinds
+use Rattle.carried.proofs.most_streams.Reads as most-streams
 use Rattle.carried.proofs.record_at.Kinds as record-at-kinds
 use Rattle.carried.proofs.record_at.Reads as record-at
 use Rattle.carried.proofs.has_word.Kinds as has-word-kinds
@@ -33,6 +35,9 @@ timing-body-one κs a x y ws us p q = (p .0 ∙ sym (q .0), refl)
 
 pub stream-body-one : OneOutcome 0 stream-body-kinds.ps stream-body-kinds.r stream-body.Post
 stream-body-one κs a x y ws us p q = (p .0 ∙ sym (q .0), refl)
+
+pub most-streams-one : OneOutcome 0 most-streams-kinds.ps most-streams-kinds.r most-streams.Post
+most-streams-one κs a x y ws us p q = (p ∙ sym q, refl)
 
 pub record-at-one : OneOutcome 0 record-at-kinds.ps record-at-kinds.r record-at.Post
 record-at-one κs a x y ws us p q = (p .0 ∙ sym (q .0), refl)

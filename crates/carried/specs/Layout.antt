@@ -1,9 +1,9 @@
 -- Where a plan's values stand: among the words that are carried, and in the bytes of its file (document 01, "The plan file", and document
--- 02, requests 01 and 05).
+-- 02, requests 01, 05 and 07).
 use mathlib.Core.Bool.{Bool, true, not, cond, _&&_}
 use Prim.Native.Nat.{ℕ, _+_, _-_, _*_, _/_, _%_, min}
 use lib.Dec.{leb, ltb, eqb}
-use Rattle.names.specs.Limits.{streams, sources}
+use Rattle.names.specs.Limits.{streams, olderStreams, sources}
 use Rattle.carried.specs.declared.Edition.{Edition, the-variants.One, the-variants.Two, the-variants.Three}
 
 -- ---- among the words that are carried, counted from 0: the timing, the streams, the noise gaps, with nothing between
@@ -55,6 +55,12 @@ abbrev pub streamBody : Edition → ℕ
 streamBody One = 6
 streamBody Two = 6
 streamBody Three = 7
+
+-- in editions 1 and 2 n is at most 64, and in edition 3 at most 256
+abbrev pub mostStreams : Edition → ℕ
+mostStreams One = olderStreams
+mostStreams Two = olderStreams
+mostStreams Three = streams
 
 -- ---- in a plan file, in bytes
 

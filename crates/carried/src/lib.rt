@@ -7,6 +7,7 @@
 // bytes or refusals.
 use laws::smaller;
 use names::Label;
+use names::OLDER_STREAMS;
 use names::Priority;
 use names::SOURCES;
 use names::STREAMS;
@@ -90,6 +91,17 @@ pub fn stream_body(edition: Edition) -> usize
         Edition::One => STREAM - 1,
         Edition::Two => STREAM - 1,
         Edition::Three => STREAM,
+    }
+}
+
+// How many streams there may be in a file.
+pub fn most_streams(edition: Edition) -> usize
+    ensures { λ r. ⌜ r ≡ layout.mostStreams edition ⌝ }
+{
+    match edition {
+        Edition::One => OLDER_STREAMS,
+        Edition::Two => OLDER_STREAMS,
+        Edition::Three => STREAMS,
     }
 }
 

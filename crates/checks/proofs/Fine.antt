@@ -22,6 +22,7 @@ use Rattle.carried.specs.declared.Edition.{Edition, the-variants.Three}
 use Rattle.carried.specs.declared.EnteredTiming.{EnteredTiming}
 use Rattle.carried.specs.Layout as layout
 use Rattle.carried.specs.Carried.{Entered, withETG, meant, plainly}
+use Rattle.carried.proofs.Editions.{most-places}
 use Rattle.carried.proofs.Plans.{meant-plainly}
 use Rattle.fields.specs.Fields.{fields, SlotWithin}
 use Rattle.fields.proofs.Inside.{nothing-if-inside}
@@ -81,7 +82,7 @@ fine-if-right edition n m v = (right, fine)
     p : Plan
     p = meant v
 
-    right : judge (lines edition n m v) ≡ Fine → SlotWithin edition (v .timing .p) × Right n m p
+    right : judge (lines edition n m v) ≡ Fine → SlotWithin edition (v .timing .p) × (n ≤ layout.mostStreams edition) × Right n m p
     right e =
         let (two, e₃) = not-given _ _ e in
         let (three, e₁₁) = not-given _ _ e₃ in
@@ -89,19 +90,20 @@ fine-if-right edition n m v = (right, fine)
         let (four, e₅) = not-given _ _ e₄ in
         let (five, e₁₀) = not-given _ _ e₅ in
         let (ten, e₆) = not-given _ _ e₁₀ in
-        let (range-n, m-are) = both (inRange n m && eqb (length (p .streams)) n) (eqb (length (p .gaps)) m) (unless-not (counted n m v) two) in
-        let (range, n-are) = both (inRange n m) (eqb (length (p .streams)) n) range-n in
-        let (some, few, quiet) = range-within n m range in
+        let (range-n, m-are) = both (inRange edition n m && eqb (length (p .streams)) n) (eqb (length (p .gaps)) m) (unless-not (counted edition n m v) two) in
+        let (range, n-are) = both (inRange edition n m) (eqb (length (p .streams)) n) range-n in
+        let (some, few, quiet) = range-within edition n m range in
         let w = inside-if-fields-within edition v .0 (nothing-if-inside 0 (fields edition v) .0 (byte-not edition (length (p .streams)) _ three)) in
         let n-is : length (p .streams) ≡ n = eqb-true _ _ n-are in
         let m-is : length (p .gaps) ≡ m = eqb-true _ _ m-are in
         let short = finds-nothing (λ k. exceedsSlot (p .timing) (at p k)) 0 (length (p .streams)) .0 ten in (
           w .slot,
+          few,
           record {
             within =
                 record {
                   some-stream = omega (arith, some);
-                  count = omega (arith, few);
+                  count = omega (arith, few, most-places edition);
                   sources = omega (arith, quiet);
                   timing = another-etg (v .timing) (w .timing) (lag-fine (v .timing) _ e₁₁);
                   stream = w .stream;
@@ -116,12 +118,12 @@ fine-if-right edition n m v = (right, fine)
           },
         )
 
-    fine : SlotWithin edition (v .timing .p) × Right n m p → judge (lines edition n m v) ≡ Fine
-    fine (is, r) =
+    fine : SlotWithin edition (v .timing .p) × (n ≤ layout.mostStreams edition) × Right n m p → judge (lines edition n m v) ≡ Fine
+    fine (is, few, r) =
         let w = r .within in
-        let range = within-range n m (omega (arith, w .some-stream, r .count)) (omega (arith, w .count, r .count)) (omega (arith, w .sources, r .sources)) in
+        let range = within-range edition n m (omega (arith, w .some-stream, r .count)) few (omega (arith, w .sources, r .sources)) in
         let inside = inside-if-fields-within edition v .1 (record { slot = is; timing = another-etg (v .timing) (w .timing) (omega (arith, w .timing .etg)); lag = omega (arith, w .timing .etg); stream = w .stream; label = r .label; gap = w .gap }) in
-        passed _ _ (ap unless (counted-so n m v (r .count) (r .sources) ∙ range))
+        passed _ _ (ap unless (counted-so edition n m v (r .count) (r .sources) ∙ range))
         ∙ passed _ _ (ap (byteIn edition (length (p .streams))) (nothing-if-inside 0 (fields edition v) .1 inside))
         ∙ lag-passed (v .timing) _ (w .timing .etg)
         ∙ passed _ _ (ap rowIn (nothing-if-distinct (priorities (p .streams)) .1 (r .priorities)))
@@ -129,16 +131,20 @@ fine-if-right edition n m v = (right, fine)
         ∙ passed _ _ (finds-nothing (λ k. exceedsSlot (p .timing) (at p k)) 0 (length (p .streams)) .1 (λ k a h. fitting (p .timing) (at p k) (r .slots k (omega arith))))
         ∙ nothing-given
 
+-- a right plan is meant by what is fine, in whatever edition
+pub meant-is-right : (edition : Edition) (n m : ℕ) (v : Entered) → judge (lines edition n m v) ≡ Fine → Right n m (meant v)
+meant-is-right edition n m v e = fine-if-right edition n m v .0 e .2
+
 -- a right plan is fine when it is entered, and then only, ..
 pub right-is-fine : (n m : ℕ) (p : Plan) → Right n m p → judge (lines Three n m (plainly p)) ≡ Fine
-right-is-fine n m p r = fine-if-right Three n m (plainly p) .1 (slot-three (p .timing .p) (r .within .timing .p), rw (meant-plainly p) r)
+right-is-fine n m p r = fine-if-right Three n m (plainly p) .1 (slot-three (p .timing .p) (r .within .timing .p), omega (arith, r .within .count, r .count), rw (meant-plainly p) r)
 
 pub fine-is-right : (n m : ℕ) (p : Plan) → judge (lines Three n m (plainly p)) ≡ Fine → Right n m p
-fine-is-right n m p e = rw (meant-plainly p) at (fine-if-right Three n m (plainly p) .0 e .1)
+fine-is-right n m p e = rw (meant-plainly p) at (meant-is-right Three n m (plainly p) e)
 
 -- .. so what is meant by what is fine in a file of any edition is fine in one of edition 3
 pub fine-when-meant : (edition : Edition) (n m : ℕ) (v : Entered) → judge (lines edition n m v) ≡ Fine → judge (lines Three n m (plainly (meant v))) ≡ Fine
-fine-when-meant edition n m v e = right-is-fine n m (meant v) (fine-if-right edition n m v .0 e .1)
+fine-when-meant edition n m v e = right-is-fine n m (meant v) (meant-is-right edition n m v e)
 
 -- a right plan has as many streams and gaps as it has
 pub own-counts : (n m : ℕ) (p : Plan) → Right n m p → Right (length (p .streams)) (length (p .gaps)) p

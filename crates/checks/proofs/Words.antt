@@ -32,13 +32,13 @@ module _ (s : Sheet) (o : Owned s) where
 
   -- the table of the values, with whatever lines after it
   module _ (more : List Line) where
-    both-refused : inRange (s .count) (s .sources) ≡ false
+    both-refused : inRange Three (s .count) (s .sources) ≡ false
         → judge (lines Three (s .count) (s .sources) enteredInWords ++ more) ≡ judge (lines Three (s .count) (s .sources) (plainly (planOf s)) ++ more)
-    both-refused e = out-of-range (s .count) (s .sources) e Three enteredInWords more ∙ sym (out-of-range (s .count) (s .sources) e Three (plainly (planOf s)) more)
+    both-refused e = out-of-range Three (s .count) (s .sources) e enteredInWords more ∙ sym (out-of-range Three (s .count) (s .sources) e (plainly (planOf s)) more)
 
     pub same-lines : judge (lines Three (s .count) (s .sources) enteredInWords ++ more) ≡ judge (lines Three (s .count) (s .sources) (plainly (planOf s)) ++ more)
     same-lines =
-        by-range (s .count) (s .sources) (λ few quiet. ap (λ v. judge (lines Three (s .count) (s .sources) v ++ more)) (same-entered few quiet)) both-refused
+        by-range Three (s .count) (s .sources) (λ few quiet. ap (λ v. judge (lines Three (s .count) (s .sources) v ++ more)) (same-entered few quiet)) both-refused
 
 pub same-check : (s : Sheet) (o : Owned s) → judge (lines Three (s .count) (s .sources) (enteredInWords s o)) ≡ checkedOf s
 unfolding checkedOf

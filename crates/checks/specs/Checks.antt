@@ -1,4 +1,4 @@
--- Document 01, "When the answer is no", and document 02, requests 01, 05 and 06: refusals 2, 3, 11, 4, 5 and 10 of what is entered, as the
+-- Document 01, "When the answer is no", and document 02, requests 01, 05, 06 and 07: refusals 2, 3, 11, 4, 5 and 10 of what is entered, as the
 -- lines of their table. The order of the lines decides, and not the size of a number.
 use mathlib.Core.Path.{_≡_}
 use mathlib.Core.Bool.{Bool, _&&_}
@@ -7,7 +7,7 @@ use mathlib.Core.Logic.{_↔_}
 use Prim.Native.Nat.{ℕ, _+_, _≤_, _<_}
 use lib.Dec.{leb, eqb}
 use lib.ListN.{length, getD}
-use Rattle.names.specs.Limits.{streams, sources, constant, ticks}
+use Rattle.names.specs.Limits.{sources, constant, ticks}
 use Rattle.laws.specs.declared.Found.{Found, the-variants.At, the-variants.Nothing}
 use Rattle.laws.specs.Search.{first}
 use Rattle.repeats.specs.Repeats.{firstRepeat, Distinct}
@@ -26,17 +26,17 @@ use Rattle.fields.specs.Fields.{fields, lowest, SlotWithin}
 
 -- ---- the counts
 
--- n is 1 to 64 and m is 0 to 8
-abbrev pub inRange : ℕ → ℕ → Bool
-inRange n m = leb 1 n && leb n streams && leb m sources
+-- n is 1 to 256, in editions 1 and 2 1 to 64, and m is 0 to 8
+abbrev pub inRange : Edition → ℕ → ℕ → Bool
+inRange edition n m = leb 1 n && leb n (layout.mostStreams edition) && leb m sources
 
 -- 2: n or m is outside its range
-abbrev pub rangeLines : ℕ → ℕ → List Line
-rangeLines n m = record { number = 2; place = unless (inRange n m) } ∷ []
+abbrev pub rangeLines : Edition → ℕ → ℕ → List Line
+rangeLines edition n m = record { number = 2; place = unless (inRange edition n m) } ∷ []
 
 -- .. or there are not so many streams and gaps: a sheet may count more than its places
-abbrev pub counted : ℕ → ℕ → Entered → Bool
-counted n m v = inRange n m && eqb (length (v .streams)) n && eqb (length (v .gaps)) m
+abbrev pub counted : Edition → ℕ → ℕ → Entered → Bool
+counted edition n m v = inRange edition n m && eqb (length (v .streams)) n && eqb (length (v .gaps)) m
 
 -- ---- the fields
 
@@ -80,7 +80,7 @@ valueLines edition v =
 
 -- of what is entered in an edition and said to be n streams and m noise sources
 abbrev pub lines : Edition → ℕ → ℕ → Entered → List Line
-lines edition n m v = record { number = 2; place = unless (counted n m v) } ∷ valueLines edition v
+lines edition n m v = record { number = 2; place = unless (counted edition n m v) } ∷ valueLines edition v
 
 -- the answer to a sheet's values, which have no LAG, with the places of edition 3
 unfoldable pub checkedOf : Sheet → Checked
@@ -98,11 +98,12 @@ pub record Right (n m : ℕ) (p : Plan) : Type 0 where
   pub labels : Distinct (labels (p .streams))
   pub slots : (k : ℕ) → k < length (p .streams) → FitsSlot (p .timing) (at p k)
 
--- what is entered is fine exactly if a right plan is meant, with a P of the edition: none in edition 1, one in edition 2, either in edition 3
+-- what is entered is fine exactly if a right plan is meant, with a P of the edition, none in edition 1, one in edition 2, either in edition 3,
+-- and no more streams than the edition may have
 abbrev pub FineIfRight : Type 0
 FineIfRight =
     (edition : Edition) (n m : ℕ) (v : Entered)
-    → (judge (lines edition n m v) ≡ Fine) ↔ (SlotWithin edition (v .timing .p) × Right n m (meant v))
+    → (judge (lines edition n m v) ≡ Fine) ↔ (SlotWithin edition (v .timing .p) × (n ≤ layout.mostStreams edition) × Right n m (meant v))
 
 -- what a sheet that is fine promises
 abbrev pub FineWithin : Type 0

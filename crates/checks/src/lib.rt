@@ -13,6 +13,7 @@ use carried::STREAM;
 use carried::TIMING;
 use carried::WORD;
 use carried::in_bodies;
+use carried::most_streams;
 use carried::timing_in;
 use carried::words_of;
 use costs::overheads_of;
@@ -66,14 +67,14 @@ fn column(words: &[u32], n: usize, k: usize) -> [u32; STREAMS]
     out
 }
 
-// 2: n is not 1 to 64, or m is more than 8.
-pub fn check_counts(n: usize, m: usize) -> Checked
-    ensures { λ r. ⌜ r ≡ judge (rangeLines n m) ⌝ }
+// 2: n is not 1 to 256, in editions 1 and 2 not 1 to 64, or m is more than 8.
+pub fn check_counts(edition: Edition, n: usize, m: usize) -> Checked
+    ensures { λ r. ⌜ r ≡ judge (rangeLines edition n m) ⌝ }
 {
     if n < 1 {
         return refused(2, 0);
     }
-    if STREAMS < n {
+    if most_streams(edition) < n {
         return refused(2, 0);
     }
     if SOURCES < m {
@@ -124,6 +125,10 @@ pub fn check_rows(words: &[u32; CARRIED], n: usize) -> Checked
     ensures { λ r. ⌜ r ≡ judge (rowLines (streamsIn (min n limit.streams) (now (words .entry)))) ⌝ }
 {
     let count = smaller(n, STREAMS);
+    // One row repeats none, and then no room is cleared for 256.
+    if count < 2 {
+        return Checked::Fine;
+    }
     let priorities = column(words, count, PRIORITY);
     match first_repeat(&priorities[..count]) {
         FoundRow::At(r) => return refused(4, r.0),
@@ -176,7 +181,7 @@ fn check_slots(words: &[u32; CARRIED], n: usize) -> Checked
 pub fn check_words(edition: Edition, words: &[u32; CARRIED], n: usize, m: usize) -> Checked
     ensures { λ r. ⌜ r ≡ judge (lines edition n m (enteredIn n m (now (words .entry)))) ⌝ }
 {
-    match check_counts(n, m) {
+    match check_counts(edition, n, m) {
         Checked::Refused(r) => return Checked::Refused(r),
         Checked::Fine => {}
     }

@@ -28,10 +28,10 @@ use Rattle.file.proofs.Same.{same-eq}
 use Rattle.file.proofs.Bodies.{length-at}
 
 -- what is entered in a file has as many streams and gaps as are said
-at-counts : (edition : Edition) (n m : ℕ) (bs : List ℕ) → judge (rangeLines n m ++ valueLines edition (enteredAt edition n m bs)) ≡ judge (lines edition n m (enteredAt edition n m bs))
+at-counts : (edition : Edition) (n m : ℕ) (bs : List ℕ) → judge (rangeLines edition n m ++ valueLines edition (enteredAt edition n m bs)) ≡ judge (lines edition n m (enteredAt edition n m bs))
 at-counts edition n m bs =
     let (n-is, m-is) = length-at edition n m (drop layout.contentsLength (wordsOf bs)) in
-    ranges-counted n m (enteredAt edition n m bs) n-is m-is edition
+    ranges-counted edition n m (enteredAt edition n m bs) n-is m-is
 
 -- ---- what the contents say, answer by answer
 abbrev pub refusedCounts : ℕ → Counts
@@ -52,20 +52,20 @@ module _ (bs : List ℕ) (edition : Edition) (n m : ℕ) (x : editionIn (wordsOf
   said-contents two = rw (x, e, d) (ap (λ c. countsAs c edition n m) (passed _ _ (ap unless one) ∙ given _ _ 0 (ap unless two)))
 
   -- n and m, or 2 by their ranges
-  past-contents : contentsRight edition n m bs ≡ true → countsOf bs ≡ countsAs (judge (rangeLines n m)) edition n m
+  past-contents : contentsRight edition n m bs ≡ true → countsOf bs ≡ countsAs (judge (rangeLines edition n m)) edition n m
   unfolding countsOf
   past-contents two = rw (x, e, d) (ap (λ c. countsAs c edition n m) (passed _ _ (ap unless one) ∙ passed _ _ (ap unless two)))
 
-  pub said-counts : contentsRight edition n m bs ≡ true → judge (rangeLines n m) ≡ Fine → countsOf bs ≡ Of edition n m
+  pub said-counts : contentsRight edition n m bs ≡ true → judge (rangeLines edition n m) ≡ Fine → countsOf bs ≡ Of edition n m
   said-counts two three = past-contents two ∙ ap (λ c. countsAs c edition n m) three
 
   -- 2, by the ranges, whatever the contents
-  pub said-ranges : (r : Refusal) → judge (rangeLines n m) ≡ Refused r → countsOf bs ≡ Counts·Refused r
+  pub said-ranges : (r : Refusal) → judge (rangeLines edition n m) ≡ Refused r → countsOf bs ≡ Counts·Refused r
   said-ranges r three = go (contentsRight edition n m bs) refl
     where
       go : (b : Bool) → contentsRight edition n m bs ≡ b → countsOf bs ≡ Counts·Refused r
       go true two = past-contents two ∙ ap (λ c. countsAs c edition n m) three
-      go false two = said-contents two ∙ ap Counts·Refused (sym (range-number n m r three))
+      go false two = said-contents two ∙ ap Counts·Refused (sym (range-number edition n m r three))
 
   -- what reading gives where the first two lines are not given
   pub read-values : contentsRight edition n m bs ≡ true → readOf bs ≡ readAs (judge (lines edition n m (enteredAt edition n m bs))) (planAt edition n m bs)
@@ -110,7 +110,7 @@ module _ (bs : List ℕ) (edition : Edition) (n m : ℕ) (e : countsOf bs ≡ Of
       let (j, x, p, q) = as-fine z a b (judge (contentsLines z a b bs)) edition n m e in
       (x, ap (λ x. countIn x (wordsOf bs)) (sym x) ∙ p, q, sym (ap (λ z. judge (contentsLines z a b bs)) x ∙ ap₂ (λ x y. judge (contentsLines edition x y bs)) p q) ∙ j)
 
-  two-fine : (sizeRight bs ≡ true) × (contentsRight edition n m bs ≡ true) × (judge (rangeLines n m) ≡ Fine)
+  two-fine : (sizeRight bs ≡ true) × (contentsRight edition n m bs ≡ true) × (judge (rangeLines edition n m) ≡ Fine)
   two-fine =
       let (x, p, q, j) = first-fine in
       let (one, j₁) = not-given _ _ j in
@@ -123,7 +123,7 @@ module _ (bs : List ℕ) (edition : Edition) (n m : ℕ) (e : countsOf bs ≡ Of
 
   -- there are as many streams and gaps as a plan may have, ..
   pub counts-right : (1 ≤ n) × (n ≤ streams) × (m ≤ sources)
-  counts-right = fine-range n m (two-fine .2)
+  counts-right = fine-range edition n m (two-fine .2)
 
   -- .. and the file ends where they say
   pub counts-size : length bs ≡ layout.size edition n m

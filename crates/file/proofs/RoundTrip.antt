@@ -24,7 +24,7 @@ use Rattle.judge.specs.declared.Checked.{Checked, the-variants.Fine, the-varian
 use Rattle.judge.specs.Table.{judge}
 use Rattle.checks.specs.Checks.{lines, checkedOf, Right}
 use Rattle.judge.proofs.Table.{fine-parts}
-use Rattle.checks.proofs.Fine.{fine-if-right, right-is-fine, fine-is-right, fine-when-meant, own-counts}
+use Rattle.checks.proofs.Fine.{meant-is-right, right-is-fine, fine-is-right, fine-when-meant, own-counts}
 use Rattle.file.specs.declared.ReadPlan.{ReadPlan}
 use Rattle.file.specs.declared.Written.{Written, the-variants.Bytes}
 use Rattle.file.specs.File.{contents, fileWords, enteredFile, fileOf, editionIn, countIn, sourcesIn, lagIn, enteredInBodies, enteredAt, planAt, readAs, readOf, linesOut, writeAs, writeWith, writeOf}
@@ -142,7 +142,7 @@ abbrev pub planRead : (bs : List ℕ) → ReadFine bs → Plan
 planRead bs f = planAt (f .edition) (f .n) (f .m) bs
 
 pub right-read : (bs : List ℕ) (f : ReadFine bs) → Right (f .n) (f .m) (planRead bs f)
-right-read bs f = fine-if-right (f .edition) (f .n) (f .m) (enteredAt (f .edition) (f .n) (f .m) bs) .0 (f .values) .1
+right-read bs f = meant-is-right (f .edition) (f .n) (f .m) (enteredAt (f .edition) (f .n) (f .m) bs) (f .values)
 
 pub own-sheet : (bs : List ℕ) (f : ReadFine bs) → planOf (sheetOf (planRead bs f)) ≡ planRead bs f
 own-sheet bs f = let r = right-read bs f in one-sheet (planRead bs f) (r .within .count) (r .within .sources)

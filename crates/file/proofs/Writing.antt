@@ -71,17 +71,17 @@ same-writing s o buf = go (judge (linesOut Three n m (plainly (planOf s)) buf)) 
     go (Refused r) e = ap (λ c. writeAs c n m (meant (enteredInWords s o)) buf) (same-lines s o six ∙ e) ∙ sym (ap (λ c. writeAs c n m (meant (plainly (planOf s))) buf) e)
 
 -- ---- counts out of range, and lent words in places
-refused-2 : (edition : Edition) (n m : ℕ) (v : Entered) (buf : List ℕ) → inRange n m ≡ false
+refused-2 : (edition : Edition) (n m : ℕ) (v : Entered) (buf : List ℕ) → inRange edition n m ≡ false
     → writeWith edition n m v buf ≡ (Written·Refused (record { number = 2; place = 0 }), buf)
-refused-2 edition n m v buf e = write-refused edition n m v buf _ (out-of-range n m e edition v [])
+refused-2 edition n m v buf e = write-refused edition n m v buf _ (out-of-range edition n m e v [])
 
 pub wrong-counts : WrongCounts
 wrong-counts edition n m v buf =
     let two = refused-2 edition n m v buf in
-    (λ h. two (too-few n m h), λ h. two (too-many n m h), λ h. two (too-noisy n m h))
+    (λ h. two (too-few edition n m h), λ h. two (too-many edition n m h), λ h. two (too-noisy edition n m h))
 
 pub values-written : (edition : Edition) (n m : ℕ) (ws buf : List ℕ)
     → writeWith edition n m (enteredIn n m (inPlaces ws)) buf ≡ writeWith edition n m (enteredIn n m ws) buf
 values-written edition n m ws buf =
-    by-range n m (λ few quiet. ap (λ v. writeWith edition n m v buf) (entered-in-places n m ws few quiet))
+    by-range edition n m (λ few quiet. ap (λ v. writeWith edition n m v buf) (entered-in-places n m ws few quiet))
     (λ e. refused-2 edition n m _ buf e ∙ sym (refused-2 edition n m _ buf e))

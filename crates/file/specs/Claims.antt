@@ -23,7 +23,7 @@ use Rattle.file.specs.declared.Written.the-variants.{Bytes, Refused as W
 use Rattle.file.specs.File.{contents, fileWords, enteredFile, fileOf, editionIn, lagIn, enteredAt, countsOf, readAs, readOf}
 use Rattle.file.specs.File.{writeWith, writeOf}
 
--- the file of any values, of at most 64 streams and 8 gaps, whose words fit 32 bits, is answered as the values are, with the same place
+-- the file of any values, of at most 256 streams and 8 gaps, whose words fit 32 bits, is answered as the values are, with the same place
 abbrev pub ReadsAsItsValues : Type 0
 ReadsAsItsValues =
     (v : Entered) → length (v .streams) ≤ streams → length (v .gaps) ≤ sources → Below (2 ^ 32) (fileWords v)
@@ -61,7 +61,7 @@ abbrev pub WrongCounts : Type 0
 WrongCounts =
     (edition : Edition) (n m : ℕ) (v : Entered) (buf : List ℕ)
     → let refused-2 = writeWith edition n m v buf ≡ (Written·Refused (record { number = 2; place = 0 }), buf) in
-    (n < 1 → refused-2) × (streams < n → refused-2) × (sources < m → refused-2)
+    (n < 1 → refused-2) × (layout.mostStreams edition < n → refused-2) × (sources < m → refused-2)
 
 -- the contents are refused exactly where the file is refused 1 or 2, and then as the file is
 abbrev pub ContentsRefused : Type 0
@@ -79,12 +79,12 @@ ContentsAre =
     × (contents Two n m ≡ 2 ∷ 3 ∷ 1 ∷ 44 ∷ 40 ∷ 2 ∷ 84 ∷ 24 * n ∷ 3 ∷ (84 + 24 * n) ∷ 4 * m ∷ [])
     × (contents Three n m ≡ 3 ∷ 3 ∷ 1 ∷ 44 ∷ 40 ∷ 2 ∷ 84 ∷ 28 * n ∷ 3 ∷ (84 + 28 * n) ∷ 4 * m ∷ [])
 
--- .. a file has as many bytes as they say, the largest 1,908, ..
+-- .. a file has as many bytes as they say, the largest 7,284, ..
 abbrev pub SizesAre : Type 0
 SizesAre =
     ((n m : ℕ) → (layout.size One n m ≡ 80 + 24 * n + 4 * m) × (layout.size Two n m ≡ 84 + 24 * n + 4 * m)
     × (layout.size Three n m ≡ 84 + 28 * n + 4 * m))
-    × (layout.largestFile ≡ 1908)
+    × (layout.largestFile ≡ 7284)
 
 -- .. and field i of a file whose contents are right stands where refusal 3 says: word k of the bodies, at byte 4 × (11 + k), is word 11 + k
 -- of the file. A field that its edition has no word for is 0

@@ -89,7 +89,7 @@ same [] (y ∷ ys) = false
 same (x ∷ xs) [] = false
 same (x ∷ xs) (y ∷ ys) = eqb x y && same xs ys
 
--- 1: the file is shorter than 44 bytes or longer than 1,908
+-- 1: the file is shorter than 44 bytes or longer than 7,284
 abbrev pub sizeRight : List ℕ → Bool
 sizeRight bs = leb (layout.byteOf 0) (length bs) && leb (length bs) layout.largestFile
 
@@ -103,7 +103,7 @@ abbrev pub contentsLines : Edition → ℕ → ℕ → List ℕ → List Line
 contentsLines edition n m bs =
     record { number = 1; place = unless (sizeRight bs) }
     ∷ record { number = 2; place = unless (contentsRight edition n m bs) }
-    ∷ rangeLines n m
+    ∷ rangeLines edition n m
 
 -- an answer with the edition and the counts that it is about
 abbrev pub countsAs : Checked → Edition → ℕ → ℕ → Counts

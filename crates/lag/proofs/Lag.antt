@@ -21,7 +21,7 @@ use Rattle.carried.specs.declared.EnteredTiming.{EnteredTiming}
 use Rattle.carried.specs.Carried.{Entered, meantTiming, meant}
 use Rattle.carried.proofs.Plans.{one-sheet}
 use Rattle.checks.specs.Checks.{counted, fieldLines, lagLines, rowLines, slotLines, lines}
-use Rattle.checks.proofs.Fine.{lag-passed, lag-given, fine-if-right}
+use Rattle.checks.proofs.Fine.{lag-passed, lag-given, meant-is-right}
 use Rattle.file.specs.declared.ReadPlan.{ReadPlan}
 use Rattle.file.specs.File.{enteredAt, readAs, readOf}
 use Rattle.file.proofs.Reading.{counts-are}
@@ -86,7 +86,7 @@ same-of-file bs edition n m e fine =
         → answers (planOf (readOf bs .sheet)) ≡ answers (meant (enteredAt edition n m bs))
     go Fine j a =
         let p = meant (enteredAt edition n m bs) in
-        let right = fine-if-right edition n m (enteredAt edition n m bs) .0 j .1 in
+        let right = meant-is-right edition n m (enteredAt edition n m bs) j in
         ap (λ (r : ReadPlan). answers (planOf (r .sheet))) (counts-are bs edition n m e ∙ ap (λ c. readAs c p) j)
         ∙ ap answers (one-sheet p (right .within .count) (right .within .sources))
     go (Refused r) j a = absurd (refused-not-fine a)
@@ -94,7 +94,7 @@ same-of-file bs edition n m e fine =
 -- ---- the refusals: up to 3 the two tables are one, and so are they from 4 on
 module _ (edition : Edition) (n m : ℕ) (v : Entered) where
   abbrev upTo3 : List Line
-  upTo3 = record { number = 2; place = unless (counted n m v) } ∷ fieldLines edition v
+  upTo3 = record { number = 2; place = unless (counted edition n m v) } ∷ fieldLines edition v
 
   abbrev from4 : List Line
   from4 = rowLines (v .streams) ++ slotLines (meantTiming (v .timing)) (v .streams)

@@ -92,5 +92,5 @@ slotLines₀₅ t ss = record { number = 10; place = first (λ k. exceedsSlot₀
 
 abbrev pub lines₀₅ : Edition → ℕ → ℕ → Entered → List Line
 lines₀₅ edition n m v =
-    record { number = 2; place = unless (counted n m v) }
+    record { number = 2; place = unless (counted edition n m v) }
     ∷ fieldLines edition v ++ rowLines (v .streams) ++ slotLines₀₅ (v .timing) (v .streams)

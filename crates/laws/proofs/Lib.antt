@@ -5,6 +5,7 @@ pub mod Pieces
 pub mod Placed
 pub mod Search
 pub mod Rows
+pub mod Ranks
 pub mod Chain
 pub mod Signed
 pub mod Unique

@@ -161,6 +161,11 @@ sumTo-mono f g zero h = le-refl 0
 sumTo-mono f g (suc n) h = add-le-add (sumTo-mono f g n h) (h n)
 
 -- each is at most b
+pub sumTo-all : (v n : ℕ) → sumTo (λ k. v) n ≡ n * v
+unfolding sumTo
+sumTo-all v zero = omega (arith, zero-mul v)
+sumTo-all v (suc n) = omega (arith, sumTo-all v n, add-mul n 1 v)
+
 pub sumTo-at-most : (f : ℕ → ℕ) (b n : ℕ) → ((k : ℕ) → k < n → f k ≤ b) → sumTo f n ≤ n * b
 unfolding sumTo
 sumTo-at-most f b zero h = omega arith

@@ -27,8 +27,10 @@ pub struct Refusal {
     pub place: usize,
 }
 
-// The most streams, noise sources and contenders.
-pub const STREAMS: usize = 64;
+// The most streams, the most in a file of edition 1 or 2, the most noise sources and contenders.
+pub const STREAMS: usize = 256;
+
+pub const OLDER_STREAMS: usize = 64;
 
 pub const SOURCES: usize = 8;
 

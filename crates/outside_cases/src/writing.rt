@@ -73,12 +73,13 @@ fn room() {
     write(1, 0, 32, 0, &mut one);
 }
 
-// Wrong counts, a payload and a period of 0, an acknowledgement at its limit and past it, one priority and one label twice: a buffer that is
-// too small comes last.
+// Wrong counts, and the most streams, of which three are lent; a payload and a period of 0, an acknowledgement at its limit and past it, one
+// priority and one label twice: a buffer that is too small comes last.
 fn wrong() {
     let mut few = [7; 10];
     write(0, 0, 32, 0, &mut few);
-    write(65, 0, 32, 0, &mut few);
+    write(257, 0, 32, 0, &mut few);
+    write(256, 0, 32, 0, &mut few);
     write(3, 9, 32, 0, &mut few);
     write(3, 1, 14, 0, &mut few);
     write(3, 1, 12, 0, &mut few);

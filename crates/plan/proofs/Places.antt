@@ -1,4 +1,4 @@
--- What owning a sheet tells of its arrays: it has 64 places for streams and 8 for gaps, and a loop over them reads the plan. Assumes nothing.
+-- What owning a sheet tells of its arrays: it has 256 places for streams and 8 for gaps, and a loop over them reads the plan. Assumes nothing.
 use mathlib.Core.Path.{_≡_, sym, ap, _∙_}
 use Prim.Native.Nat.{ℕ, _<_, min}
 use native.Mathlib.Omega.{arith}

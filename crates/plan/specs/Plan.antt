@@ -63,7 +63,7 @@ pub record GapWithin (n : ℕ) : Type 0 where
   pub some-gap : 1 ≤ n
   pub gap : n ≤ ticks
 
--- a plan within the limits: n is 1 to 64, m is 0 to 8, and so is each field
+-- a plan within the limits: n is 1 to 256, m is 0 to 8, and so is each field
 pub record Within (p : Plan) : Type 0 where
   pub some-stream : 1 ≤ length (p .streams)
   pub count : length (p .streams) ≤ streams

@@ -93,7 +93,7 @@ fn counts(bytes: &[u8]) -> Counts
     let edition = edition_in(bytes);
     let n = word_at(bytes, STREAMS_LENGTH) as usize / (WORD * stream_body(edition));
     let m = word_at(bytes, NOISE_LENGTH) as usize / WORD;
-    match check_counts(n, m) {
+    match check_counts(edition, n, m) {
         Checked::Refused(r) => return Counts::Refused(r),
         Checked::Fine => {}
     }

@@ -21,8 +21,8 @@ use Rattle.answers.proofs.Outcome.{refused-is}
 use Rattle.screen.specs.Screen.{enteredFor, screenOf, WrongLists}
 use Rattle.screen.specs.private.Gathering.{takenOf, wordsTaken, takenOutcome}
 
-refused-2 : (n m : ℕ) (v : Entered) (out : List ℕ) → inRange n m ≡ false → answerWith Three n m v out ≡ (Refused (record { number = 2; place = 0 }), out)
-refused-2 n m v out e = refused-is Three n m v out _ (out-of-range n m e Three v [])
+refused-2 : (n m : ℕ) (v : Entered) (out : List ℕ) → inRange Three n m ≡ false → answerWith Three n m v out ≡ (Refused (record { number = 2; place = 0 }), out)
+refused-2 n m v out e = refused-is Three n m v out _ (out-of-range Three n m e v [])
 
 pub wrong-counts : WrongLists
 unfolding screenOf
@@ -30,7 +30,7 @@ wrong-counts xs t gaps out =
     let n = length xs in
     let m = length gaps in
     let two = refused-2 n m (enteredFor xs t gaps) out in
-    (λ h. two (too-few n m h), λ h. two (too-many n m h), λ h. two (too-noisy n m h))
+    (λ h. two (too-few Three n m h), λ h. two (too-many Three n m h), λ h. two (too-noisy Three n m h))
 
 module _ (xs : List Stream) (t : EnteredTiming) (gaps out : List ℕ) where
   -- what is entered in the words that are taken of the lists
@@ -47,5 +47,5 @@ module _ (xs : List Stream) (t : EnteredTiming) (gaps out : List ℕ) where
   pub taken-is : takenOutcome (takenOf xs) t gaps out ≡ screenOf xs t gaps out
   unfolding takenOutcome screenOf takenOf
   taken-is =
-      by-range (length xs) (length gaps) (λ few quiet. ap (λ v. answerWith Three (length xs) (length gaps) v out) (all-taken few quiet))
+      by-range Three (length xs) (length gaps) (λ few quiet. ap (λ v. answerWith Three (length xs) (length gaps) v out) (all-taken few quiet))
       (λ e. refused-2 _ _ taken out e ∙ sym (refused-2 _ _ (enteredFor xs t gaps) out e))

@@ -1,7 +1,7 @@
 // The planner's screen: the answers of a plan whose streams are lent as a list of records.
 //
 // `screen` answers for every list, however long, just as `answers::answer_words` does for the words of these values: the
-// first 64 streams and 8 gaps are copied out, and the list's own lengths are its counts, so an empty or over-long list is
+// first 256 streams and 8 gaps are copied out, and the list's own lengths are its counts, so an empty or over-long list is
 // refused 2. The timing is lent as it is entered, with a LAG or with none. Nothing is assumed. Its code must not know of
 // files or text, and it makes no check and no bound of its own; specs/Screen.antt holds it against the file.
 ghost use mathlib.Core.Path.{_≡_};
@@ -53,7 +53,7 @@ fn stream_at(streams: &[Stream], i: usize) -> Stream
     streams[i]
 }
 
-// However long the list is, no more than 64 turns; its own length goes along, so that it is refused later.
+// However long the list is, no more than 256 turns; its own length goes along, so that it is refused later.
 fn gathered(streams: &[Stream]) -> Taken
     ensures { λ r. ⌜ r ≡ takenOf (now (streams .entry)) ⌝ }
 {

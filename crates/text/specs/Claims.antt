@@ -34,7 +34,7 @@ pub record Printed (s : Stream) : Type 0 where
   pub priority : s .priority .0 ≤ ticks
   pub deadline : s .deadline ≤ ticks
 
--- a plan of at most 64 streams with such words, and answers whose bounds and instances have at most w digits
+-- a plan of at most 256 streams with such words, and answers whose bounds and instances have at most w digits
 pub record Listed (w : ℕ) (p : Plan) (answers : List Answer) : Type 0 where
   pub count : length (p .streams) ≤ streams
   pub stream : (k : ℕ) → k < length (p .streams) → Printed (at p k)
@@ -46,7 +46,7 @@ pub record Listed (w : ℕ) (p : Plan) (answers : List Answer) : Type 0 where
 abbrev pub beside : ℕ
 beside = 11 + 10 + 10 + 6 + 5 + 1
 
--- the header, and 64 rows whose bounds and instances have at most w digits
+-- the header, and 256 rows whose bounds and instances have at most w digits
 abbrev pub most : ℕ → ℕ
 most w = length header + streams * (beside + 2 * w)
 

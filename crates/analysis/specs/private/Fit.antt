@@ -4,7 +4,7 @@ use Prim.Native.Nat.{ℕ, _+_, _≤_, _<_}
 use lib.ListN.{getD}
 use Rattle.names.specs.Limits.{streams, sources, ticks}
 use Rattle.analysis.specs.declared.Gathered.{Gathered}
-use Rattle.analysis.specs.Gathered.{Lent, gapOf, cost}
+use Rattle.analysis.specs.Gathered.{Lent, gapOf, shareAt, cost}
 
 -- a stream: its cost, period and jitter
 pub record FitShare (C T J : ℕ) : Type 0 where
@@ -27,7 +27,7 @@ pub record FitRow (g : Gathered) : Type 0 where
 -- all that is lent
 pub record Fit (t : Lent) : Type 0 where
   pub row : FitRow (t .row)
-  pub urgent : (k : ℕ) → k < t .row .urgent → FitShare (getD (t .costs) k 0) (getD (t .periods) k 0) (getD (t .jitters) k 0)
+  pub urgent : (k : ℕ) → k < t .row .urgent → FitShare (shareAt t k .C″) (shareAt t k .T) (shareAt t k .J)
   pub some-gap : (k : ℕ) → k < t .row .sources → 1 ≤ gapOf t k
   pub gap : (k : ℕ) → k < t .row .sources → gapOf t k ≤ ticks
-  pub each : (k : ℕ) → k < t .row .sources → getD (t .costs) (t .row .urgent + k) 0 ≡ t .row .hit
+  pub each : (k : ℕ) → k < t .row .sources → getD (t .costs) k 0 ≡ t .row .hit

@@ -101,19 +101,19 @@ pub record Moved (costs periods edges next : List ℕ) (n x : ℕ) : Type 0 wher
   pub known : Edges next n
   pub later : (y : ℕ) → x ≤ y → height costs periods edges n y ≡ height costs periods edges n x + height costs periods next n y
 
--- the stairs of n streams start their jitter and `late` before time's start
-pub record StreamsStarted (jitters : List ℕ) (n late : ℕ) (r : List ℕ) : Type 0 where
+-- the stairs of n noise sources start `window` before time's start
+pub record SourcesStarted (n window : ℕ) (r : List ℕ) : Type 0 where
   pub long : length r ≡ most
-  pub stream : (k : ℕ) → k < n → getD r k 0 ≡ start - (getD jitters k 0 + late)
+  pub source : (k : ℕ) → k < n → getD r k 0 ≡ start - window
 
--- the stairs of the noise sources start `window` before time's start, and those before them stay
-pub record SourcesStarted (from n window : ℕ) (edges r : List ℕ) : Type 0 where
+-- the stairs of n streams start their jitter and `late` before time's start, and those before them stay
+pub record StreamsStarted (jitters : List ℕ) (from n late : ℕ) (edges r : List ℕ) : Type 0 where
   pub long : length r ≡ most
   pub front : (k : ℕ) → k < from → getD r k 0 ≡ getD edges k 0
-  pub source : (k : ℕ) → from ≤ k → k < n → getD r k 0 ≡ start - window
+  pub stream : (k : ℕ) → k < n → getD r (from + k) 0 ≡ start - (getD jitters k 0 + late)
 
 -- all stairs have started
-pub record Started (jitters : List ℕ) (urgent n late window : ℕ) (r : List ℕ) : Type 0 where
+pub record Started (jitters : List ℕ) (sources urgent late window : ℕ) (r : List ℕ) : Type 0 where
   pub long : length r ≡ most
-  pub stream : (k : ℕ) → k < urgent → getD r k 0 ≡ start - (getD jitters k 0 + late)
-  pub source : (k : ℕ) → urgent ≤ k → k < n → getD r k 0 ≡ start - window
+  pub source : (k : ℕ) → k < sources → getD r k 0 ≡ start - window
+  pub stream : (k : ℕ) → k < urgent → getD r (sources + k) 0 ≡ start - (getD jitters k 0 + late)

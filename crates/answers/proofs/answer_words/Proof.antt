@@ -21,7 +21,7 @@ fine : (c : tie.After-enum-told) → let a = entry c .args in judge (lines (a .e
 fine c = sym (c .before .before .check-words .ensures) ∙ c .enum-told .given .1
 
 places : (c : tie.After-enum-told) → let a = entry c .args in PlacesWithin (now (a .words)) (a .n) (a .m)
-places c = fine-places _ _ _ _ (fine c)
+places c = let a = entry c .args in fine-places (a .edition) (now (a .words)) (a .n) (a .m) (fine c)
 
 returns : tie.Need-returns
 returns c =

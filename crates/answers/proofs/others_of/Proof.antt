@@ -1,134 +1,88 @@
--- Each stream is put down after those that count; a more urgent one counts, and the largest are kept as they come.
+-- Each turn looks at one stream: it counts if it is more urgent, and the largest are kept as they come.
 use borrow.Author.Needs.{needs}
-use borrow.Author.Tests.{lt-ltb, le-ltb}
-use mathlib.Core.Path.{_≡_, refl, ap, _∙_}
-use mathlib.Core.Bool.{true, cond}
-use mathlib.Core.List.{[], _∷_, _++_, map}
-use mathlib.Core.Logic.{⊎-elim}
-use Prim.Native.Nat.{ℕ, max, _+_, _-_, _≤_, _<_}
 use native.Mathlib.Omega.{arith}
+use mathlib.Core.Path.{_≡_, refl, sym, ap₂, _∙_}
+use mathlib.Core.Bool.{cond}
+use Prim.Native.Nat.{ℕ, max, _+_, _-_, _≤_}
 use lib.Dec.{ltb}
-use lib.ListN.{length, getD}
-use Rattle.names.specs.Limits.{streams}
-use Rattle.laws.specs.Lists.{largestOf, those, rows}
-use Rattle.laws.proofs.Lists.{largest-more}
-use Rattle.analysis.specs.Gathered.{cost, shareFits}
-use Rattle.carried.specs.Layout as layout
-use Rattle.answers.specs.private.Gather.{blocks, shareOf, lentShare, rowStream, Long}
-use Rattle.answers.proofs.Gather.{share-is, share-more, share-still, fits-more, fits-still, fits-here, long-still, gather-more, gather-still, hit-more, hit-still}
+use lib.ListN.{getD}
+use denote.Ref.{now}
+use Rattle.names.specs.Limits as limit
+use Rattle.laws.specs.Lists.{sumTo, largestOf, rows}
+use Rattle.laws.proofs.Lists.{sumTo-none, sumTo-more, largest-more}
+use Rattle.analysis.specs.Gathered.{cost}
 use Rattle.answers.proofs.others_of.Statement.{statement}
 use Rattle.answers.proofs.others_of.Tie as tie
 
 abbrev Inv-loop : tie.InvT-loop
-Inv-loop words n q mine u all costs₀ periods₀ jitters₀ urgent₀ blocking₀ hit₀ k₀ costs periods jitters urgent blocking hit k =
-    (k ≤ n) × (urgent ≤ k) × Long costs periods jitters
-    × (rows urgent (lentShare costs periods jitters) ≡ map (shareOf all) (those (λ j. ltb (j .priority .0) (q .0)) (rows k (rowStream words))))
-    × ((j : ℕ) → j < urgent → shareFits (lentShare costs periods jitters j) ≡ true)
-    × (blocking ≡ largestOf (blocks u q) (rows k (rowStream words))) × (blocking ≤ cost)
-    × (hit ≡ max (all + mine) (largestOf (λ x. x) (rows urgent (λ j. getD costs j 0)))) × (hit ≤ cost)
+Inv-loop priorities messages n q mine u all urgent₀ blocking₀ hit₀ k₀ urgent blocking hit k =
+    (k ≤ n) × (urgent ≤ k) × (urgent ≡ sumTo (λ j. cond (ltb (getD priorities j 0) (q .0)) 1 0) k)
+    × (blocking ≡ largestOf (λ j. cond (ltb (q .0) (getD priorities j 0)) (getD messages j 0 + u - 1) 0) (rows k (λ j. j))) × (blocking ≤ cost)
+    × (hit ≡ max (all + mine) (largestOf (λ j. cond (ltb (getD priorities j 0) (q .0)) (all + getD messages j 0) 0) (rows k (λ j. j)))) × (hit ≤ cost)
 
 abbrev μ-loop : tie.MeasureT-loop
-μ-loop words n q mine u all costs₀ periods₀ jitters₀ urgent₀ blocking₀ hit₀ k₀ costs periods jitters urgent blocking hit k = n - k
-
-add-hit : tie.Need-add-hit Inv-loop μ-loop
-add-hit c = omega (arith, c .pre .1 .1 .0, c .pre .1 .1 .1 .0)
+μ-loop priorities messages n q mine u all urgent₀ blocking₀ hit₀ k₀ urgent blocking hit k = n - k
 
 loop-holds : tie.Need-loop-holds Inv-loop μ-loop
-unfolding rows those largestOf
-loop-holds c =
-    let p = c .pre in
-    (omega arith, omega arith, p .1 .1 .1 .1, refl, (λ j h. absurd (omega arith)), refl, omega arith, omega arith, omega (arith, p .1 .1 .0, p .1 .1 .1 .0))
+unfolding rows largestOf
+loop-holds c = (omega arith, omega arith, sym (sumTo-none _), refl, omega arith, omega arith, omega arith)
 
--- there is a place for the next stream
-room : (c : tie.In-loop Inv-loop μ-loop) → c .before .loop .urgent < streams
-room c = omega (arith, c .before .loop .inv .1, c .before .before .pre .0 .few, c .loop-test .taken)
+-- the message of this turn is within the limits
+message : (d : tie.In-loop Inv-loop μ-loop)
+    → let m = getD (now (d .before .before .args .messages)) (d .before .loop .k) 0 in
+    (1 ≤ m) × (m ≤ limit.payload + limit.acknowledgement)
+message d = let p = d .before .before .pre in (p .1 .0 _ (d .loop-test .taken), p .1 .1 .0 _ (d .loop-test .taken))
 
-element-write-costs : tie.Need-element-write-costs Inv-loop μ-loop
-element-write-costs c = omega (arith, room (c .before .before .before .before), c .before .before .before .before .before .loop .inv .2 .of-costs)
+add-urgent : tie.Need-add-urgent Inv-loop μ-loop
+add-urgent c =
+    let d = c .before .before .before in
+    omega (arith, c .if-less .ensures .1, d .before .loop .inv .1, d .loop-test .taken, d .before .before .pre .0)
 
-element-write-periods : tie.Need-element-write-periods Inv-loop μ-loop
-element-write-periods c = omega (arith, room (c .before .before .before .before .before .before), c .before .before .before .before .before .before .before .loop .inv .2 .of-periods)
+add-if-less : tie.Need-add-if-less Inv-loop μ-loop
+add-if-less c =
+    let d = c .before .before .before in
+    omega (arith, message d, d .before .before .pre .1 .1 .1)
 
-element-write-jitters : tie.Need-element-write-jitters Inv-loop μ-loop
-element-write-jitters c = omega (arith, room (c .before .before .before .before .before .before .before .before), c .before .before .before .before .before .before .before .before .before .loop .inv .2 .of-jitters)
+sub-if-less : tie.Need-sub-if-less Inv-loop μ-loop
+sub-if-less c = omega (arith, message (c .before .before .before))
 
-blocks-requires : tie.Need-blocks-requires Inv-loop μ-loop
-blocks-requires c κs =
-    let m = c .before .before .before .before in
-    let d = m .before .before .before .before in
-    let s = d .before .before in
-    let w = s .pre .0 .stream _ (d .loop-test .taken) in (
-      omega (arith, m .message .ensures .0, w .some-payload),
-      (omega (arith, m .message .ensures .0, w .payload, w .acknowledgement), omega (arith, s .pre .1 .0, s .pre .1 .1 .0)),
-    )
+add-if-less-2 : tie.Need-add-if-less-2 Inv-loop μ-loop
+add-if-less-2 c =
+    let d = c .before .before .before .before .before in
+    omega (arith, message d, d .before .before .pre .1 .1 .1)
 
 loop-again : tie.Need-loop-again Inv-loop μ-loop
 loop-again c =
-    let g = c .before .before in
-    let b = g .before in
-    let w4 = b .before in
-    let w3 = w4 .before .before in
-    let m = w3 .before .before in
-    let d = m .before .before .before .before in
+    let third = c .before in
+    let blocked = third .before in
+    let second = blocked .before in
+    let first = second .before in
+    let d = first .before .before .before in
     let l = d .before .loop in
-    let i = l .inv in
-    let s = d .before .before in
-    let f = s .pre .0 in
-    let here = room d in
-    let words = s .args .words .now in
-    let on = share-is (ap (λ z. s .args .all + z) (m .message .ensures .0)) (w3 .wide .ensures .0) (w4 .wide2 .ensures .0) in
-    let little : s .args .all + m .message .result ≤ cost =
-    omega (arith, s .pre .1 .1 .0, m .message .ensures .0, f .stream (l .k) (d .loop-test .taken) .payload, f .stream (l .k) (d .loop-test .taken) .acknowledgement) in
-    let long : l .urgent < length (l .costs) = omega (arith, here, i .2 .of-costs) in
-    let blocked = b .blocks2 .ensures .0 ∙ ap (λ z. cond (ltb (s .args .q .0) (getD words (layout.streamAt (l .k) + 1) 0)) (z + s .args .u - 1) 0) (m .message .ensures .0) in
-    let largest = largest-more (blocks (s .args .u) (s .args .q)) (rowStream words) (l .k) _ _ _ (i .5) blocked (g .greater .ensures) in
-    let small : g .greater .result ≤ cost = omega (arith, g .greater .ensures, b .blocks2 .ensures .1, i .6) in
-    ⊎-elim
-    (λ w. (
-      omega arith,
-      omega (arith, w .2, i .1),
-      long-still _ _ _ (l .urgent) _ _ _ (i .2),
-      rw (w .2) (gather-more (s .args .all) _ (rowStream words) (l .k) _ _ (i .3) (lt-ltb _ _ (w .0 .taken))
-          (share-more _ _ _ (l .urgent) _ _ _ (i .2) here ∙ ap (λ x. rows (l .urgent) (lentShare (l .costs) (l .periods) (l .jitters)) ++ (x ∷ [])) on)),
-      rw (w .2) (fits-more _ _ _ (l .urgent) _ _ _ (i .2) here (i .4) (fits-here little (w3 .wide .ensures) (w4 .wide2 .ensures) (f .stream (l .k) (d .loop-test .taken) .some-period))),
-      largest,
-      small,
-      rw (w .2, w .3) (hit-more (s .args .all + s .args .mine) (l .hit) (l .urgent) _ (l .costs) long (i .7) _ (w .1 .ensures)),
-      omega (arith, w .3, w .1 .ensures, little, i .8),
-    ))
-    (λ w. (
-      omega arith,
-      omega (arith, w .1, i .1),
-      long-still _ _ _ (l .urgent) _ _ _ (i .2),
-      rw (w .1) (gather-still (s .args .all) _ (rowStream words) (l .k) _ _ (i .3) (le-ltb _ _ (w .0 .left)) (share-still _ _ _ (l .urgent) _ _ _ (i .2))),
-      rw (w .1) (fits-still _ _ _ (l .urgent) _ _ _ (i .2) (i .4)),
-      largest,
-      small,
-      rw (w .1, w .2) (hit-still (s .args .all + s .args .mine) (l .hit) (l .urgent) _ (l .costs) long (i .7)),
-      omega (arith, w .2, i .8),
-    ))
-    (c .if1 .came)
+    let a = d .before .before .args in
+    let dears : ℕ → ℕ = λ j. cond (ltb (getD (now (a .priorities)) j 0) (a .q .0)) (a .all + getD (now (a .messages)) j 0) 0 in
+    let dearest = largestOf dears (rows (l .k) (λ j. j)) in
+    let more = largest-more dears (λ j. j) (l .k) dearest (third .if-less3 .result) (max dearest (third .if-less3 .result)) refl (third .if-less3 .ensures .0) refl in (
+      omega (arith, d .loop-test .taken),
+      omega (arith, first .if-less .ensures .1, l .inv .1),
+      ap₂ _+_ (l .inv .2) (first .if-less .ensures .0) ∙ sym (sumTo-more _ (l .k)),
+      largest-more _ (λ j. j) (l .k) _ _ _ (l .inv .3) (second .if-less2 .ensures .0) (blocked .larger .ensures),
+      omega (arith, blocked .larger .ensures, second .if-less2 .ensures .1, l .inv .4, message d, d .before .before .pre .1 .1 .1),
+      omega (arith, more, c .larger2 .ensures, l .inv .5),
+      omega (arith, c .larger2 .ensures, third .if-less3 .ensures .1, l .inv .6, message d, d .before .before .pre .1 .1 .1),
+    )
 
 returns : tie.Need-returns Inv-loop μ-loop
 returns c =
-    let a = c .before .before .args in
-    let i = c .before .loop .inv in
-    let e : c .before .loop .k ≡ a .n = omega arith in (
-      record {
-        long = i .2;
-        few = omega (arith, i .1);
-        fits = i .4;
-        is = i .3 ∙ ap (λ k. map (shareOf (a .all)) (those (λ j. ltb (j .priority .0) (a .q .0)) (rows k (rowStream (a .words .now))))) e;
-      },
-      record { blocking = i .5 ∙ ap (λ k. largestOf (blocks (a .u) (a .q)) (rows k (rowStream (a .words .now)))) e; little = i .6; hit = i .7; small = i .8 },
-    )
+    let l = c .before .before .before .loop in
+    let e : l .k ≡ c .before .before .before .before .args .n = omega arith in
+    record {
+      urgent = rw e at (l .inv .2);
+      blocking = c .before .wide .ensures .0 ∙ (rw e at (l .inv .3));
+      little = omega (arith, c .before .wide .ensures .0, l .inv .4);
+      hit = c .wide2 .ensures .0 ∙ (rw e at (l .inv .5));
+      small = omega (arith, c .wide2 .ensures .0, l .inv .6);
+    }
 
 pub others-of-spec : {M : Type 1} → statement M
-others-of-spec =
-    tie.close
-    (tie.spec Inv-loop μ-loop add-hit loop-holds (λ c. search needs) (λ c. search needs) (λ c. search needs) (λ c. search needs)
-    (λ c. search needs) (λ c. search needs) (λ c. search needs) (λ c. search needs) (λ c. search needs) (λ c. search needs)
-    (λ c. search needs) (λ c κs. search needs) (λ c. search needs) (λ c. search needs) element-write-costs (λ c. search needs)
-    (λ c. search needs) (λ c. search needs) (λ c κs. search needs) (λ c. search needs) element-write-periods (λ c. search needs)
-    (λ c. search needs) (λ c. search needs) (λ c κs. search needs) (λ c. search needs) element-write-jitters blocks-requires
-    (λ c κs. search needs) (λ c. search needs) (λ c κs. search needs) (λ c. search needs) (λ c. search needs) loop-again returns)
+others-of-spec = tie.close (tie.spec Inv-loop μ-loop (λ c. search needs) loop-holds (λ c. search needs) (λ c. search needs) (λ c. search needs) (λ c. search needs) (λ c κs. search needs) add-urgent add-if-less sub-if-less (λ c κs. search needs) (λ c κs. search needs) add-if-less-2 (λ c κs. search needs) (λ c κs. search needs) (λ c. search needs) (λ c. search needs) loop-again (λ c. search needs) (λ c κs. search needs) (λ c κs. search needs) returns)

@@ -48,20 +48,20 @@ module _ (b : tie.Start) where
   slots-of k = judge (slotLines (timingIn ws) (streamsIn k ws))
 
   -- the table of what is asked about, part by part
-  parts : all ≡ judge (rangeLines n m) then fields-of n m then lag-of then rows-of n then slots-of n
+  parts : all ≡ judge (rangeLines (b .args .edition) n m) then fields-of n m then lag-of then rows-of n then slots-of n
   unfolding enteredIn
-  parts = carried-in-parts n m (b .args .edition) ws
+  parts = carried-in-parts (b .args .edition) n m ws
 
-  counts-refused : (r : Refusal) → judge (rangeLines n m) ≡ Refused r → all ≡ Refused r
+  counts-refused : (r : Refusal) → judge (rangeLines (b .args .edition) n m) ≡ Refused r → all ≡ Refused r
   counts-refused r e = parts ∙ ap (λ c. c then fields-of n m then lag-of then rows-of n then slots-of n) e
 
-  module _ (fine : judge (rangeLines n m) ≡ Fine) where
+  module _ (fine : judge (rangeLines (b .args .edition) n m) ≡ Fine) where
     -- the plan is no larger than it may be
     few : n ≤ streams
-    few = fine-range n m fine .1
+    few = fine-range (b .args .edition) n m fine .1
 
     least : (min n streams ≡ n) × (min m sources ≡ m)
-    least = (omega (arith, few), omega (arith, fine-range n m fine .2))
+    least = (omega (arith, few), omega (arith, fine-range (b .args .edition) n m fine .2))
 
     after-fields : (c : Checked) → fields-of (min n streams) (min m sources) ≡ c → all ≡ c then lag-of then rows-of n then slots-of n
     after-fields c e =
@@ -91,7 +91,7 @@ returns c = let p = c .before .before .before in sym (counts-refused (p .before)
 enum-told : tie.Need-enum-told
 enum-told c = search needs
 
-counts-fine : (t : tie.After-enum-told) → let b = t .before .before .before in judge (rangeLines (b .args .n) (b .args .m)) ≡ Fine
+counts-fine : (t : tie.After-enum-told) → let b = t .before .before .before in judge (rangeLines (b .args .edition) (b .args .n) (b .args .m)) ≡ Fine
 counts-fine t = sym (t .before .before .check-counts .ensures) ∙ t .enum-told .given .1
 
 fields-fine : (u : tie.After-enum-told2) → let b = u .before .before .before .before .before .before in fields-of b (min (b .args .n) streams) (min (b .args .m) sources) ≡ Fine

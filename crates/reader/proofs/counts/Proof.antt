@@ -80,11 +80,11 @@ two c =
     right-contents (bs-at w) (x-at w) (n-at w) (m-at w) (sym (k .contents-in .ensures) ∙ not-false (k .contents-in .result) (c .before .before .if3 .left)) (c .if4 .left ∙ c .before .size2 .ensures)
 
 -- n and m are in their ranges
-three : (t : tie.After-enum-told) → let w = t .before .before .before in judge (rangeLines (n-at w) (m-at w)) ≡ Fine
+three : (t : tie.After-enum-told) → let w = t .before .before .before in judge (rangeLines (x-at w) (n-at w) (m-at w)) ≡ Fine
 three t = sym (t .before .before .check-counts .ensures) ∙ t .enum-told .given .1
 
 few : (t : tie.After-enum-told) → let w = t .before .before .before in (1 ≤ n-at w) × (n-at w ≤ streams) × (m-at w ≤ sources)
-few t = let w = t .before .before .before in fine-range (n-at w) (m-at w) (three t)
+few t = let w = t .before .before .before in fine-range (x-at w) (n-at w) (m-at w) (three t)
 
 returns : tie.Need-returns
 returns c =

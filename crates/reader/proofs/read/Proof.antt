@@ -13,7 +13,7 @@ use Rattle.carried.specs.declared.Edition.{Edition}
 use Rattle.carried.specs.Carried.{meant, held, enteredIn, sheetOf}
 use Rattle.carried.proofs.Plans.{plan-held}
 use Rattle.checks.specs.Checks.{lines}
-use Rattle.checks.proofs.Fine.{fine-if-right}
+use Rattle.checks.proofs.Fine.{meant-is-right}
 use Rattle.file.specs.declared.Counts.the-variants.{Of}
 use Rattle.file.specs.File.{countsOf, readAs, readOf}
 use Rattle.file.proofs.Reading.{counts-refused, counts-right, counts-are, counts-entered}
@@ -64,7 +64,7 @@ returns-2 c =
     let n : min (n-at w) streams ≡ n-at w = omega (arith, few) in
     let m : min (m-at w) sources ≡ m-at w = omega (arith, quiet) in
     let v = enteredIn (n-at w) (m-at w) ws in
-    let right = fine-if-right (x-at w) (n-at w) (m-at w) v .0 (sym (k .check-words .ensures) ∙ told .enum-told .given .1) .1 in
+    let right = meant-is-right (x-at w) (n-at w) (m-at w) v (sym (k .check-words .ensures) ∙ told .enum-told .given .1) in
     ap (λ s. record { answer = Fine; sheet = s }) (c .sheet-in .ensures ∙ ap₂ (λ i j. sheetOf (held (enteredIn i j ws))) n m ∙ ap sheetOf (plan-held v (right .within .timing)))
     ∙ sym (answered k ∙ ap (λ a. readAs a (meant v)) (told .enum-told .given .1))
 

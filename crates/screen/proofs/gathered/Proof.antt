@@ -1,5 +1,5 @@
 -- A walk of the MIR by hand, with one loop. The invariant at i: the lot has the first i streams, at some machine value; a turn calls `stream_at`
--- for stream i and `put` for row i. The variant is what is left of the list's first 64.
+-- for stream i and `put` for row i. The variant is what is left of the list's first 256.
 use mathlib.Core.Path.{_≡_, refl, _∙_, ap, subst}
 use Prim.Native.Nat.{ℕ, _+_, _-_, _≤_, _<_, _^_, zero-le, min}
 use native.Mathlib.Nat.{le-antisymm, le-trans, lt-of-le-of-lt, lt-of-lt-of-le, min-le-left, min-le-right}

@@ -12,7 +12,7 @@ use Rattle.carried.proofs.Plans.{timing-held}
 use Rattle.judge.specs.declared.Checked.the-variants.{Fine}
 use Rattle.judge.specs.Table.{judge}
 use Rattle.checks.specs.Checks.{lines}
-use Rattle.checks.proofs.Fine.{fine-if-right}
+use Rattle.checks.proofs.Fine.{meant-is-right}
 use Rattle.file.specs.declared.Written.the-variants.{Bytes}
 use Rattle.file.proofs.Writing.{write-refused, write-no-room, write-fine}
 use Rattle.writer.proofs.Whole.{both}
@@ -26,10 +26,10 @@ asked b = enteredIn (b .args .n) (b .args .m) (now (b .args .words))
 fine : (c : tie.After-enum-told) → let b = c .before .before .before .before in judge (lines (b .args .edition) (b .args .n) (b .args .m) (asked b)) ≡ Fine
 fine c = sym (c .before .before .check-words .ensures) ∙ c .enum-told .given .1
 
--- n is at most 64 and m at most 8, and the timing is within the limits
+-- n is at most 256 and m at most 8, and the timing is within the limits
 few : (x : Edition) (n m : ℕ) (v : Entered) → judge (lines x n m v) ≡ Fine → (n ≤ limit.streams) × (m ≤ limit.sources) × TimingWithin (meantTiming (v .timing))
 few x n m v e =
-    let (is, r) = fine-if-right x n m v .0 e in
+    let r = meant-is-right x n m v e in
     (omega (arith, r .count, r .within .count), omega (arith, r .sources, r .within .sources), r .within .timing)
 
 returns : tie.Need-returns

@@ -1,7 +1,7 @@
 -- After each turn it is known whether all noise sources so far pass.
 use borrow.Author.Needs.{needs}
 use mathlib.Core.Path.{_≡_, sym}
-use Prim.Native.Nat.{_+_, _-_, _≤_}
+use Prim.Native.Nat.{_-_, _≤_}
 use native.Mathlib.Omega.{arith}
 use lib.ListN.{getD}
 use Rattle.laws.specs.Lists.{every}
@@ -11,11 +11,11 @@ use Rattle.analysis.proofs.limits.sources_fit.Statement.{statement}
 use Rattle.analysis.proofs.limits.sources_fit.Tie as tie
 
 abbrev Inv-loop : tie.InvT-loop
-Inv-loop costs periods from n hit all₀ k₀ all k =
-    (k ≤ n) × (all ≡ every k (λ j. sourceFits hit (getD costs (from + j) 0) (getD periods (from + j) 0)))
+Inv-loop costs periods n hit all₀ k₀ all k =
+    (k ≤ n) × (all ≡ every k (λ j. sourceFits hit (getD costs j 0) (getD periods j 0)))
 
 abbrev μ-loop : tie.MeasureT-loop
-μ-loop costs periods from n hit all₀ k₀ all k = n - k
+μ-loop costs periods n hit all₀ k₀ all k = n - k
 
 loop-holds : tie.Need-loop-holds Inv-loop μ-loop
 loop-holds c = (omega arith, sym (every-none _))
@@ -33,5 +33,5 @@ returns c =
 pub sources-fit-spec : {M : Type 1} → statement M
 sources-fit-spec =
     tie.close
-    (tie.spec Inv-loop μ-loop loop-holds (λ c. search needs) (λ c. search needs) (λ c. search needs) (λ c. search needs) (λ c. search needs)
-    (λ c. search needs) (λ c κs. search needs) (λ c. search needs) (λ c. search needs) loop-again returns)
+    (tie.spec Inv-loop μ-loop loop-holds (λ c. search needs) (λ c. search needs) (λ c. search needs) (λ c. search needs) (λ c κs. search needs)
+    (λ c. search needs) (λ c. search needs) loop-again returns)

@@ -16,10 +16,10 @@ passes : (c : tie.Else1) → rowFits (c .before .before .args .g) ≡ true
 passes c = sym (c .before .row-fits .ensures) ∙ not-false _ (c .if1 .left)
 
 shares-fit-requires : tie.Need-shares-fit-requires
-shares-fit-requires c κs = row-known _ (passes c) .few
+shares-fit-requires c κs = let f = row-known _ (passes c) in (f .few, f .quiet)
 
 sources-fit-requires : tie.Need-sources-fit-requires
-sources-fit-requires c κs = let f = row-known _ (passes (c .before)) in (f .few, f .quiet)
+sources-fit-requires c κs = row-known _ (passes (c .before)) .quiet
 
 returns-2 : tie.Need-returns-2
 unfolding fits

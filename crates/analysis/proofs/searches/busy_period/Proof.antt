@@ -39,10 +39,10 @@ start-edges-requires : tie.Need-start-edges-requires Inv-loop μ-loop
 start-edges-requires c κs =
     let s = c .before .before in
     let f = s .pre .0 in
-    (f .row .few, (omega arith, (omega (arith, f .row .few, f .row .quiet), (omega arith, (omega arith, ((λ k h. f .urgent k h .jitter), s .pre .1))))))
+    (f .row .quiet, (f .row .few, (omega arith, (omega arith, ((λ k h. f .urgent k h .jitter), s .pre .1)))))
 
 -- for L no one is late, and the noise's window is as long as L
-started : (c : tie.After-start-edges Inv-loop μ-loop) → MakesUp (given (entry c) .costs) (given (entry c) .periods) (c .start-edges .last .1 .1 .1 .1 .1 .0) (given (entry c) .row .urgent + given (entry c) .row .sources) (restL (termsOf (given (entry c))))
+started : (c : tie.After-start-edges Inv-loop μ-loop) → MakesUp (given (entry c) .costs) (given (entry c) .periods) (c .start-edges .last .1 .1 .1 .1 .1 .0) (given (entry c) .row .sources + given (entry c) .row .urgent) (restL (termsOf (given (entry c))))
 started c =
     let r = termsOf (given (entry c)) in
     laid (given (entry c)) (entry c .pre .0) 0 0 (omega arith) (omega arith) _ (c .start-edges .ensures) (restL r) (λ x. ap (λ z. demand (r .urgent) z + E r z) (add-zero x))
@@ -84,7 +84,7 @@ theirs c = c .climbed .ensures .0 ∙ kept-now _ _ _ _ _ _ _ (round c .loop .inv
 
 came : (c : tie.After-climbed Inv-loop μ-loop)
     → let t = given (begun (round c)) in
-    RestKept (t .costs) (t .periods) (c .climbed .last .1 .1 .1 .1 .0) (t .row .urgent + t .row .sources) (restL (termsOf t)) (round c .loop .x) (c .climbed .result)
+    RestKept (t .costs) (t .periods) (c .climbed .last .1 .1 .1 .1 .0) (t .row .sources + t .row .urgent) (restL (termsOf t)) (round c .loop .x) (c .climbed .result)
 came c = kept-on _ _ _ _ _ _ _ _ _ (c .climbed .ensures .0) (c .climbed .ensures .1 .0) (round c .loop .inv .1)
 
 own-at-requires : tie.Need-own-at-requires Inv-loop μ-loop

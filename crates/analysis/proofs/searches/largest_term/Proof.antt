@@ -77,10 +77,10 @@ start-edges-requires : tie.Need-start-edges-requires Inv-loop μ-loop
 start-edges-requires c κs =
     let s = c .before .before .before in
     let f = s .pre .0 in
-    (f .row .few, (omega arith, (omega (arith, f .row .few, f .row .quiet), (omega (arith, f .row .late, f .row .own .cost), (omega (arith, f .row .own .cost), ((λ k h. f .urgent k h .jitter), s .pre .1 .1))))))
+    (f .row .quiet, (f .row .few, (omega (arith, f .row .late, f .row .own .cost), (omega (arith, f .row .own .cost), ((λ k h. f .urgent k h .jitter), s .pre .1 .1)))))
 
 -- for w a release V after a cycle's start still counts, and the noise's window is C'' longer
-started : (c : tie.After-start-edges Inv-loop μ-loop) → MakesUp (given (entry c) .costs) (given (entry c) .periods) (c .start-edges .last .1 .1 .1 .1 .1 .0) (given (entry c) .row .urgent + given (entry c) .row .sources) (restW (terms (entry c)))
+started : (c : tie.After-start-edges Inv-loop μ-loop) → MakesUp (given (entry c) .costs) (given (entry c) .periods) (c .start-edges .last .1 .1 .1 .1 .1 .0) (given (entry c) .row .sources + given (entry c) .row .urgent) (restW (terms (entry c)))
 started c =
     let t = given (entry c) in
     let r = termsOf t in
@@ -97,7 +97,7 @@ add-ends c = let f = entry (c .before .before) .pre .0 .row in omega (arith, f .
 first : (c : tie.After-start-edges Inv-loop μ-loop)
     → let s = entry c in
     let t = given s in
-    WaitSearch (terms s) (s .args .l) (t .costs) (t .periods) (c .start-edges .last .1 .1 .1 .1 .1 .0) (t .row .urgent + t .row .sources) 0 (t .row .blocking) 0 0
+    WaitSearch (terms s) (s .args .l) (t .costs) (t .periods) (c .start-edges .last .1 .1 .1 .1 .1 .0) (t .row .sources + t .row .urgent) 0 (t .row .blocking) 0 0
 first c = let s = entry c in search-first (sound s) (s .pre .1 .0) (started c)
 
 settled-requires : tie.Need-settled-requires Inv-loop μ-loop
@@ -175,7 +175,7 @@ again : (c : tie.In-loop Inv-loop μ-loop)
     → let s = begun (c .before) in
     let t = given s in
     let l = c .before .loop in
-    WaitSearch (terms s) (s .args .l) (t .costs) (t .periods) (l .edges) (t .row .urgent + t .row .sources) (l .q + 1) (l .base + t .row .cost) (l .wait - l .base) (l .wait + t .row .cost)
+    WaitSearch (terms s) (s .args .l) (t .costs) (t .periods) (l .edges) (t .row .sources + t .row .urgent) (l .q + 1) (l .base + t .row .cost) (l .wait - l .base) (l .wait + t .row .cost)
 again c =
     let s = begun (c .before) in
     let i = c .before .loop .inv in

@@ -1,4 +1,4 @@
--- Each turn starts one noise source's stair, and the streams' stay.
+-- Each turn starts one noise source's stair.
 use borrow.Author.Needs.{needs}
 use mathlib.Core.Path.{_≡_, refl}
 use Prim.Native.Nat.{_-_, _≤_}
@@ -9,27 +9,27 @@ use Rattle.analysis.proofs.stairs.start_sources.Statement.{statement}
 use Rattle.analysis.proofs.stairs.start_sources.Tie as tie
 
 abbrev Inv-loop : tie.InvT-loop
-Inv-loop from n window edges₀ k₀ edges k =
-    (from ≤ k) × (k ≤ n) × SourcesStarted from k window edges₀ edges
+Inv-loop n window edges₀ k₀ edges k =
+    (k ≤ n) × SourcesStarted k window edges
 
 abbrev μ-loop : tie.MeasureT-loop
-μ-loop from n window edges₀ k₀ edges k = n - k
+μ-loop n window edges₀ k₀ edges k = n - k
 
 loop-holds : tie.Need-loop-holds Inv-loop μ-loop
-loop-holds c = (omega arith, omega arith, sources-none _ _ _ (c .pre .1 .1 .1))
+loop-holds c = (omega arith, sources-none _ _ (c .pre .1 .1))
 
 element-write-edges : tie.Need-element-write-edges Inv-loop μ-loop
-element-write-edges c = omega (arith, c .before .loop .inv .2 .long)
+element-write-edges c = omega (arith, c .before .loop .inv .1 .long)
 
 loop-again : tie.Need-loop-again Inv-loop μ-loop
 loop-again c =
     let l = c .before .loop in
-    (omega arith, omega arith, sources-more _ _ _ _ _ _ (l .inv .0) (omega arith) refl (l .inv .2))
+    (omega arith, sources-more _ _ _ _ (omega arith) refl (l .inv .1))
 
 returns : tie.Need-returns Inv-loop μ-loop
 returns c =
     let e : c .before .loop .k ≡ c .before .before .args .n = omega arith in
-    rw e at (c .before .loop .inv .2)
+    rw e at (c .before .loop .inv .1)
 
 pub start-sources-spec : {M : Type 1} → statement M
 start-sources-spec =

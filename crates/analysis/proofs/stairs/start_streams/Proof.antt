@@ -1,4 +1,4 @@
--- Each turn starts one stream's stair.
+-- Each turn starts one stream's stair, and the noise sources' stay.
 use borrow.Author.Needs.{needs}
 use mathlib.Core.Path.{_≡_, refl}
 use Prim.Native.Nat.{_-_, _≤_}
@@ -9,20 +9,20 @@ use Rattle.analysis.proofs.stairs.start_streams.Statement.{statement}
 use Rattle.analysis.proofs.stairs.start_streams.Tie as tie
 
 abbrev Inv-loop : tie.InvT-loop
-Inv-loop jitters n late edges₀ k₀ edges k =
-    (k ≤ n) × StreamsStarted jitters k late edges
+Inv-loop jitters from n late edges₀ k₀ edges k =
+    (k ≤ n) × StreamsStarted jitters from k late edges₀ edges
 
 abbrev μ-loop : tie.MeasureT-loop
-μ-loop jitters n late edges₀ k₀ edges k = n - k
+μ-loop jitters from n late edges₀ k₀ edges k = n - k
 
 loop-holds : tie.Need-loop-holds Inv-loop μ-loop
-loop-holds c = (omega arith, streams-none _ _ _ (c .pre .1 .1 .1))
+loop-holds c = (omega arith, streams-none _ _ _ _ (c .pre .1 .1 .1 .1))
 
 add-edges : tie.Need-add-edges Inv-loop μ-loop
-add-edges c = omega (arith, c .before .before .before .pre .1 .1 .0 _ (c .before .loop-test .taken))
+add-edges c = omega (arith, c .before .before .before .pre .1 .1 .1 .0 _ (c .before .loop-test .taken))
 
 sub-edges : tie.Need-sub-edges Inv-loop μ-loop
-sub-edges c = omega (arith, c .before .before .before .pre .1 .1 .0 _ (c .before .loop-test .taken))
+sub-edges c = omega (arith, c .before .before .before .pre .1 .1 .1 .0 _ (c .before .loop-test .taken))
 
 element-write-edges : tie.Need-element-write-edges Inv-loop μ-loop
 element-write-edges c = omega (arith, c .before .before .loop .inv .1 .long)
@@ -30,7 +30,7 @@ element-write-edges c = omega (arith, c .before .before .loop .inv .1 .long)
 loop-again : tie.Need-loop-again Inv-loop μ-loop
 loop-again c =
     let l = c .before .before .loop in
-    (omega arith, streams-more _ _ _ _ _ (omega arith) refl (l .inv .1))
+    (omega arith, streams-more _ _ _ _ _ _ _ (omega arith) refl (l .inv .1))
 
 returns : tie.Need-returns Inv-loop μ-loop
 returns c =
@@ -40,5 +40,5 @@ returns c =
 pub start-streams-spec : {M : Type 1} → statement M
 start-streams-spec =
     tie.close
-    (tie.spec Inv-loop μ-loop loop-holds (λ c. search needs) (λ c. search needs) add-edges sub-edges (λ c. search needs) element-write-edges
-    (λ c. search needs) (λ c. search needs) loop-again returns)
+    (tie.spec Inv-loop μ-loop loop-holds (λ c. search needs) (λ c. search needs) add-edges sub-edges (λ c. search needs) (λ c. search needs)
+    element-write-edges (λ c. search needs) (λ c. search needs) loop-again returns)
