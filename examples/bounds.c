@@ -3,12 +3,12 @@
 #include "livnakesh.h"
 #include <stdio.h>
 
-/* A row's words are its verdict, its bound and the instance that gives it; a plan has at most 64 rows. */
-enum { ROW = 3, MOST_ROWS = 64 };
+/* A row's words are its verdict, its bound and the instance that gives it; a plan has at most 256 rows, and its file 7,284 bytes. */
+enum { ROW = 3, MOST_ROWS = 256, LARGEST = 7284 };
 
 int main(void)
 {
-    static uint8_t file[4096];
+    static uint8_t file[LARGEST + 1]; /* a byte more, so that a longer file is refused and not cut */
     static uint64_t words[ROW * MOST_ROWS];
     size_t length = fread(file, 1, sizeof file, stdin);
     struct livnakesh_said said = livnakesh_answers(file, length, words, ROW * MOST_ROWS);

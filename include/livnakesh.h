@@ -3,7 +3,8 @@
  * A refusal hands back the number and place of documents 01 and 02, and leaves lent memory as it was. Rows count from 0. Where
  * several fit a plan, the first in this order is given: 1, 2, 3, 11, 4, 5, 10, 6.
  *
- * n is the number of streams, m the number of gaps. P is from one pulse of the master node to the next, and 0 in a plan without one.
+ * n is the number of streams, 1 to 256, and 1 to 64 in a file of edition 1 or 2; m is the number of gaps, 0 to 8. So a file has at
+ * most 7,284 bytes. P is from one pulse of the master node to the next, and 0 in a plan without one.
  * Files of three editions are read. Edition 1 has no P, which is then 0, and in edition 2 P is above 0; neither has acknowledgements,
  * which are then 0. Edition 3 has both, and is the one that is written. A LAG, in a file of any edition or lent, is added to ETG, and
  * 0 is written in its place: of a file of edition 3 whose LAG is 0 the same bytes are written, of any other the file of edition 3 of
@@ -11,8 +12,9 @@
  * lent without a file its byte in their file of edition 3. Where ETG and LAG, each within its limits, are above 65,535 together, 11 is
  * given, and its place is the byte of ETG, 68.
  *
- * Every call returns, but livnakesh_answers and livnakesh_screen can take minutes: most plans take well under a millisecond, and
- * the slowest that are known more than three minutes. All other calls look at what they are lent once or a few times over. */
+ * Every call returns, but livnakesh_answers and livnakesh_screen can take minutes: most plans take well under a millisecond, nearly
+ * full ones of 256 streams a few, and the slowest that are known more than three minutes. All other calls look at what they are lent
+ * once or a few times over. */
 #ifndef LIVNAKESH_H
 #define LIVNAKESH_H
 

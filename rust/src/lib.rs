@@ -157,15 +157,18 @@ fn said(said: Said) -> Result<u64, Refused> {
 /// The words of a row: its verdict, its bound, and the instance that gives it.
 const ROW: usize = 3;
 
-/// The words of the rows of the largest plan.
-const WORDS: usize = ROW * 64;
+/// The rows of the largest plan.
+const MOST_ROWS: usize = 256;
+
+/// The fewest bytes that a row has in a file, those of editions 1 and 2.
+const RECORD: usize = 24;
 
 /// No verdict has this number, so a word that still has it was not written.
 const UNWRITTEN: u64 = u64::MAX;
 
 /// The answers of a plan file's streams, in file order.
 pub fn answers(file: &[u8]) -> Result<Vec<Answer>, Refused> {
-    let mut words = [UNWRITTEN; WORDS];
+    let mut words = room(file.len() / RECORD);
     answer_words(file, &mut words)?;
     Ok(rows(&words))
 }
@@ -173,9 +176,14 @@ pub fn answers(file: &[u8]) -> Result<Vec<Answer>, Refused> {
 /// As `answers`, of records. The timing is the first ten words, F to NB and P. One that is not lent is 0, so nine words are a plan
 /// without a master node. A LAG is added to ETG; where the two are too great together it is refused 11.
 pub fn screen(streams: &[Stream], timing: &[u32], gaps: &[u32]) -> Result<Vec<Answer>, Refused> {
-    let mut words = [UNWRITTEN; WORDS];
+    let mut words = room(streams.len());
     screen_words(streams, timing, gaps, &mut words)?;
     Ok(rows(&words))
+}
+
+/// Words for so many rows, and for no more than a plan has. Those of the largest plan would show in the time of a small one.
+fn room(rows: usize) -> Vec<u64> {
+    vec![UNWRITTEN; ROW * rows.min(MOST_ROWS)]
 }
 
 /// The rows that were written, which come first.

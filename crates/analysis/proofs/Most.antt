@@ -1,13 +1,13 @@
 -- The most that L's right side can come to: 256 streams, each of 5,000,000 ticks with a period of 1 and the longest jitter. Assumes nothing.
-use mathlib.Core.Path.{_≡_, refl, sym, ap, _∙_}
+use mathlib.Core.Path.{_≡_, ap, _∙_}
 use mathlib.Core.Bool.{true}
-use Prim.Native.Nat.{ℕ, _+_, _*_, _^_, _≤_, _<_}
+use Prim.Native.Nat.{ℕ, _+_, _*_, _<_}
 use native.Mathlib.Omega.{arith}
 use lib.ListN.{getD, replicate, getD-replicate}
 use Rattle.names.specs.Limits.{streams, ticks}
-use Rattle.laws.specs.Lists.{ceil, sumTo}
+use Rattle.laws.specs.Lists.{ceil}
 use Rattle.laws.proofs.Lists.{every-none, every-all, sum-rows, sumTo-all, sumTo-same}
-use Rattle.bound.specs.Bound.{E, demand, sideL}
+use Rattle.bound.specs.Bound.{demand, sideL}
 use Rattle.bound.proofs.Sides.{demand-own}
 use Rattle.analysis.specs.declared.Gathered.{Gathered}
 use Rattle.analysis.specs.Gathered.{stairs, Lent, lent, termsOf, shareAt, cost, shareFits, sourceFits, rowFits, fits, SideNeedsAll}

@@ -29,8 +29,8 @@ use Rattle.plan.specs.Rules as rule
 use Rattle.plan.proofs.Rules.{terms-sound}
 use Rattle.carried.specs.Layout as layout
 use Rattle.carried.specs.Carried.{enteredIn, timingIn, planIn}
-use Rattle.answers.specs.declared.Others.{Others}
-use Rattle.answers.specs.private.Gather.{PlacesWithin, Tolls, Column, Extremes, Slotted, InOrder, Before, RowOf, RowTerms, sent, shareOf, urgency, rowStream}
+use Rattle.answers.specs.declared.own.Others.{Others}
+use Rattle.answers.specs.private.Gather.{PlacesWithin, Tolls, Column, Extremes, Slotted, InOrder, Before, RowOf, RowTerms, sent, urgency, rowStream}
 use Rattle.answers.proofs.Gather.{place-is, fits-here, either-within}
 
 module _ (ws : List ℕ) (n m : ℕ) (u all late slot : ℕ) (fine : PlacesWithin ws n m) (tolls : Tolls (timingIn ws) u all late slot) where

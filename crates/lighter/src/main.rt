@@ -5,6 +5,9 @@
 // says in one line what it cannot open or read. It must not know the rule of the lighter plan.
 mod list;
 
+ghost use Prim.Native.Nat.{_<_};
+ghost use lib.ListN.{length};
+ghost use Rattle.carried.specs.Layout.{largestFile};
 use console::Input;
 use console::first;
 use console::print;
@@ -17,9 +20,13 @@ use text::Put;
 // The longest list of pairs, in bytes.
 const LIST: usize = 65536;
 
-fn tell(was: &[u8], is: &[u8]) {
+// Of the n and m bytes that were read. The buffers have room for more than the largest file, so that no part of a file passes for all of it.
+fn tell(was: &[u8], n: usize, is: &[u8], m: usize)
+    requires { ⌜ largestFile < length (now was) ⌝ }
+    requires { ⌜ largestFile < length (now is) ⌝ }
+{
     let mut out = io::buffer();
-    match chief::told(was, is, &mut out) {
+    match chief::told(first(was, n), first(is, m), &mut out) {
         Put::At(k) => print_first(&out, k),
         // 64 bytes hold every line (LargestLine, in chief's claims).
         Put::Full => {}
@@ -31,18 +38,20 @@ fn unreadable(name: &[u8]) {
 }
 
 // A file longer than the buffer is longer than any plan file, and so is the part of it that is looked at.
-fn read_new(was: &[u8], new: &[u8], new_fd: i32) {
-    let mut is = io::buffer();
+fn read_new(was: &[u8], n: usize, new: &[u8], new_fd: i32)
+    requires { ⌜ largestFile < length (now was) ⌝ }
+{
+    let mut is = desk::file_buffer();
     match read(new_fd, &mut is) {
-        Input::Bytes(m) => tell(was, first(&is, m)),
+        Input::Bytes(m) => tell(was, n, &is, m),
         Input::Failed => unreadable(new),
     }
 }
 
 fn read_both(old: &[u8], old_fd: i32, new: &[u8], new_fd: i32) {
-    let mut was = io::buffer();
+    let mut was = desk::file_buffer();
     match read(old_fd, &mut was) {
-        Input::Bytes(n) => read_new(first(&was, n), new, new_fd),
+        Input::Bytes(n) => read_new(&was, n, new, new_fd),
         Input::Failed => unreadable(old),
     }
 }

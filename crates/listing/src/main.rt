@@ -2,6 +2,9 @@
 //
 // A thin program: the crate desk fixes each byte that is printed. What is read and written is console's to say. A file longer
 // than the buffer is longer than any plan file, and so is the part of it that is shown to the desk.
+ghost use Prim.Native.Nat.{_<_};
+ghost use lib.ListN.{length};
+ghost use Rattle.carried.specs.Layout.{largestFile};
 use console::Input;
 use console::first;
 use console::print_first;
@@ -10,9 +13,12 @@ use console::read;
 use libc::STDIN_FILENO;
 use text::Put;
 
-fn show(file: &[u8]) {
+// Of the n bytes that were read. The buffer has room for more than the largest file, so that no part of a file passes for all of it.
+fn show(file: &[u8], n: usize)
+    requires { ⌜ largestFile < length (now file) ⌝ }
+{
     let mut out = desk::listing_buffer();
-    match desk::show(file, &mut out) {
+    match desk::show(first(file, n), &mut out) {
         Put::At(k) => print_first(&out, k),
         // It holds every listing (ListingFits, in desk's claims) and every refusal (LargestRefusal, in text's).
         Put::Full => {}
@@ -22,7 +28,7 @@ fn show(file: &[u8]) {
 fn main() {
     let mut file = desk::file_buffer();
     match read(STDIN_FILENO, &mut file) {
-        Input::Bytes(n) => show(first(&file, n)),
+        Input::Bytes(n) => show(&file, n),
         Input::Failed => print_unreadable(b"listing", b"standard input"),
     }
 }

@@ -5,58 +5,85 @@
 use names::FoundRow;
 use names::Row;
 ghost use mathlib.Core.Path.{_≡_};
-ghost use Prim.Native.Nat.{_+_, _<_};
+ghost use mathlib.Core.Bool.{false};
+ghost use Prim.Native.Nat.{_<_};
 ghost use lib.ListN.{length};
 ghost use Rattle.repeats.specs.Repeats.{repeatsAt, firstRepeat};
+ghost use Rattle.repeats.specs.private.Buckets.{buckets, bucketOf};
 
-// Whether each of two rows has the value of an earlier row.
-struct Pair {
-    first: bool,
-    second: bool,
+// Values are kept apart in so many buckets, and rows are held against each other only where two are in one.
+const BUCKETS: usize = 1024;
+
+// So many rows are few.
+const FEW: usize = 16;
+
+// Neighbours have buckets of their own, and so have those of two halves that are not far apart, as labels of a few groups.
+fn bucket(value: u32) -> usize
+    ensures { λ r. ⌜ r ≡ bucketOf value ⌝ }
+    ensures { λ r. ⌜ r < buckets ⌝ }
+{
+    (value as usize % 65536 + 251 * (value as usize / 65536)) % BUCKETS
 }
 
-// Of rows i and i + 1, in one pass over the rows before. There is no way out of the loop, so that several rows are compared at once.
-fn stand_before(values: &[u32], i: usize) -> Pair
-    requires { ⌜ i + 1 < length (now values) ⌝ }
-    ensures { λ r. ⌜ r .first ≡ repeatsAt (now (values .entry)) i ⌝ }
-    ensures { λ r. ⌜ r .second ≡ repeatsAt (now (values .entry)) (i + 1) ⌝ }
+// Whether row i has the value of an earlier row. There is no way out of the loop, so that several rows are compared at once.
+fn stands_before(values: &[u32], i: usize) -> bool
+    requires { ⌜ i < length (now values) ⌝ }
+    ensures { λ r. ⌜ r ≡ repeatsAt (now (values .entry)) i ⌝ }
 {
     let a = values[i];
-    let b = values[i + 1];
-    let mut first = false;
-    let mut second = false;
+    let mut found = false;
     for j in 0..i {
-        let value = values[j];
-        if value == a {
-            first = true;
-        }
-        if value == b {
-            second = true;
+        if values[j] == a {
+            found = true;
         }
     }
-    // row i comes before row i + 1 as well
-    if a == b {
-        second = true;
-    }
-    Pair { first, second }
+    found
 }
 
-// The lowest row that has the value of an earlier row, or that all rows differ.
+// The same, where it is known whether its bucket was met before; if not, no earlier row has its value.
+fn again(values: &[u32], i: usize, met: bool) -> bool
+    requires { ⌜ i < length (now values) ⌝ }
+    requires { ⌜ (met ≡ false → repeatsAt (now values) i ≡ false) ⌝ }
+    ensures { λ r. ⌜ r ≡ repeatsAt (now (values .entry)) i ⌝ }
+{
+    if met {
+        return stands_before(values, i);
+    }
+    false
+}
+
+// The lowest row that has the value of an earlier row, by holding each against all before it.
+fn first_of_few(values: &[u32]) -> FoundRow
+    ensures { λ r. ⌜ r ≡ firstRepeat (now (values .entry)) ⌝ }
+{
+    let n = values.len();
+    let mut k: usize = 0;
+    while k < n {
+        if stands_before(values, k) {
+            return FoundRow::At(Row(k));
+        }
+        k += 1;
+    }
+    FoundRow::Nothing
+}
+
+// The lowest row that has the value of an earlier row, or that all rows differ. For a few rows buckets would take longer to clear.
 pub fn first_repeat(values: &[u32]) -> FoundRow
     ensures { λ r. ⌜ r ≡ firstRepeat (now (values .entry)) ⌝ }
 {
     let n = values.len();
-    // no row comes before row 0, so the pairs of an odd number begin at row 1
-    let mut i = n % 2;
+    if n <= FEW {
+        return first_of_few(values);
+    }
+    let mut met = [false; BUCKETS];
+    let mut i: usize = 0;
     while i < n {
-        let found = stand_before(values, i);
-        if found.first {
+        let b = bucket(values[i]);
+        if again(values, i, met[b]) {
             return FoundRow::At(Row(i));
         }
-        if found.second {
-            return FoundRow::At(Row(i + 1));
-        }
-        i += 2;
+        met[b] = true;
+        i += 1;
     }
     FoundRow::Nothing
 }

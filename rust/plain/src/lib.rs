@@ -25,9 +25,8 @@ const STREAM: usize = 28;
 /// Without an acknowledgement.
 const OLD_STREAM: usize = 24;
 const GAP: usize = 4;
-const MOST_STREAMS: usize = 64;
 const MOST_GAPS: usize = 8;
-const LARGEST: usize = WRITTEN.size(MOST_STREAMS, MOST_GAPS);
+const LARGEST: usize = WRITTEN.size(WRITTEN.most_streams(), MOST_GAPS);
 const LONGEST_SLOT: u32 = 5_000_000;
 
 /// The words of a row's answer: its verdict, its bound, and the instance that gives it.
@@ -43,7 +42,7 @@ fn refused<T>(number: u64, place: usize) -> Result<T, Refused> {
 // ---- the plan file ----
 
 /// What a file says first. The first edition is for plans without a master node and the second for plans with one; the third is for
-/// both, and has acknowledgements.
+/// both, and has acknowledgements and more streams.
 #[derive(Clone, Copy, Debug, PartialEq, Eq)]
 pub enum Edition {
     One = 1,
@@ -61,6 +60,13 @@ impl Edition {
             2 => Some(Edition::Two),
             3 => Some(Edition::Three),
             _ => None,
+        }
+    }
+
+    const fn most_streams(self) -> usize {
+        match self {
+            Edition::One | Edition::Two => 64,
+            Edition::Three => 256,
         }
     }
 
@@ -109,8 +115,8 @@ fn word(bytes: &[u8]) -> u32 {
     u32::from_le_bytes([bytes[0], bytes[1], bytes[2], bytes[3]])
 }
 
-fn counts_fit(streams: usize, gaps: usize) -> bool {
-    (1..=MOST_STREAMS).contains(&streams) && gaps <= MOST_GAPS
+fn counts_fit(edition: Edition, streams: usize, gaps: usize) -> bool {
+    (1..=edition.most_streams()).contains(&streams) && gaps <= MOST_GAPS
 }
 
 /// A file's edition and how many streams it has, if its length and contents are right.
@@ -123,7 +129,7 @@ fn contents(file: &[u8]) -> Result<(Edition, usize), Refused> {
     };
     let streams = word(&file[28..]) as usize / edition.record();
     let gaps = word(&file[40..]) as usize / GAP;
-    if !counts_fit(streams, gaps) || file.len() != edition.size(streams, gaps) {
+    if !counts_fit(edition, streams, gaps) || file.len() != edition.size(streams, gaps) {
         return refused(2, 0);
     }
     let wanted = edition.contents(streams, gaps);
@@ -226,9 +232,42 @@ fn bad_byte(edition: Edition, plan: &Plan) -> Option<usize> {
     Some(edition.size(plan.streams.len(), gap))
 }
 
-/// The lowest row that repeats an earlier row. Rows are few, so looking back beats sorting.
-fn repeat(values: impl Iterator<Item = u32>) -> Option<usize> {
-    let mut seen = [0; 128];
+/// So many rows are looked through in less time than a table is cleared.
+const FEW: usize = 16;
+
+/// Twice as many places as there are rows, so that a free one is near. A power of 2.
+const TABLE: usize = 2 * WRITTEN.most_streams();
+
+/// The words met so far, each plus 1; 0 is a free place.
+struct Met([u64; TABLE]);
+
+impl Met {
+    /// Whether the word is new.
+    fn enter(&mut self, word: u32) -> bool {
+        let entry = u64::from(word) + 1;
+        // The top bits of such a product lie apart, also for words next to one another.
+        let product = entry.wrapping_mul(0x9E37_79B9_7F4A_7C15);
+        let mut at = (product >> (64 - TABLE.trailing_zeros())) as usize;
+        while self.0[at] != 0 && self.0[at] != entry {
+            at = (at + 1) % TABLE;
+        }
+        let new = self.0[at] == 0;
+        self.0[at] = entry;
+        new
+    }
+}
+
+/// The lowest row that repeats an earlier row, of no more than a plan may have.
+fn repeat(values: impl ExactSizeIterator<Item = u32>) -> Option<usize> {
+    if values.len() <= FEW {
+        return repeat_of_few(values);
+    }
+    let mut met = Met([0; TABLE]);
+    values.enumerate().find(|&(_, value)| !met.enter(value)).map(|(row, _)| row)
+}
+
+fn repeat_of_few(values: impl Iterator<Item = u32>) -> Option<usize> {
+    let mut seen = [0; FEW];
     for (row, value) in values.enumerate() {
         if seen[..row].contains(&value) {
             return Some(row);
@@ -250,9 +289,9 @@ pub fn check(plan: &Plan) -> Result<(), Refused> {
     check_as(WRITTEN, plan)
 }
 
-/// By the edition of a file, which decides on its places and on whether its P may be 0.
+/// By the edition of a file, which decides on its places, on its most streams and on whether its P may be 0.
 fn check_as(edition: Edition, plan: &Plan) -> Result<(), Refused> {
-    if !counts_fit(plan.streams.len(), plan.gaps.len()) {
+    if !counts_fit(edition, plan.streams.len(), plan.gaps.len()) {
         return refused(2, 0);
     }
     if let Some(byte) = bad_byte(edition, plan) {
@@ -363,7 +402,7 @@ impl Load {
         Load { period, jitter, cost: slot.unwrap_or(last), last, slack: jitter + period - 1 }
     }
 
-    /// At most 2^33 instances of less than 2^23 ticks, so that 64 of them stay below 2^62.
+    /// At most 2^33 instances of at most 5,000,000 ticks, so that 256 of them, and the hits too, stay below 2^64.
     fn demand(&self, window: u64) -> u64 {
         (window + self.slack) / self.period * self.cost
     }
@@ -442,7 +481,7 @@ impl Level<'_> {
         }
     }
 
-    /// How late instance q is, if it waits so long.
+    /// How late instance q is, if it waits so long: within a busy period, so that the numbers stay below 2^33.
     pub fn term(&self, q: u64, wait: u64) -> i64 {
         (self.own.jitter + wait + self.own.last) as i64 - (q * self.own.period) as i64
     }
@@ -665,8 +704,6 @@ fn check_bits(bits: u32, priorities: &[Priority]) -> Result<(), Refused> {
     }
 }
 
-/// As a call of its own it makes every step of a tournament slower.
-#[inline(always)]
 fn check_distinct(priorities: &[Priority]) -> Result<(), Refused> {
     match repeat(priorities.iter().map(|p| p.0)) {
         Some(row) => refused(9, row),

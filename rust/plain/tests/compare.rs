@@ -5,18 +5,21 @@ mod common;
 
 use common::{
     any_file_of, as_read, bytes, drawn, edge_plan, editions_of, etg_and_lag, etg_and_lag_of, file_in, file_of, hex, in_slots,
-    lag_case, lent, lent_words, need_all, need_lag_cases, other_slot, plan, plan_in, plan_of, repeat, shortest_slot, stream,
-    tally_acknowledgements, tally_instance, tally_lag, tally_no_room, tally_refusal, tally_rows, tally_slot, tally_tie, terms,
-    words, work, written_of, ByEdition, Counts, LagCase, Rng, Tally, BASE, EDITIONS, GREATEST, LARGEST, LONGEST_SLOT, MOST_WORK,
+    is_short, lag_case, lent, lent_words, many, many_streams, most_streams, need_all, need_lag_cases, oldest, other_slot, plan,
+    plan_in, plan_of, repeat, shortest_slot, stream, tally_acknowledgements, tally_instance, tally_lag, tally_no_room,
+    tally_refusal, tally_rows, tally_slot, tally_streams, tally_tie, terms, values_of, words, written_of, ByEdition, Counts,
+    LagCase, Rng, Tally, BASE, EDITIONS, GREATEST, H, LARGEST, LONGEST_SLOT, MANY, MOST_STREAMS,
 };
 use livnakesh::{Compared, Label, Priority, Reason, Refused, Stream};
 use plain::{self, Analysis, Edition, Plan, Worst, ETG, LAG, P, ROW};
+
+type Answers = fn(&[u8], &mut [u64]) -> Result<(), Refused>;
 
 // ---- both on one file ----
 
 /// The streams of a file, or any number if it is refused.
 fn streams(rng: &mut Rng, file: &[u8]) -> usize {
-    plain::read(file).map_or_else(|_| rng.within(1, 64) as usize, |plan| plan.streams.len())
+    plain::read(file).map_or_else(|_| rng.within(1, 256) as usize, |plan| plan.streams.len())
 }
 
 fn answers_alike(rng: &mut Rng, file: &[u8], tally: &mut Tally) -> Option<Vec<u64>> {
@@ -62,12 +65,19 @@ fn rewrite_alike(rng: &mut Rng, file: &[u8], tally: &mut Tally) {
 
 /// Both functions on a plan's file in each of its editions. Each is the same plan, and so has the same answers.
 fn plan_alike(rng: &mut Rng, plan: &Plan, tally: &mut Tally) {
+    let mut answered: Option<Vec<u64>> = None;
     for edition in editions_of(plan) {
         tally.count(format!("edition {}", edition as u32));
         let file = file_in(edition, plan);
         assert_eq!(plain::read(&file), Ok(as_read(plan)));
         rewrite_alike(rng, &file, tally);
-        answers_alike(rng, &file, tally);
+        let Some(words) = answers_alike(rng, &file, tally) else { continue };
+        if answered.as_ref().is_some_and(|older| *older != words) {
+            panic!("other answers than in an older edition: {}", hex(&file));
+        }
+        if answered.replace(words).is_some() {
+            tally.count("the answers of an older edition");
+        }
     }
 }
 
@@ -75,7 +85,7 @@ fn plan_alike(rng: &mut Rng, plan: &Plan, tally: &mut Tally) {
 fn file_alike(rng: &mut Rng, file: &[u8], tally: &mut Tally) {
     rewrite_alike(rng, file, tally);
     match plain::read(file) {
-        Ok(plan) if work(&plan, MOST_WORK).is_none() => tally.count("chains too long, rewritten only"),
+        Ok(plan) if !is_short(&plan) => tally.count("chains too long, rewritten only"),
         _ => {
             answers_alike(rng, file, tally);
         }
@@ -97,12 +107,7 @@ fn tally_plan(tally: &mut Tally, plan: &Plan) {
         90..=99 => "load: 90 to 99 %",
         _ => "load: 100 % and above",
     });
-    tally.count(match plan.streams.len() {
-        1 => "streams: 1",
-        2..=15 => "streams: 2 to 15",
-        16..=63 => "streams: 16 to 63",
-        _ => "streams: 64",
-    });
+    tally_streams(tally, plan);
     tally.count(format!("gaps: {}", plan.gaps.len()));
     tally.count(match plan.timing[plain::NB] {
         1..=4 => "NB: 1 to 4",
@@ -134,9 +139,15 @@ fn drawn_plans() {
     tallies.need_slotted(&["slot: just long enough", "slot: longer"], 10_000);
     tallies.need_all(&["LAG: 0", "LAG: fits", "LAG: just fits", "written back", "written anew"], 5_000);
     tallies.need_all(&["edition 3"], 50_000);
-    need_all(&tallies.one, &["edition 1", "refusal 6: room for the old file"], 1_000);
-    need_all(&tallies.two, &["edition 2", "refusal 6: room for the old file"], 1_000);
+    need_all(&tallies.one, &["edition 1", "refusal 6: room for the old file", "the answers of an older edition"], 1_000);
+    need_all(&tallies.two, &["edition 2", "refusal 6: room for the old file", "the answers of an older edition"], 1_000);
     need_all(&tallies.three, &["slot: none", "K: 0", "K: 1 to 100", "K: 101 to 65,534", "K: 65,535"], 5_000);
+    need_all(&tallies.many, &["row: met", "row: missed", "row: none"], 10_000);
+    need_all(&tallies.many, &["lent: too short", "lent: exact", "lent: longer", "written back", "written anew"], 100);
+    need_all(&tallies.many, &["load: below 50 %", "load: 50 to 89 %", "load: 90 to 99 %", "load: 100 % and above"], 100);
+    need_all(&tallies.many, &["slot: none", "slot: just long enough", "slot: longer", "LAG: 0", "LAG: fits"], 100);
+    need_all(&tallies.many, &["worst: the second instance", "worst: a later instance"], 10);
+    need_all(&tallies.many, &MANY, 100);
 }
 
 #[test]
@@ -145,6 +156,7 @@ fn plans_at_the_limits() {
     for _ in 0..80_000 {
         let plan = drawn(&mut rng, edge_plan, &mut tallies);
         let tally = tallies.of(&plan);
+        tally_streams(tally, &plan);
         tally_lag(tally, &plan);
         tally_slot(tally, &plan);
         tally_acknowledgements(tally, &plan);
@@ -154,6 +166,169 @@ fn plans_at_the_limits() {
     tallies.need_all(&["row: met", "row: missed", "row: none", "LAG: 0", "LAG: fits", "LAG: just fits"], 1_000);
     tallies.need_slotted(&["slot: just long enough", "slot: longer"], 1_000);
     need_all(&tallies.three, &["slot: none", "K: 0", "K: 1 to 100", "K: 101 to 65,534", "K: 65,535"], 1_000);
+    need_all(&tallies.many, &["row: met", "row: missed", "row: none", "slot: none", "slot: just long enough"], 50);
+    need_all(&tallies.many, &MANY, 100);
+}
+
+fn tally_many(tally: &mut Tally, plan: &Plan) {
+    tally_plan(tally, plan);
+    tally.count(match plan.streams.iter().any(|s| s.acknowledgement > 0) {
+        true => "acknowledged",
+        false => "for its streams alone",
+    });
+}
+
+/// The answer words of a plan, by both planners: by its values, by its file, and by the file that is written of it.
+fn answers_however_lent(rng: &mut Rng, plan: &Plan) -> Vec<u64> {
+    let (file, written) = (file_of(plan), written_of(plan));
+    let found = words(rng.next(), ROW * plan.streams.len() + 1);
+    let mut wanted = found.clone();
+    assert_eq!(plain::screen(plan, &mut wanted), Ok(()), "{}", hex(&file));
+    let mut by_values = found.clone();
+    assert_eq!(livnakesh::screen_words(&plan.streams, &plan.timing, &plan.gaps, &mut by_values), Ok(()), "{}", hex(&file));
+    assert_eq!(by_values, wanted, "{}", hex(&file));
+    let by_file: [(Answers, &[u8]); 3] =
+        [(livnakesh::answer_words, &file), (livnakesh::answer_words, &written), (plain::answers, &file)];
+    for (answer, file) in by_file {
+        let mut words = found.clone();
+        assert_eq!((answer(file, &mut words), &words), (Ok(()), &wanted), "{}", hex(file));
+    }
+    assert_eq!(wanted.pop().as_ref(), found.last(), "the word after the answers: {}", hex(&file));
+    wanted
+}
+
+/// One file is written of a plan: of its values, of its file, and of that file again.
+fn written_however_lent(plan: &Plan) {
+    let (file, written) = (file_of(plan), written_of(plan));
+    let mut buffer = vec![9; written.len()];
+    let said = livnakesh::write(plan.streams.len(), plan.gaps.len(), &values_of(plan), &mut buffer);
+    assert_eq!((said, &buffer), (Ok(written.len()), &written), "{}", hex(&file));
+    for file in [&file, &written] {
+        buffer.fill(9);
+        assert_eq!((livnakesh::rewrite(file, &mut buffer), &buffer), (Ok(written.len()), &written), "{}", hex(file));
+    }
+}
+
+#[test]
+fn many_streams_however_they_are_lent() {
+    let (mut rng, mut tally) = (Rng(0x256), Tally::default());
+    for k in 0..2_400 {
+        let plan = drawn(&mut rng, [many_streams, many_later][k % 2], &mut tally);
+        tally_many(&mut tally, &plan);
+        written_however_lent(&plan);
+        tally_rows(&mut tally, &answers_however_lent(&mut rng, &plan));
+        Analysis::new(&plan).levels().filter_map(|level| terms(&level)).for_each(|terms| tally_tie(&mut tally, &terms));
+    }
+    tally.print("many streams by file, values and rewritten file");
+    need_all(&tally, &MANY, 50);
+    need_all(&tally, &["row: met", "row: missed", "row: none"], 2_000);
+    need_all(
+        &tally,
+        &["acknowledged", "for its streams alone", "slot: none", "slot: just long enough", "gaps: 0", "gaps: 8"],
+        20,
+    );
+    need_all(&tally, &["load: below 50 %", "load: 50 to 89 %", "load: 90 to 99 %", "load: 100 % and above", "NB: 32"], 10);
+    need_all(&tally, &["worst: the second instance", "worst: a later instance", "tie: the first instance and a later one"], 20);
+    need_all(&tally, &["LAG: 0", "LAG: fits", "LAG: just fits"], 20);
+}
+
+/// Renumbers the streams from 0 on, in their order of priority.
+fn rank(plan: &mut Plan) {
+    let mut rows: Vec<usize> = (0..plan.streams.len()).collect();
+    rows.sort_by_key(|&row| plan.streams[row].priority);
+    (0..).zip(rows).for_each(|(rank, row)| plan.streams[row].priority = Priority(rank));
+}
+
+/// For an older edition, and so that less urgent streams, if there were more, would block none: in slots, or with a U of 0.
+fn unblock(plan: &mut Plan) {
+    plan.streams.iter_mut().for_each(|s| s.acknowledgement = 0);
+    plan.timing[plain::NB] = plan.timing[plain::NB].max(8);
+    if plan.timing[P] == 0 {
+        plan.timing[H..=LAG].fill(0);
+    } else {
+        plan.timing[P] = shortest_slot(plan).max(plan.timing[P]);
+    }
+    rank(plan);
+}
+
+fn unblocked(rng: &mut Rng) -> Plan {
+    let (n, m) = (rng.within(1, 64) as usize, rng.pick(&[0, 0, 1, 8]));
+    let mut plan = plan_of(rng, n, m);
+    unblock(&mut plan);
+    plan
+}
+
+/// One with an instance after the first that is the latest, or as late.
+fn unblocked_later(rng: &mut Rng) -> Plan {
+    loop {
+        let mut plan = small_plan(rng);
+        unblock(&mut plan);
+        let plan = evened(rng, plan);
+        let is_later = |terms: Vec<i64>| terms[1..].iter().any(|&term| term >= terms[0]);
+        if is_short(&plan) && Analysis::new(&plan).levels().filter_map(|level| terms(&level)).any(is_later) {
+            return plan;
+        }
+    }
+}
+
+/// More streams, up to 256, that are less urgent than all others, with messages of a tick. Often the first fills the channel, so that
+/// the others have none, and that soon.
+fn with_less_urgent(rng: &mut Rng, plan: &Plan) -> Plan {
+    let mut more = plan.clone();
+    let n = plan.streams.len();
+    let unused = (0..u32::MAX).filter(|&label| plan.streams.iter().all(|s| s.label.0 != label));
+    more.streams.extend((n..many(rng)).zip(unused).map(|(k, label)| stream(label, k as u32, u32::MAX, 0, 1, 1)));
+    if rng.one_in(2) {
+        more.streams[n].period = 1;
+    }
+    more
+}
+
+/// A few streams that nearly fill the channel below many that hardly ever send, so that instances after the first are the latest.
+fn many_later(rng: &mut Rng) -> Plan {
+    let mut plan = small_plan(rng);
+    plan.timing[plain::NB] = 8;
+    let mut plan = evened(rng, plan);
+    let (few, n) = (plan.streams.len(), many(rng));
+    for s in &mut plan.streams {
+        s.priority.0 += (n - few) as u32;
+    }
+    plan.streams.extend((0..(n - few) as u32).map(|k| stream(0, k, u32::MAX, 0, 1, 1_000)));
+    for (s, label) in plan.streams.iter_mut().zip(rng.distinct(n, u32::MAX)) {
+        s.label = Label(label);
+    }
+    rng.shuffle(&mut plan.streams);
+    plan
+}
+
+/// A file of edition 1 or 2, and one of edition 3 with more streams after its own.
+#[test]
+fn less_urgent_streams_that_block_none() {
+    let (mut rng, mut tallies) = (Rng(0x1E55), ByEdition::default());
+    for k in 0..1_000 {
+        let (plan, more) = loop {
+            let plan = drawn(&mut rng, [unblocked, unblocked_later][k % 2], &mut tallies);
+            let more = with_less_urgent(&mut rng, &plan);
+            if is_short(&more) {
+                break (plan, more);
+            }
+        };
+        let (n, old, new) = (plan.streams.len(), file_in(oldest(&plan), &plan), file_of(&more));
+        let (mut few, mut many) = (vec![9; ROW * n], vec![9; ROW * more.streams.len()]);
+        assert_eq!(livnakesh::answer_words(&old, &mut few), Ok(()));
+        assert_eq!(livnakesh::answer_words(&new, &mut many), Ok(()));
+        assert_eq!(few, many[..ROW * n], "{} and {}", hex(&old), hex(&new));
+        let tally = tallies.of(&plan);
+        tally_streams(tally, &plan);
+        tally_streams(tally, &more);
+        tally_rows(tally, &few);
+    }
+    tallies.print("plans, and the same with less urgent streams");
+    for tally in [&tallies.one, &tallies.two] {
+        need_all(tally, &["row: met", "row: missed", "row: none"], 200);
+        need_all(tally, &["worst: the second instance", "worst: a later instance"], 20);
+        need_all(tally, &MANY, 20);
+    }
 }
 
 /// P next to C'' of every row: the lowest row that does not fit is told, also where too little memory is lent, and one that fits
@@ -163,19 +338,24 @@ fn slots_next_to_every_message() {
     let (mut rng, mut tallies) = (Rng(0x510757), ByEdition::default());
     for _ in 0..4_000 {
         let (n, m) = (rng.pick(&[1, 2, 3, 5, 8, 64]), rng.below(9) as usize);
-        let edition = rng.pick(&[Edition::Two, Edition::Three]);
+        let (edition, n) = match rng.below(100) {
+            0 => (Edition::Three, many(&mut rng)),
+            k => ([Edition::Two, Edition::Three][k as usize % 2], n),
+        };
         let mut plan = plan_in(&mut rng, edition, n, m);
         let messages = in_slots(&plan);
         for slot in messages.iter().flat_map(|&message| [message - 1, message, message + 1]).filter(|&slot| slot > 0) {
             plan.timing[P] = slot;
             let tally = tallies.of(&plan);
             tally_slot(tally, &plan);
+            tally_streams(tally, &plan);
             let (file, whole) = (file_in(edition, &plan), written_of(&plan));
             let row = messages.iter().position(|&message| message > slot);
             tally.count(match row {
                 None => "all fit",
                 Some(0) => "the first row does not fit",
-                Some(_) => "a later row does not fit",
+                Some(1..=63) => "a later row does not fit",
+                Some(_) => "a row past the 64th does not fit",
             });
             if row.is_some_and(|row| messages[row] - plan.streams[row].acknowledgement <= slot) {
                 tally.count("a row does not fit for its acknowledgement");
@@ -202,6 +382,8 @@ fn slots_next_to_every_message() {
     tallies.need_slotted(&["all fit", "the first row does not fit", "a later row does not fit"], 5_000);
     tallies.need_slotted(&["slot: too short", "slot: just long enough", "slot: longer"], 1_000);
     tallies.three.need("a row does not fit for its acknowledgement", 5_000);
+    need_all(&tallies.many, &MANY, 1_000);
+    tallies.many.need("a row past the 64th does not fit", 100);
 }
 
 /// Periods next to C'' and long jitters: hundreds of thousands of steps or instances each.
@@ -354,7 +536,11 @@ fn small_plan(rng: &mut Rng) -> Plan {
 
 /// Messages of one cost, and periods and jitters of whole and half costs, so that many instances are equally late.
 fn even_plan(rng: &mut Rng) -> Plan {
-    let mut plan = small_plan(rng);
+    let plan = small_plan(rng);
+    evened(rng, plan)
+}
+
+fn evened(rng: &mut Rng, mut plan: Plan) -> Plan {
     let longest = plan.streams.iter().map(|s| s.payload + s.acknowledgement).max().expect("a plan has streams");
     plan.streams.iter_mut().for_each(|s| s.payload = longest - s.acknowledgement);
     if plan.timing[P] > 0 {
@@ -373,34 +559,52 @@ fn even_plan(rng: &mut Rng) -> Plan {
     plan
 }
 
+/// The plain planner on every row of a plan, against the rule with busy periods of up to `most`.
+fn counted_alike(plan: &Plan, most: u64, tally: &mut Tally) {
+    for level in Analysis::new(plan).levels() {
+        let busy_period = level.busy_period();
+        let counted = terms_by_counting(plan, level.row, most);
+        if counted.is_none() && busy_period.is_some_and(|length| length > most) {
+            tally.count("busy period too long to count");
+            continue;
+        }
+        let worst = counted.as_deref().map(worst_of);
+        assert_eq!(level.worst(), worst, "row {} of {}", level.row, hex(&file_of(plan)));
+        tally.count(if worst.is_some() { "bound" } else { "none" });
+        if let (Some(worst), Some(terms)) = (worst, counted) {
+            tally_instance(tally, worst.instance);
+            tally_tie(tally, &terms);
+        }
+    }
+}
+
 #[test]
 fn plain_planner_by_counting() {
     let (mut rng, mut tallies) = (Rng(0xC0DE), ByEdition::default());
     for _ in 0..60_000 {
         let draw = if rng.one_in(3) { even_plan } else { small_plan };
         let plan = drawn(&mut rng, draw, &mut tallies);
-        let tally = tallies.of(&plan);
-        for level in Analysis::new(&plan).levels() {
-            let counted = terms_by_counting(&plan, level.row, 4_000);
-            let busy_period = level.busy_period();
-            if counted.is_none() && busy_period.is_some_and(|length| length > 4_000) {
-                tally.count("busy period too long to count");
-                continue;
-            }
-            let worst = counted.as_deref().map(worst_of);
-            assert_eq!(level.worst(), worst, "row {} of {}", level.row, hex(&file_of(&plan)));
-            tally.count(if worst.is_some() { "bound" } else { "none" });
-            if let (Some(worst), Some(terms)) = (worst, counted) {
-                tally_instance(tally, worst.instance);
-                tally_tie(tally, &terms);
-            }
-        }
+        counted_alike(&plan, 4_000, tallies.of(&plan));
     }
     tallies.print("plain planner against the rule by counting up");
     tallies.need_all(&["bound", "none", "worst: the first instance"], 1_000);
     tallies.need_all(&["worst: the second instance", "tie: the first instance and a later one"], 300);
     tallies.need_all(&["worst: a later instance"], 100);
     tallies.need_all(&["tie: two later instances"], 25);
+}
+
+#[test]
+fn many_streams_by_counting() {
+    let (mut rng, mut tally) = (Rng(0xC0DE5), Tally::default());
+    for _ in 0..40 {
+        let plan = drawn(&mut rng, many_later, &mut tally);
+        tally_many(&mut tally, &plan);
+        counted_alike(&plan, 6_000, &mut tally);
+    }
+    tally.print("plain planner of many streams against the rule by counting up");
+    need_all(&tally, &MANY, 5);
+    need_all(&tally, &["bound", "worst: the first instance"], 1_000);
+    need_all(&tally, &["none", "slot: none", "slot: just long enough"], 5);
 }
 
 /// Of instances that are equally late both planners tell the first.
@@ -464,7 +668,10 @@ fn resize(rng: &mut Rng, file: &mut Vec<u8>, tally: &mut Tally) {
         0 => file.truncate(rng.below(length as u64) as usize),
         1 => file.truncate(length - rng.pick(&[1, 4, 24, 28])),
         2 => file.resize(length + rng.pick(&[1, 3, 4, 24, 28]), 1),
-        _ => file.resize(length + rng.within(1, 1_900) as usize, rng.next() as u8),
+        _ => {
+            let most = rng.pick(&[1_900, LARGEST as u64]);
+            file.resize(length + rng.within(1, most) as usize, rng.next() as u8);
+        }
     }
     tally.count(if file.len() < length { "damage: truncated" } else { "damage: extended" });
 }
@@ -513,32 +720,48 @@ fn damaged_files() {
         for _ in 0..15 {
             let file = damaged(&mut rng, &plan, tally);
             file_alike(&mut rng, &file, tally);
+            tally_streams(tally, &plan);
         }
     }
     tallies.print("damaged files");
-    tallies.need_all(
-        &["refusal 1", "refusal 2", "refusal 3", "refusal 11", "refusal 4", "refusal 5", "refusal 10", "refusal 6", "answered"],
-        1_000,
-    );
+    let all =
+        ["refusal 1", "refusal 2", "refusal 3", "refusal 11", "refusal 4", "refusal 5", "refusal 10", "refusal 6", "answered"];
+    tallies.need_all(&all, 1_000);
+    need_all(&tallies.many, &all, 50);
+    need_all(&tallies.many, &MANY, 100);
     tallies.need_all(&["damage: P", "damage: P of 0 in edition 2", "damage: another edition's word"], 1_000);
     tallies.need_all(&["damage: ETG and LAG"], 1_000);
 }
 
-/// Files of 1 to 64 streams with more or fewer in the contents, and counts that are out of range: 76 streams of an older edition are
-/// as long as the longest file.
+/// The numbers of streams next to each limit: of an older edition, of edition 3, and of the longest file, which has room for 300
+/// streams of an older edition.
+fn numbers_of_streams(edition: Edition) -> Vec<usize> {
+    let near = match edition {
+        Edition::One | Edition::Two => [127..=129, 254..=257, 299..=301],
+        Edition::Three => [127..=129, 190..=190, 254..=259],
+    };
+    (0..=67).chain(near.into_iter().flatten()).collect()
+}
+
+/// Files of as many streams as an edition has, more and fewer, also in the contents alone, and counts that are out of range.
 #[test]
 fn contents_of_all_sizes() {
     let (mut rng, mut tallies) = (Rng(0x512E5), ByEdition::default());
     for edition in EDITIONS {
-        for n in (0..=67_usize).chain(75..=77) {
+        let tally = tallies.at(edition);
+        for n in numbers_of_streams(edition) {
             for m in 0..=10_usize {
-                let mut plan = plan_in(&mut rng, edition, n.clamp(1, 64), m);
+                let mut plan = plan_in(&mut rng, edition, n.clamp(1, most_streams(edition)), m);
                 let last = plan.streams[0];
                 plan.streams.truncate(n);
                 plan.streams.resize(n, last);
-                let tally = tallies.of(&plan);
+                tally_streams(tally, &plan);
                 let file = file_in(edition, &plan);
                 file_alike(&mut rng, &file, tally);
+                let in_range = (1..=most_streams(edition)).contains(&n) && m <= 8;
+                let wanted = if file.len() > LARGEST { Some(1) } else { (!in_range).then_some(2) };
+                let refused = plain::read(&file).err();
+                assert_eq!(refused, wanted.map(|number| Refused { number, place: 0 }), "{edition:?}, {n} streams, {m} gaps");
                 for place in 0..11 {
                     for change in [1, 4, 24, 28, u32::MAX, 0x8000_0000] {
                         file_alike(&mut rng, &with_more(&file, place, change), tally);
@@ -549,6 +772,8 @@ fn contents_of_all_sizes() {
     }
     tallies.print("contents of all sizes");
     tallies.need_all(&["refusal 1", "refusal 2", "answered"], 100);
+    tallies.need_all(&MANY, 11);
+    tallies.need_all(&["streams: none", "streams: too many"], 11);
 }
 
 /// The file with so much more in one of its words.
@@ -564,7 +789,8 @@ fn random_bytes() {
     let (mut rng, mut tally) = (Rng(0xB17E5), Tally::default());
     let starts = EDITIONS.map(|edition| file_in(edition, &plan_in(&mut rng, edition, 5, 2)));
     for _ in 0..100_000 {
-        let length = rng.within(0, 2_000) as usize;
+        let most = rng.pick(&[2_000, 2_000, 8_000]);
+        let length = rng.within(0, most) as usize;
         let mut file = bytes(rng.next(), length);
         if rng.one_in(2) {
             let start = &starts[rng.below(3) as usize];
@@ -573,10 +799,13 @@ fn random_bytes() {
         }
         file_alike(&mut rng, &file, &mut tally);
     }
-    for length in [0, 1, 43, 44, 45, 79, 80, 83, 84, 85, 1_648, 1_649, 1_652, 1_653, 1_907, 1_908, 1_909] {
+    let edges = [0, 1, 43, 44, 45, 79, 80, 83, 84, 85, 1_648, 1_649, 1_652, 1_653, 1_907, 1_908, 1_909];
+    for length in edges.into_iter().chain(7_279..=7_288) {
         file_alike(&mut rng, &vec![0; length], &mut tally);
+        let number = if (44..=LARGEST).contains(&length) { 2 } else { 1 };
+        assert_eq!(plain::read(&vec![0; length]), Err(Refused { number, place: 0 }), "{length} bytes");
     }
-    tally.print("random bytes, 0 to 2,000 of them");
+    tally.print("random bytes, 0 to 8,000 of them");
     need_all(&tally, &["refusal 1", "refusal 2"], 1_000);
 }
 
@@ -586,6 +815,7 @@ fn plain_writer_and_reader_agree() {
     let (mut rng, mut tally) = (Rng(0x3217E), Tally::default());
     for _ in 0..50_000 {
         let mut plan = plan(&mut rng);
+        tally_streams(&mut tally, &plan);
         match rng.below(9) {
             0 => plan.timing[rng.below(9) as usize] = rng.wide(),
             1 => repeat(&mut rng, &mut plan, &mut tally),
@@ -608,6 +838,7 @@ fn plain_writer_and_reader_agree() {
         tally_refusal(&mut tally, wrote);
     }
     tally.print("plain writer on values against the library's reader on their file");
+    need_all(&tally, &MANY, 20);
     need_all(&tally, &["refusal 2", "refusal 3", "refusal 11", "refusal 4", "refusal 5", "refusal 10", "answered"], 100);
 }
 
@@ -630,6 +861,7 @@ fn a_lag_is_part_of_etg() {
     for _ in 0..20_000 {
         let plan = drawn(&mut rng, lagged, &mut tallies);
         let tally = tallies.of(&plan);
+        tally_streams(tally, &plan);
         let (n, written) = (plan.streams.len(), written_of(&plan));
         let mut wanted = vec![9; ROW * n];
         assert_eq!(livnakesh::answer_words(&written, &mut wanted), Ok(()));
@@ -639,7 +871,7 @@ fn a_lag_is_part_of_etg() {
             assert_ne!(with, without);
             tally.count(format!("edition {}", edition as u32));
             for file in [with, without] {
-                for answer in [livnakesh::answer_words, plain::answers] {
+                for answer in [livnakesh::answer_words as Answers, plain::answers] {
                     let mut words = vec![9; ROW * n];
                     assert_eq!((answer(&file, &mut words), &words), (Ok(()), &wanted), "{}", hex(&file));
                 }
@@ -658,6 +890,7 @@ fn a_lag_is_part_of_etg() {
     tallies.need_all(&["row: met", "row: missed", "row: none", "edition 3"], 5_000);
     tallies.one.need("edition 1", 5_000);
     tallies.two.need("edition 2", 5_000);
+    need_all(&tallies.many, &MANY, 10);
 }
 
 /// ETG and LAG at and next to their limits, also where more is wrong and where too little memory is lent.
@@ -677,7 +910,7 @@ fn etg_and_lag_in_files() {
             assert_eq!(rewrite(&file, &mut buffer), refused.map_or(Ok(needed), Err), "{}", hex(&file));
             assert_eq!(buffer, if refused.is_none() { written_of(&plan) } else { found }, "{}", hex(&file));
         }
-        if refused.is_some() || work(&plan, MOST_WORK).is_some() {
+        if refused.is_some() || is_short(&plan) {
             let found = words(rng.next(), ROW * n - short);
             let (mut proved, mut ours) = (found.clone(), found.clone());
             let wanted = refused.map_or(Ok(()), Err);
@@ -843,30 +1076,29 @@ fn hurt(rng: &mut Rng, old: &Plan, new: &mut Plan, condition: u64) {
 /// Demand 3 as it is stated, for two plans that are not refused: it compares what is read.
 fn demand_3(old: &Plan, new: &Plan) -> bool {
     let [old, new] = [old, new].map(as_read);
-    let find = |label: Label| old.streams.iter().find(|s| s.label == label);
-    let no_harder = |s: &Stream| {
-        find(s.label).is_some_and(|o| {
-            let longer = s.period >= o.period && s.deadline >= o.deadline;
-            longer && s.jitter <= o.jitter && s.payload <= o.payload && s.acknowledgement <= o.acknowledgement
-        })
+    let before = |s: &Stream| old.streams.iter().find(|o| o.label == s.label).copied();
+    let both: Option<Vec<(Stream, Stream)>> = new.streams.iter().map(|s| Some((before(s)?, *s))).collect();
+    let Some(both) = both else { return false };
+    let no_harder = |(o, s): &(Stream, Stream)| {
+        let longer = s.period >= o.period && s.deadline >= o.deadline;
+        longer && s.jitter <= o.jitter && s.payload <= o.payload && s.acknowledgement <= o.acknowledgement
     };
-    let in_order = |a: &Stream, b: &Stream| match (find(a.label), find(b.label)) {
-        (Some(old_a), Some(old_b)) => (a.priority < b.priority) == (old_a.priority < old_b.priority),
-        _ => false,
+    let in_order = |(old_a, a): &(Stream, Stream), (old_b, b): &(Stream, Stream)| {
+        (a.priority < b.priority) == (old_a.priority < old_b.priority)
     };
     (new.timing[P] > 0) == (old.timing[P] > 0)
-        && new.streams.iter().all(no_harder)
-        && new.streams.iter().all(|a| new.streams.iter().all(|b| in_order(a, b)))
+        && both.iter().all(no_harder)
+        && both.iter().all(|a| both.iter().all(|b| in_order(a, b)))
         && new.timing.iter().zip(old.timing).all(|(&new, old)| new <= old)
         && plain::partnered(&old.gaps, &new.gaps)
 }
 
 /// What "lighter" promises: a bound stays one and grows no larger, and met stays met. Which instance is the worst may change.
 fn promise_kept(old: &Plan, new: &Plan, tally: &mut Tally) {
-    if work(old, MOST_WORK).is_none() || work(new, MOST_WORK).is_none() {
+    if !is_short(old) || !is_short(new) {
         return tally.count("promise: chains too long");
     }
-    let (mut before, mut after) = ([9; ROW * 64], [9; ROW * 64]);
+    let (mut before, mut after) = ([9; ROW * MOST_STREAMS], [9; ROW * MOST_STREAMS]);
     let said = livnakesh::answer_words(&file_of(old), &mut before).and(livnakesh::answer_words(&file_of(new), &mut after));
     assert_eq!(said, Ok(()));
     for (row, stream) in new.streams.iter().enumerate() {
@@ -941,6 +1173,7 @@ fn pairs_of_plans() {
             repeat_gaps(&mut rng, &mut old);
         }
         let tally = tallies.of(&old);
+        tally_streams(tally, &old);
         pair_alike(&mut rng, &old, &old, tally);
         let easy = eased(&mut rng, &old);
         pair_alike(&mut rng, &old, &easy, tally);
@@ -962,19 +1195,30 @@ fn pairs_of_plans() {
     tallies.need_all(&["lighter"], 10_000);
     for k in (0..9).filter(|&k| k != LAG) {
         tallies.need_all(&[&format!("condition 1, constant {k}")], 100);
+        tallies.many.need(&format!("condition 1, constant {k}"), 20);
     }
     tallies.need_slotted(&[&format!("condition 1, constant {P}")], 500);
-    tallies.need_all(&["condition 2, new label", "condition 3, shorter period", "condition 4, longer jitter"], 500);
-    tallies.need_all(&["condition 5, longer payload", "condition 6, shorter deadline", "condition 7, less urgent"], 500);
-    tallies.need_all(&["condition 8, more noise", "condition 9, master node", "condition 10, longer acknowledgement"], 500);
+    for conditions in [
+        ["condition 2, new label", "condition 3, shorter period", "condition 4, longer jitter"],
+        ["condition 5, longer payload", "condition 6, shorter deadline", "condition 7, less urgent"],
+        ["condition 8, more noise", "condition 9, master node", "condition 10, longer acknowledgement"],
+    ] {
+        tallies.need_all(&conditions, 500);
+        need_all(&tallies.many, &conditions, 50);
+    }
     need_all(&tallies.one, &["editions 1 and 1", "editions 1 and 2", "editions 1 and 3", "editions 3 and 1"], 1_000);
     need_all(&tallies.two, &["editions 2 and 2", "editions 2 and 1", "editions 2 and 3", "editions 3 and 2"], 1_000);
     need_all(&tallies.three, &["editions 3 and 1", "editions 3 and 2", "editions 3 and 3"], 200);
     tallies.need_all(&["promise: row was met", "promise: row was missed", "promise: row had none"], 500);
     tallies.need_all(&["promise: another instance is the worst"], 50);
     for number in [1, 2, 3, 11, 4, 5, 10] {
-        tallies.need_all(&[&format!("first refused {number}"), &format!("second refused {number}")], 100);
+        let either = [&*format!("first refused {number}"), &format!("second refused {number}")];
+        tallies.need_all(&either, 100);
+        need_all(&tallies.many, &either, 5);
     }
+    need_all(&tallies.many, &["lighter", "promise: pair run"], 200);
+    need_all(&tallies.many, &["promise: row was met", "promise: row was missed", "promise: row had none"], 500);
+    need_all(&tallies.many, &MANY, 50);
 }
 
 /// LAG falls and ETG rises. What counts is both together: a LAG that falls makes up for an ETG that rises by no more than that.
@@ -1017,6 +1261,7 @@ fn pairs_with_etg_for_lag() {
     tallies.print("pairs with a greater ETG for a smaller LAG");
     tallies.need_all(&["ETG rises by less than LAG falls", "ETG rises by as much as LAG falls"], 1_000);
     tallies.need_all(&["ETG rises by more than LAG falls", "ETG and LAG are too great", "promise: pair run"], 500);
+    need_all(&tallies.many, &["ETG rises by as much as LAG falls", "ETG and LAG are too great", "promise: pair run"], 20);
 }
 
 #[test]

@@ -1,11 +1,11 @@
-//! Document 01's plans to run, plans in slots and plans with acknowledgements, with the figures that document 02 makes of them, worked
-//! out by hand: through the proved library and the plain planner.
+//! Document 01's plans to run, plans in slots, of many streams and with acknowledgements, with the figures that document 02 makes of
+//! them, worked out by hand: through the proved library and the plain planner.
 
 mod common;
 
 use common::{
     editions_of, file_in, file_of, met, met_at, missed, missed_at, oldest, stream, terms, values_of, written_of, BASE, EDITIONS,
-    LARGEST, LONGEST_SLOT,
+    LARGEST, LONGEST_SLOT, MOST_STREAMS,
 };
 use livnakesh::{Answer, Compared, Label, Outcome, Phase, Priority, Reason, Refused, Row, Stream};
 use plain::{self, Analysis, Edition, Level, Plan, Tournament, ETG, LAG, NB, P, ROW};
@@ -121,9 +121,9 @@ fn as_words(answer: Answer) -> [u64; ROW] {
 }
 
 fn answers(file: &[u8]) -> Result<Vec<Answer>, Refused> {
-    let mut words = [77; ROW * 64];
+    let mut words = [77; ROW * MOST_STREAMS];
     let proved = livnakesh::answer_words(file, &mut words);
-    let mut plain_words = [77; ROW * 64];
+    let mut plain_words = [77; ROW * MOST_STREAMS];
     assert_eq!(plain::answers(file, &mut plain_words), proved);
     assert_eq!(plain_words, words);
     let n = plain::read(file).map_or(0, |plan| plan.streams.len());
@@ -138,9 +138,9 @@ fn answers(file: &[u8]) -> Result<Vec<Answer>, Refused> {
 }
 
 fn rewritten(file: &[u8]) -> Result<Vec<u8>, Refused> {
-    let mut buffer = [77; 2_000];
+    let mut buffer = [77; LARGEST + 9];
     let proved = livnakesh::rewrite(file, &mut buffer);
-    let mut plain_buffer = [77; 2_000];
+    let mut plain_buffer = [77; LARGEST + 9];
     assert_eq!(plain::rewrite(file, &mut plain_buffer), proved);
     assert_eq!(plain_buffer, buffer);
     proved.map(|length| buffer[..length].to_vec())
@@ -148,7 +148,7 @@ fn rewritten(file: &[u8]) -> Result<Vec<u8>, Refused> {
 
 /// The file that the library writes of a plan's values.
 fn written(plan: &Plan) -> Result<Vec<u8>, Refused> {
-    let mut buffer = [77; 2_000];
+    let mut buffer = [77; LARGEST + 9];
     let length = livnakesh::write(plan.streams.len(), plan.gaps.len(), &values_of(plan), &mut buffer)?;
     assert!(buffer[length..].iter().all(|&byte| byte == 77));
     Ok(buffer[..length].to_vec())
@@ -156,7 +156,7 @@ fn written(plan: &Plan) -> Result<Vec<u8>, Refused> {
 
 /// What the screen gets for a plan's values.
 fn screened(plan: &Plan) -> Result<Vec<Answer>, Refused> {
-    let mut words = [77; ROW * 64];
+    let mut words = [77; ROW * MOST_STREAMS];
     livnakesh::screen_words(&plan.streams, &plan.timing, &plan.gaps, &mut words)?;
     let n = plan.streams.len();
     assert!(words[ROW * n..].iter().all(|&word| word == 77));
@@ -484,30 +484,41 @@ fn nine_timing_words_are_no_master_node() {
     assert_eq!((nine, none), (wanted, wanted));
 }
 
-/// So many streams that hardly ever send, and 8 gaps.
-fn crowd(streams: u32) -> Plan {
+// ---- many streams ----
+
+/// So many streams that hardly ever send, and 8 gaps. There is room for 512 priorities.
+fn crowd(streams: usize) -> Plan {
     let mut timing = BASE;
-    timing[NB] = 6;
-    let streams = (0..streams).map(|row| stream(row, row, 4_000_000, 0, 5, 4_000_000)).collect();
+    timing[NB] = 9;
+    let streams = (0..streams as u32).map(|row| stream(row, row, 4_000_000, 0, 5, 4_000_000)).collect();
     Plan { timing, streams, gaps: vec![4_000_000; 8] }
+}
+
+/// It is answered, and written as it should be, by its file and by its values.
+fn is_accepted(edition: Edition, plan: &Plan) {
+    let file = file_in(edition, plan);
+    assert_eq!(rewritten(&file), Ok(written_of(plan)));
+    assert_eq!(written(plan), Ok(written_of(plan)));
+    let rows = answers(&file);
+    assert!(rows.as_ref().is_ok_and(|rows| rows.len() == plan.streams.len()));
+    assert_eq!(screened(plan), rows);
 }
 
 /// The largest of each edition, and a few bytes more or less.
 #[test]
 fn the_largest_files() {
-    let slots = in_slots(crowd(64), 30);
+    let slots = |streams| in_slots(crowd(streams), 30);
     for (edition, plan, length) in
-        [(Edition::One, crowd(64), 1_648), (Edition::Two, slots.clone(), 1_652), (Edition::Three, slots, LARGEST)]
+        [(Edition::One, crowd(64), 1_648), (Edition::Two, slots(64), 1_652), (Edition::Three, slots(256), 7_284)]
     {
         let file = file_in(edition, &plan);
         assert_eq!(file.len(), length);
-        assert_eq!(rewritten(&file), Ok(written_of(&plan)));
-        assert!(answers(&file).is_ok_and(|rows| rows.len() == 64));
+        is_accepted(edition, &plan);
         is_refused(&file[..length - 1], 2, 0);
-        for long in [length + 1, length + 4, LARGEST - 1, LARGEST, LARGEST + 1].into_iter().filter(|&long| long > length) {
+        for long in [length + 1, length + 4, 1_908, 1_909, 7_283, 7_284, 7_285, 7_288].into_iter().filter(|&long| long > length) {
             let mut longer = file.clone();
             longer.resize(long, 0);
-            is_refused(&longer, if long > LARGEST { 1 } else { 2 }, 0);
+            is_refused(&longer, if long > 7_284 { 1 } else { 2 }, 0);
         }
     }
 }
@@ -517,11 +528,194 @@ fn the_largest_files() {
 fn files_of_1_653_to_1_908_bytes() {
     for streams in 56..=64 {
         let plan = acknowledged(crowd(streams), &[7]);
-        let file = file_of(&plan);
-        assert!(file.len() > 1_652 && file.len() <= 1_908);
-        assert_eq!(rewritten(&file), Ok(written_of(&plan)));
-        assert!(answers(&file).is_ok_and(|rows| rows.len() == streams as usize));
+        let length = file_of(&plan).len();
+        assert!(length > 1_652 && length <= 1_908);
+        is_accepted(Edition::Three, &plan);
     }
+}
+
+/// Their length alone was refused when 64 streams were the most. It is that of a plan, or they are refused as any other.
+#[test]
+fn files_of_1_909_to_7_284_bytes() {
+    for streams in 65..=256 {
+        let plan = crowd(streams);
+        let length = file_of(&plan).len();
+        assert!(length > 1_908 && length <= 7_284);
+        is_accepted(Edition::Three, &plan);
+    }
+    for edition in EDITIONS {
+        let mut file = file_in(edition, &in_slots(crowd(64), 30));
+        for length in 1_909..=7_300 {
+            file.resize(length, 0);
+            is_refused(&file, if length > 7_284 { 1 } else { 2 }, 0);
+        }
+    }
+}
+
+/// 64 in an older file and 256 in edition 3, whatever the gaps and whether there is a master node. A file of edition 3 with a stream
+/// and two gaps too many is too long before it has too many streams.
+#[test]
+fn one_stream_too_many() {
+    for (slot, gaps) in [0, 30].into_iter().flat_map(|slot| (0..=8).map(move |gaps| (slot, gaps))) {
+        let plan = |streams| Plan { gaps: vec![4_000_000; gaps], ..in_slots(crowd(streams), slot) };
+        let old = if slot == 0 { Edition::One } else { Edition::Two };
+        for streams in [1, 63, 64] {
+            is_accepted(old, &plan(streams));
+        }
+        for streams in [65, 66, 127, 128, 255, 256, 257] {
+            is_refused(&file_in(old, &plan(streams)), 2, 0);
+        }
+        for streams in [1, 64, 65, 128, 129, 255, 256] {
+            is_accepted(Edition::Three, &plan(streams));
+        }
+        is_refused(&file_of(&plan(257)), if gaps < 2 { 2 } else { 1 }, 0);
+        is_refused(&file_of(&plan(258)), 1, 0);
+        for streams in [0, 257, 258, 512, 65_600] {
+            assert_eq!(written(&plan(streams)), Err(Refused { number: 2, place: 0 }));
+            assert_eq!(screened(&plan(streams)), Err(Refused { number: 2, place: 0 }));
+            assert_eq!(plain::check(&plan(streams)), Err(Refused { number: 2, place: 0 }));
+        }
+        for edition in [old, Edition::Three] {
+            is_refused(&file_in(edition, &plan(0)), 2, 0);
+        }
+    }
+}
+
+/// So many rows in no order of priority, with C' 25 and C'' 33, or 26 in slots; none sends twice.
+fn one_each(streams: u32) -> Plan {
+    let mut timing = BASE;
+    timing[NB] = 8;
+    let row = |k: u32| stream(LABELS[0] + k, k * 37 % streams, 4_000_000, 0, 5, 4_000_000);
+    Plan { timing, streams: (0..streams).map(row).collect(), gaps: vec![] }
+}
+
+/// What each row of such a plan gets by its rank.
+fn by_rank(plan: &Plan, bound: impl Fn(u64) -> u64) -> Vec<Answer> {
+    plan.streams.iter().map(|s| met(bound(u64::from(s.priority.0)))).collect()
+}
+
+/// Each waits for all that are more urgent, 33 ticks or a slot of 34 for each; before that for the rest of a less urgent message, 24,
+/// and the last for none, or for the pulse, 33. A hit costs one of them more.
+#[test]
+fn one_message_of_each_stream() {
+    for streams in [1, 64, 65, 128, 129, 190, 255, 256] {
+        let plan = one_each(streams);
+        let last = u64::from(streams) - 1;
+        let blocked = |k: u64| if k == last { 0 } else { 24 };
+        gives(&plan, &by_rank(&plan, |k| blocked(k) + 33 * k + 33));
+        let noisy = Plan { gaps: vec![4_000_000; 8], ..plan.clone() };
+        gives(&noisy, &by_rank(&plan, |k| blocked(k) + 33 * k + 8 * 33 + 33));
+        gives(&in_slots(plan.clone(), 34), &by_rank(&plan, |k| 33 + 34 * k + 26));
+        gives(&in_slots(noisy, 34), &by_rank(&plan, |k| 33 + 34 * k + 8 * 34 + 26));
+    }
+}
+
+/// 256 streams that send at every tick, in the longest slots, with 8 noise sources that hit at every tick. With a jitter of 2 the first
+/// step comes to nearly 2^32, and the next to more than 2^62.
+#[test]
+fn the_greatest_sums() {
+    for jitter in [0, 2, u32::MAX] {
+        let mut plan = in_slots(crowd(256), LONGEST_SLOT);
+        for s in &mut plan.streams {
+            (s.period, s.jitter) = (1, jitter);
+        }
+        plan.gaps.fill(1);
+        let steps = at_level(&plan, 255, |level| [level.busy_step(1), level.busy_step(u64::from(u32::MAX))]);
+        assert!(jitter != 2 || steps[0] < 1 << 32 && steps[1] > 1 << 62, "{steps:?}");
+        gives(&plan, &[Answer::None; 256]);
+    }
+}
+
+/// The last of 256 rows is looked at as the first is.
+#[test]
+fn the_last_of_256_rows() {
+    let plan = in_slots(crowd(256), 30);
+    let last = |change: fn(&mut Stream)| {
+        let mut plan = plan.clone();
+        change(&mut plan.streams[255]);
+        plan
+    };
+    let first_byte = 84 + 28 * 255;
+    values_are_refused(&last(|s| s.priority.0 = 512), 3, first_byte + 4);
+    values_are_refused(&last(|s| s.period = 0), 3, first_byte + 8);
+    values_are_refused(&last(|s| s.payload = 0), 3, first_byte + 16);
+    values_are_refused(&last(|s| s.deadline = 0), 3, first_byte + 20);
+    values_are_refused(&last(|s| s.acknowledgement = 65_536), 3, first_byte + 24);
+    values_are_refused(&last(|s| s.acknowledgement = 3), 10, 255);
+    is_accepted(Edition::Three, &last(|s| s.acknowledgement = 2));
+    let mut gaps = plan.gaps.clone();
+    gaps[7] = 0;
+    values_are_refused(&Plan { gaps, ..plan.clone() }, 3, 7_280);
+}
+
+/// Wherever two rows repeat each other, the later one is told; of several the lowest.
+#[test]
+fn repeats_in_256_rows() {
+    for (early, late) in [(0, 1), (0, 63), (0, 64), (63, 64), (0, 127), (0, 128), (127, 128), (1, 255), (128, 255), (254, 255)] {
+        let mut plan = crowd(256);
+        plan.streams[late].label = plan.streams[early].label;
+        values_are_refused(&plan, 5, late as u64);
+        plan.streams[late].priority = plan.streams[early].priority;
+        values_are_refused(&plan, 4, late as u64);
+        for later in (late + 1..256).step_by(9) {
+            plan.streams[later].priority = plan.streams[early].priority;
+        }
+        values_are_refused(&plan, 4, late as u64);
+    }
+}
+
+/// A word or a byte fewer than 256 rows need is refused 6, and they stay.
+#[test]
+fn room_for_256_rows() {
+    let (plan, short) = (crowd(256), Err(Refused { number: 6, place: 0 }));
+    let file = file_of(&plan);
+    let (mut words, mut bytes) = ([77; 3 * 256 - 1], [77; 7_283]);
+    assert_eq!(livnakesh::answer_words(&file, &mut words), short);
+    assert_eq!(livnakesh::screen_words(&plan.streams, &plan.timing, &plan.gaps, &mut words), short);
+    assert_eq!(plain::answers(&file, &mut words), short);
+    assert_eq!(livnakesh::rewrite(&file, &mut bytes).map(|_| ()), short);
+    assert_eq!(livnakesh::write(256, 8, &values_of(&plan), &mut bytes).map(|_| ()), short);
+    assert_eq!(plain::rewrite(&file, &mut bytes).map(|_| ()), short);
+    assert_eq!((words, bytes), ([77; 3 * 256 - 1], [77; 7_283]));
+    assert_eq!(livnakesh::answer_words(&file, &mut [77; 3 * 256]), Ok(()));
+    assert_eq!(livnakesh::rewrite(&file, &mut [77; 7_284]), Ok(7_284));
+}
+
+/// 256 streams of edition 3 against the first 64 of them in an older file, and against one change in the last row.
+#[test]
+fn lighter_with_256_streams() {
+    let plan = crowd(256);
+    let file = file_of(&plan);
+    let again = Compared::RunAgain;
+    compared(&file, &file, Compared::Lighter);
+    compared(&file, &file_in(Edition::One, &crowd(64)), Compared::Lighter);
+    compared(&file_in(Edition::One, &crowd(64)), &file, again(Reason::NewLabel(Label(64))));
+    compared(&file_of(&crowd(255)), &file, again(Reason::NewLabel(Label(255))));
+    let changed = |row: usize, change: fn(&mut Stream)| {
+        let mut plan = plan.clone();
+        change(&mut plan.streams[row]);
+        file_of(&plan)
+    };
+    for row in [0, 63, 64, 127, 128, 255] {
+        let label = Label(row as u32);
+        compared(&file, &changed(row, |s| s.period -= 1), again(Reason::ShorterPeriod(label)));
+        compared(&file, &changed(row, |s| s.jitter += 1), again(Reason::LongerJitter(label)));
+        compared(&file, &changed(row, |s| s.payload += 1), again(Reason::LongerPayload(label)));
+        compared(&file, &changed(row, |s| s.deadline -= 1), again(Reason::ShorterDeadline(label)));
+        compared(&file, &changed(row, |s| s.acknowledgement += 1), again(Reason::LongerAcknowledgement(label)));
+        compared(&changed(row, |s| s.acknowledgement += 1), &file, Compared::Lighter);
+        // A gap in the numbers overtakes none. The least urgent number of all lets the later ones pass, but for the last.
+        let passed = if row == 255 { Compared::Lighter } else { again(Reason::LessUrgent(label)) };
+        compared(&file, &changed(row, |s| s.priority.0 = 511), passed);
+    }
+    let mut turned = Plan { gaps: vec![4_000_000; 7], ..plan };
+    turned.streams.reverse();
+    compared(&file, &file_of(&turned), Compared::Lighter);
+    turned.gaps.push(3_999_999);
+    compared(&file, &file_of(&turned), again(Reason::MoreNoise(3_999_999)));
+    turned.streams[0].priority = Priority(0);
+    turned.streams[255].priority = Priority(255);
+    compared(&file, &file_of(&turned), again(Reason::LessUrgent(Label(254))));
 }
 
 #[test]

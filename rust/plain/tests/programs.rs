@@ -6,9 +6,12 @@
 
 mod common;
 
-use common::{any_file_of, etg_and_lag_of, file_of, need_all, stream, terms, work, Rng, Tally, BASE, LARGEST, MOST_WORK};
+use common::{
+    any_file_of, drawn, etg_and_lag_of, file_in, file_of, is_short, need_all, stream, tally_streams, terms, Rng, Tally, BASE,
+    LARGEST, MANY, MOST_STREAMS,
+};
 use livnakesh::{Compared, Label, Phase, Priority, Reason, Refused};
-use plain::{self, Analysis, Plan, Tournament, ETG, LAG, NB, ROW};
+use plain::{self, Analysis, Edition, Plan, Tournament, ETG, LAG, NB, P, ROW};
 use std::io::Write;
 use std::path::{Path, PathBuf};
 use std::process::{Command, Stdio};
@@ -78,7 +81,7 @@ fn label(label: Label) -> String {
 
 /// The listing of a file, with the answer words that `answer` gives for it.
 fn listing_by(file: &[u8], answer: impl Fn(&[u8], &mut [u64]) -> Result<(), Refused>) -> String {
-    let mut words = [0; ROW * 64];
+    let mut words = [0; ROW * MOST_STREAMS];
     if let Err(refused) = answer(file, &mut words) {
         return refusal(refused);
     }
@@ -262,26 +265,28 @@ fn on_file(file: &[u8], at_once: usize) {
 
 #[test]
 fn drawn_and_damaged_plans() {
-    let mut rng = Rng(0x9406);
-    for _ in 0..40 {
-        let plan = common::plan(&mut rng);
-        if work(&plan, MOST_WORK).is_none() {
-            continue;
-        }
+    let (mut rng, mut tally) = (Rng(0x9406), Tally::default());
+    for k in 0..60 {
+        let draw = if k % 3 == 0 { common::many_streams } else { common::plan };
+        let plan = drawn(&mut rng, draw, &mut tally);
+        tally_streams(&mut tally, &plan);
         let mut file = any_file_of(&mut rng, &plan);
         on_file(&file, usize::MAX);
         let at = rng.below(file.len() as u64) as usize;
         file[at] ^= 1 << rng.below(8);
-        if plain::read(&file).map_or(true, |plan| work(&plan, MOST_WORK).is_some()) {
+        if plain::read(&file).map_or(true, |plan| is_short(&plan)) {
             on_file(&file, usize::MAX);
         }
     }
+    tally.print("drawn plans for the programs");
+    need_all(&tally, &MANY, 2);
 }
 
 #[test]
 fn random_bytes_and_files_of_any_length() {
     let mut rng = Rng(0xb17e5);
-    for length in [0, 1, 43, 44, 79, 80, 103, 104, 111, 112, 1_648, 1_652, 1_653, 1_908, 1_909, 4_095, 4_096, 4_097, 70_000] {
+    let few = [0, 1, 43, 44, 79, 80, 103, 104, 111, 112, 1_648, 1_652, 1_653, 1_908, 1_909, 4_095, 4_096, 4_097];
+    for length in few.into_iter().chain(7_279..=7_288).chain([8_191, 8_192, 8_193, 70_000]) {
         let bytes: Vec<u8> = (0..length).map(|_| rng.next() as u8).collect();
         on_file(&bytes, usize::MAX);
     }
@@ -336,15 +341,42 @@ fn files_with_a_lag() {
     }
 }
 
-/// Every field but the instance has as many digits as it gets: more bytes than any listing had before it had that column.
+/// Every field but the instance has as many digits as it gets. With an instance of ten digits a row would have 63 bytes, and 256 rows
+/// with their header 16,175.
 #[test]
 fn the_longest_rows() {
     let row = |k: u32| stream(u32::MAX - k, u32::MAX - k, u32::MAX, u32::MAX, 1, 1_000_000_000);
     let mut timing = BASE;
     timing[NB] = 32;
-    let file = file_of(&Plan { timing, streams: (0..64).map(row).collect(), gaps: vec![] });
-    assert_eq!(listing(&file).len(), 47 + 64 * (11 + 10 + 10 + 1 + 10 + 6 + 6));
-    on_file(&file, usize::MAX);
+    for streams in [64, 65, 256] {
+        let file = file_of(&Plan { timing, streams: (0..streams).map(row).collect(), gaps: vec![] });
+        let length = listing(&file).len();
+        assert_eq!(length, 47 + streams as usize * (11 + 10 + 10 + 1 + 10 + 6 + 6));
+        assert!(length < 16_175);
+        on_file(&file, usize::MAX);
+    }
+}
+
+/// So many streams that hardly ever send, and 8 gaps.
+fn crowd(streams: u32, slot: u32) -> Plan {
+    let mut timing = BASE;
+    [timing[NB], timing[P]] = [9, slot];
+    let row = |k: u32| stream(k, k, 4_000_000, 0, 5, 4_000_000);
+    Plan { timing, streams: (0..streams).map(row).collect(), gaps: vec![4_000_000; 8] }
+}
+
+/// An older file with more streams than it may have is refused whole, and no row of it is shown.
+#[test]
+fn older_files_of_many_streams() {
+    for (edition, slot) in [(Edition::One, 0), (Edition::Two, 60)] {
+        on_file(&file_in(edition, &crowd(64, slot)), usize::MAX);
+        for streams in [65, 190, 256] {
+            let file = file_in(edition, &crowd(streams, slot));
+            for program in ["listing", "refusals", "rewrite"] {
+                assert_eq!(run(program, &[], &file), (b"refused 2 at 0\n".to_vec(), REFUSED), "{program}, {streams} streams");
+            }
+        }
+    }
 }
 
 #[test]
@@ -454,6 +486,34 @@ fn lighter_with_etg_and_lag() {
                 assert_eq!(ran, (line.as_bytes().to_vec(), ended), "{old}, and {new} with ETG {etg}, LAG {lag}");
             }
         }
+    }
+    std::fs::remove_dir_all(folder).expect("it was ours");
+}
+
+/// Files of up to 7,284 bytes are read whole, and a longer one is not cut.
+#[test]
+fn lighter_with_256_streams() {
+    let folder = std::env::temp_dir().join(format!("livnakesh-many-{}", std::process::id()));
+    std::fs::create_dir_all(&folder).expect("a folder of our own");
+    let all = file_of(&crowd(256, 0));
+    let mut later = crowd(256, 0);
+    later.streams[255].jitter = 1;
+    let longer = [&all[..], &[0]].concat();
+    for (name, file) in [("all", &all), ("later", &file_of(&later)), ("longer", &longer), ("some", &file_of(&crowd(190, 0)))] {
+        std::fs::write(folder.join(name), file).expect("a plan");
+    }
+    for (old, new, line, ended) in [
+        ("all", "all", "lighter\n", ANSWERED),
+        ("all", "some", "lighter\n", ANSWERED),
+        ("some", "all", "run again: 0.190 is not in the first plan\n", RUN_AGAIN),
+        ("all", "later", "run again: 0.255 has a longer jitter\n", RUN_AGAIN),
+        ("later", "all", "lighter\n", ANSWERED),
+        ("longer", "all", "first refused 1 at 0\n", REFUSED),
+        ("all", "longer", "second refused 1 at 0\n", REFUSED),
+    ] {
+        let [first, second] = [old, new].map(|name| std::fs::read(folder.join(name)).expect("it was written"));
+        assert_eq!(told(&first, &second), (line.into(), ended), "{old} {new}");
+        assert_eq!(run_in(&folder, "lighter", &[old, new], b"", 1), (line.as_bytes().to_vec(), ended), "{old} {new}");
     }
     std::fs::remove_dir_all(folder).expect("it was ours");
 }
@@ -602,7 +662,7 @@ fn sham_programs_are_seen() {
     let contenders = [5, 3, 6].map(Priority);
     assert_ne!(replay_by(4, &contenders, idles), replay(4, &contenders));
     // what is made here is what the cases have, so the shams above differ by what they are
-    assert!(!seen(&|case| if case.plan.len() < 2_000 && !case.name.contains("slow") {
+    assert!(!seen(&|case| if case.plan.len() <= LARGEST && !case.name.contains("slow") {
         listing(&case.plan).into_bytes()
     } else {
         case.shown.clone()

@@ -4,22 +4,25 @@
 mod common;
 
 use common::{
-    as_read, bytes, drawn, edge_plan, etg_and_lag, file_of, lag_case, lent, lent_words, need_lag_cases, other_slot, plan,
-    plan_in, plan_of, repeat, stream, tally_lag, tally_no_room, tally_refusal, tally_rows, values_of, words, work, written_of,
-    ByEdition, Counts, LagCase, Rng, Tally, EDITIONS, LARGEST, MOST_WORK,
+    as_read, bytes, drawn, edge_plan, etg_and_lag, file_of, is_short, lag_case, lent, lent_words, most_streams, need_all,
+    need_lag_cases, other_slot, plan, plan_in, plan_of, repeat, stream, tally_lag, tally_no_room, tally_refusal, tally_rows,
+    values_of, words, written_of, ByEdition, Counts, LagCase, Rng, Tally, EDITIONS, LARGEST, MOST_STREAMS,
 };
 use livnakesh::{Refused, Stream};
 use plain::{self, Edition, Plan, ETG, LAG, P, ROW};
 
 /// Counts that no plan has, among them some that a cut to fewer bits or a product that wraps would take for a plan's.
 const WRONG_COUNTS: [usize; 10] =
-    [65, 66, 128, 256 + 3, 65_536 + 1, (1 << 32) + 2, usize::MAX / 28 + 2, usize::MAX / 4 + 2, 1 << 63, usize::MAX];
+    [257, 258, 512, 512 + 3, 65_536 + 1, (1 << 32) + 2, usize::MAX / 28 + 2, usize::MAX / 4 + 2, 1 << 63, usize::MAX];
 
 fn tally_counts(tally: &mut Tally, n: usize, m: usize) {
     tally.count(match n {
         0 => "counts: no streams",
         1..=64 => "counts: 1 to 64 streams",
-        65..=1_000 => "counts: 65 to 1,000 streams",
+        65..=255 => "counts: 65 to 255 streams",
+        256 => "counts: 256 streams",
+        257 => "counts: 257 streams",
+        258..=1_000 => "counts: 258 to 1,000 streams",
         _ => "counts: more streams",
     });
     tally.count(match m {
@@ -64,6 +67,19 @@ const ALL_OF_3: [&str; 7] = [
     "refusal 3: gap",
 ];
 
+/// Every refusal that values meet, and for 3 every field.
+fn need_wrong_values(tallies: &ByEdition) {
+    let all = ["refusal 3", "refusal 11", "refusal 4", "refusal 5", "refusal 6", "answered"];
+    tallies.need_all(&all, 1_000);
+    tallies.need_all(&ALL_OF_3, 500);
+    tallies.need_slotted(&["refusal 3: P", "refusal 10"], 1_000);
+    tallies.three.need("refusal 3: acknowledgement", 500);
+    need_all(&tallies.many, &all, 50);
+    need_all(&tallies.many, &ALL_OF_3, 15);
+    need_all(&tallies.many, &["refusal 3: P", "refusal 3: acknowledgement", "refusal 10"], 50);
+    need_all(&tallies.many, &["counts: 65 to 255 streams", "counts: 256 streams"], 500);
+}
+
 /// A field that is likely to be wrong; any label and jitter is right, but for a repeated label.
 fn hurt(rng: &mut Rng, plan: &mut Plan, tallies: &mut ByEdition) {
     let word = rng.pick(&[0, 0, 1, 33, 65_535, 65_536, u32::MAX, 0x8000_0000]);
@@ -104,7 +120,7 @@ fn hurt_plan(rng: &mut Rng, tallies: &mut ByEdition) -> Plan {
 
 /// The plan that lent words are. Counts above a plan's are cut, since one too many is as wrong as all of them.
 fn plan_from(n: usize, m: usize, values: &[u32]) -> Plan {
-    let (n, m) = (n.min(65), m.min(9));
+    let (n, m) = (n.min(MOST_STREAMS + 1), m.min(9));
     let word = |k: usize| values.get(k).copied().unwrap_or(0);
     let streams = (0..n).map(|row| {
         let [label, priority, period, jitter, payload, deadline, acknowledgement] =
@@ -164,17 +180,18 @@ fn values_of_drawn_plans() {
         assert!(matches!(said, Ok(_) | Err(Refused { number: 6, place: 0 })), "{said:?} for {values:?}");
     }
     tallies.print("values of drawn plans to the writer");
+    need_all(&tallies.many, &["counts: 65 to 255 streams", "counts: 256 streams", "read back", "refusal 6"], 200);
     tallies.need_all(&["answered", "read back", "words: as many as needed", "words: more"], 10_000);
     tallies.need_all(&["refusal 6", "lent: too short", "lent: exact", "lent: longer"], 5_000);
     tallies.need_all(&["LAG: 0", "LAG: fits", "LAG: just fits"], 5_000);
 }
 
-/// All numbers of streams and gaps, each into a byte too few, as many as needed, and a byte more.
+/// All numbers of streams and gaps, each into a byte too few, as many as needed, and a byte more. From 65 streams on there is one edition.
 #[test]
 fn buffers_a_byte_short() {
     let (mut rng, mut tallies) = (Rng(0xB17E), ByEdition::default());
     for edition in EDITIONS {
-        for n in 1..=64 {
+        for n in 1..=most_streams(edition) {
             for m in 0..=8 {
                 let values = values_of(&plan_in(&mut rng, edition, n, m));
                 let needed = 84 + 28 * n + 4 * m;
@@ -188,6 +205,7 @@ fn buffers_a_byte_short() {
     }
     tallies.print("buffers a byte short, exact and a byte long");
     tallies.need_all(&["answered", "refusal 6"], 1_152);
+    tallies.many.need("counts: 256 streams", 36);
 }
 
 fn other_count(rng: &mut Rng, count: usize, most: usize) -> usize {
@@ -210,13 +228,15 @@ fn values_with_other_counts() {
         let (mut n, mut m) = (plan.streams.len(), plan.gaps.len());
         match rng.below(4) {
             0 => m = other_count(&mut rng, m, 8),
-            1 => (n, m) = (other_count(&mut rng, n, 64), other_count(&mut rng, m, 8)),
-            _ => n = other_count(&mut rng, n, 64),
+            1 => (n, m) = (other_count(&mut rng, n, MOST_STREAMS), other_count(&mut rng, m, 8)),
+            _ => n = other_count(&mut rng, n, MOST_STREAMS),
         }
         _ = write_alike(&mut rng, n, m, &values_of(&plan), &mut tallies);
     }
     tallies.print("values with other counts to the writer");
-    tallies.need_all(&["counts: 65 to 1,000 streams", "counts: more streams"], 1_000);
+    need_all(&tallies.many, &["counts: 65 to 255 streams", "counts: 257 streams"], 1_000);
+    need_all(&tallies.many, &["counts: 258 to 1,000 streams", "counts: more streams", "refusal 2", "refusal 3"], 1_000);
+    need_all(&tallies.many, &["counts: 256 streams", "read back"], 50);
     need_no_streams(&tallies, 1_000);
     tallies.need_all(&["counts: 9 to 1,000 gaps", "counts: more gaps", "refusal 2", "refusal 3", "read back"], 1_000);
 }
@@ -242,6 +262,7 @@ fn too_few_words() {
     tallies.print("too few words to the writer");
     tallies.need_all(&["refusal 3", "refusal 3: period", "refusal 3: payload", "refusal 3: deadline"], 1_000);
     tallies.need_all(&["refusal 3: gap", "answered"], 200);
+    need_all(&tallies.many, &["counts: 65 to 255 streams", "counts: 256 streams"], 1_000);
     // P is lent after NB, so that without an NB there is no P either.
     tallies.one.need("refusal 3: NB", 900);
 }
@@ -254,10 +275,7 @@ fn wrong_values_to_the_writer() {
         _ = write_alike(&mut rng, plan.streams.len(), plan.gaps.len(), &values_of(&plan), &mut tallies);
     }
     tallies.print("wrong values to the writer");
-    tallies.need_all(&["refusal 3", "refusal 11", "refusal 4", "refusal 5", "refusal 6", "answered"], 1_000);
-    tallies.need_all(&ALL_OF_3, 500);
-    tallies.need_slotted(&["refusal 3: P", "refusal 10"], 1_000);
-    tallies.three.need("refusal 3: acknowledgement", 500);
+    need_wrong_values(&tallies);
 }
 
 // ---- the screen ----
@@ -313,6 +331,8 @@ fn screens_of_drawn_plans() {
         assert!(matches!(said, Ok(()) | Err(Refused { number: 6, place: 0 })), "{said:?} for {plan:?}");
     }
     tallies.print("screens of drawn plans");
+    need_all(&tallies.many, &["counts: 65 to 255 streams", "counts: 256 streams", "answered", "refusal 6"], 100);
+    need_all(&tallies.many, &["row: met", "row: missed", "row: none"], 1_000);
     tallies.need_all(&["answered", "row: met", "row: missed", "row: none"], 10_000);
     tallies.need_all(&["refusal 6", "lent: too short", "lent: exact", "lent: longer"], 5_000);
     tallies.need_all(&["refusal 6: room but for the instances"], 1_000);
@@ -323,10 +343,10 @@ fn screens_of_drawn_plans() {
 #[test]
 fn words_one_short() {
     let (mut rng, mut tallies) = (Rng(0x3085), ByEdition::default());
-    for (edition, n) in EDITIONS.into_iter().flat_map(|edition| (1..=64).map(move |n| (edition, n))) {
+    for (edition, n) in EDITIONS.into_iter().flat_map(|edition| (1..=most_streams(edition)).map(move |n| (edition, n))) {
         let plan = loop {
             let plan = plan_in(&mut rng, edition, n, n % 9);
-            if work(&plan, MOST_WORK).is_some() {
+            if is_short(&plan) {
                 break plan;
             }
         };
@@ -338,24 +358,22 @@ fn words_one_short() {
     }
     tallies.print("answer words two a row, one short, exact and one more");
     tallies.need_all(&["answered", "refusal 6: room but for the instances"], 128);
+    tallies.many.need("counts: 256 streams", 5);
 }
 
 #[test]
 fn screens_of_wrong_values() {
     let (mut rng, mut tallies) = (Rng(0x5C4E3), ByEdition::default());
-    for _ in 0..250_000 {
+    for _ in 0..300_000 {
         let plan = hurt_plan(&mut rng, &mut tallies);
-        if plain::check(&plan).is_ok() && work(&plan, MOST_WORK).is_none() {
+        if plain::check(&plan).is_ok() && !is_short(&plan) {
             tallies.of(&plan).count("(chains too long, not run)");
             continue;
         }
         _ = screen_alike(&mut rng, &plan, &plan.timing, &mut tallies);
     }
     tallies.print("screens of wrong values");
-    tallies.need_all(&["refusal 3", "refusal 11", "refusal 4", "refusal 5", "refusal 6", "answered"], 1_000);
-    tallies.need_all(&ALL_OF_3, 500);
-    tallies.need_slotted(&["refusal 3: P", "refusal 10"], 1_000);
-    tallies.three.need("refusal 3: acknowledgement", 500);
+    need_wrong_values(&tallies);
 }
 
 /// Lists that are empty or too long, whatever else is wrong with them.
@@ -365,28 +383,29 @@ fn screens_of_other_lengths() {
     for _ in 0..60_000 {
         let mut plan = drawn(&mut rng, plan, &mut tallies);
         let (n, last) = (plan.streams.len(), plan.streams[0]);
-        match rng.below(4) {
-            0 => plan.streams.clear(),
-            1 => plan.streams.resize(rng.pick(&[65, 66, 67, 128, 256 + n, 1_100]), last),
-            2 => plan.gaps.resize(rng.pick(&[9, 10, 16, 256, 256 + 3, 1_100]), 1_000),
+        match rng.below(16) {
+            0..=4 => plan.streams.clear(),
+            5..=9 => plan.streams.resize(rng.pick(&[257, 258, 259, 512, 512 + n, 1_100]), last),
+            10..=13 => plan.gaps.resize(rng.pick(&[9, 10, 16, 256, 256 + 3, 1_100]), 1_000),
             _ => {
-                // As many as a plan may have and one more, all of them right.
-                plan = plan_of(&mut rng, 65, 8);
-                plan.streams.truncate(rng.pick(&[64, 65]));
+                // As many as a plan may have and one more, all of them right; and one more than an older file has.
+                plan = plan_of(&mut rng, MOST_STREAMS + 1, 8);
+                plan.streams.truncate(rng.pick(&[64, 64, 65, 255, 256, 257]));
                 plan.gaps.resize(rng.pick(&[0, 8, 9]), 4_000_000_000);
             }
         }
-        if plain::check(&plan).is_ok() && work(&plan, MOST_WORK).is_none() {
+        if plain::check(&plan).is_ok() && !is_short(&plan) {
             tallies.of(&plan).count("(chains too long, not run)");
             continue;
         }
         _ = screen_alike(&mut rng, &plan, &plan.timing, &mut tallies);
     }
     tallies.print("screens with other numbers of streams and gaps");
-    tallies.need_all(&["counts: 65 to 1,000 streams", "counts: more streams"], 500);
+    need_all(&tallies.many, &["counts: 257 streams", "counts: 258 to 1,000 streams", "counts: more streams"], 500);
     need_no_streams(&tallies, 500);
     tallies.need_all(&["counts: 9 to 1,000 gaps", "counts: more gaps", "refusal 2"], 500);
     tallies.need_all(&["answered"], 200);
+    need_all(&tallies.many, &["counts: 65 to 255 streams", "counts: 256 streams"], 100);
 }
 
 /// A plan whose chains are short with its master node and without it.
@@ -395,7 +414,7 @@ fn short_either_way(rng: &mut Rng) -> Plan {
         let plan = plan(rng);
         let mut without = plan.clone();
         without.timing[P] = 0;
-        if work(&without, MOST_WORK).is_some() {
+        if is_short(&without) {
             return plan;
         }
     }
@@ -412,12 +431,13 @@ fn timings_of_other_lengths() {
         for count in 0..=timing.len() {
             let lent = &timing[..count];
             let plan = Plan { timing: std::array::from_fn(|k| lent.get(k).copied().unwrap_or(0)), ..plan.clone() };
-            let said = screen_into(&words(rng.next(), ROW * 64), &plan, lent, &mut tallies);
+            let said = screen_into(&words(rng.next(), ROW * MOST_STREAMS), &plan, lent, &mut tallies);
             let wanted = if count < 9 { Err(Refused { number: 3, place: 76 }) } else { Ok(()) };
             assert_eq!(said, wanted, "{count} timing words: {plan:?}");
         }
     }
     tallies.print("timings of other lengths");
+    need_all(&tallies.many, &["answered", "refusal 3: NB"], 50);
     tallies.need_all(&["answered", "row: met"], 3_000);
     tallies.one.need("refusal 3: NB", 3_000);
     tallies.three.need("refusal 3: NB", 3_000);
@@ -435,7 +455,7 @@ fn etg_and_lag_as_values() {
         let (n, m, needed) = (plan.streams.len(), plan.gaps.len(), size(&plan));
         let said = write_into(&bytes(rng.next(), needed - short), n, m, &values_of(&plan), &mut tallies);
         assert_eq!(said, refused.map_or(Ok(needed), Err), "{plan:?}");
-        if refused.is_some() || work(&plan, MOST_WORK).is_some() {
+        if refused.is_some() || is_short(&plan) {
             let said = screen_into(&words(rng.next(), ROW * n - short), &plan, &plan.timing, &mut tallies);
             assert_eq!(said, refused.map_or(Ok(()), Err), "{plan:?}");
         }

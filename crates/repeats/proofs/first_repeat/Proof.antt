@@ -1,62 +1,96 @@
--- The loop leaves at the first row that repeats an earlier one, so no row behind it does. A turn takes two rows, and the number of
--- rows that are left is even. Assumes nothing.
-use mathlib.Core.Path.{_≡_, sym, ap, _∙_}
-use mathlib.Core.Bool.{Bool, false}
-use Prim.Native.Nat.{ℕ, _+_, _-_, _%_}
-use native.Mathlib.Omega.{arith}
+-- The loop leaves at the first row that repeats an earlier one, so no row behind it does; and the bucket of each row behind it was met. Assumes nothing.
 use borrow.Author.Needs.{needs}
-use lib.ListN.{length}
+use borrow.Author.Count.{below-more}
+use borrow.Author.Tests.{ne-eqb}
+use mathlib.Core.Path.{_≡_, refl, sym, ap, _∙_}
+use mathlib.Core.Bool.{Bool, true, false, true≢false}
+use mathlib.Core.List.{List}
+use Prim.Native.Nat.{ℕ, _+_, _-_, _≤_, _<_}
+use native.Mathlib.Nat.{le-refl, lt-of-not-le}
+use native.Mathlib.Decide.{decLe}
+use native.Mathlib.Omega.{arith}
+use lib.ListN.{length, getD, set, length-set}
+use denote.Ref.{now}
+use lib.Seq.{getD-set-same, getD-set-other}
+use Rattle.laws.proofs.Rows.{NoneBelow, none-more, found-at, found-none, some-none}
 use Rattle.repeats.specs.Repeats.{repeatsAt, asRow, firstRepeat}
-use Rattle.laws.proofs.Rows.{NoneBelow, none-yet, none-more, found-at, found-none, some-none}
+use Rattle.repeats.specs.private.Buckets.{buckets, bucketOf}
 use Rattle.repeats.proofs.first_repeat.Statement.{statement}
 use Rattle.repeats.proofs.first_repeat.Tie as tie
 
--- a row that was asked and does not repeat is behind too
-behind : (t : ℕ → Bool) (i : ℕ) {b : Bool} → NoneBelow t i → b ≡ t i → b ≡ false → NoneBelow t (i + 1)
-behind t i h e f = none-more t i h (sym e ∙ f)
+-- the bucket of each of the first i rows was met
+abbrev Met : List ℕ → List Bool → ℕ → Type 0
+Met xs met i = (j : ℕ) → j < i → getD met (bucketOf (getD xs j 0)) false ≡ true
+
+-- a row whose bucket was not met repeats none
+unmet : (xs : List ℕ) (met : List Bool) (i : ℕ) → Met xs met i → getD met (bucketOf (getD xs i 0)) false ≡ false → repeatsAt xs i ≡ false
+unmet xs met i all m =
+    some-none _ i i (λ k h. ne-eqb _ _ (λ e. true≢false (sym (all k h) ∙ ap (λ v. getD met (bucketOf v) false) e ∙ m))) (le-refl i)
+
+-- a bucket more
+marked : (met : List Bool) (b k : ℕ) → b < length met → getD met k false ≡ true → getD (set met b true) k false ≡ true
+marked met b k h e =
+    elim (decLe k b) [
+      | no more ↦ getD-set-other met b k true false (λ d. omega (arith, d, lt-of-not-le more)) ∙ e
+      | yes less ↦ elim (decLe b k) [
+        | no more ↦ getD-set-other met b k true false (λ d. omega (arith, d, lt-of-not-le more)) ∙ e
+        | yes also ↦ (let same : k ≡ b = omega arith in ap (λ z. getD (set met b true) z false) same ∙ getD-set-same met b true false h)
+      ]
+    ]
+
+met-more : (xs : List ℕ) (met : List Bool) (i b : ℕ) → b < length met → b ≡ bucketOf (getD xs i 0) → Met xs met i → Met xs (set met b true) (i + 1)
+met-more xs met i b h e all =
+    below-more (λ j. getD (set met b true) (bucketOf (getD xs j 0)) false ≡ true) i (λ j g. marked met b _ h (all j g))
+    (ap (λ z. getD (set met b true) z false) (sym e) ∙ getD-set-same met b true false h)
 
 abbrev Inv-loop : tie.InvT-loop
-Inv-loop values n i₀ i = (i % 2 ≡ length values % 2) × NoneBelow (repeatsAt values) i
+Inv-loop values n met₀ i₀ met i = (i ≤ length values) × NoneBelow (repeatsAt values) i × (length met ≡ buckets) × Met values met i
 
 abbrev μ-loop : tie.MeasureT-loop
-μ-loop values n i₀ i = n - i
+μ-loop values n met₀ i₀ met i = n - i
 
 loop-holds : tie.Need-loop-holds Inv-loop μ-loop
-loop-holds c = (omega arith, λ k h. some-none _ k 0 (none-yet _) (omega arith))
+loop-holds c = (omega arith, (λ k h. absurd (omega arith)), refl, (λ j h. absurd (omega arith)))
 
-returns : tie.Need-returns Inv-loop μ-loop
-unfolding firstRepeat
-returns c =
-    let l = c .before .before .before in
-    let xs = l .before .before .args .values .now in
-    ap asRow (sym (found-at (repeatsAt xs) (length xs) (l .loop .i) (l .loop .inv .1) (search needs) (sym (c .before .stand-before .ensures .0) ∙ c .if1 .taken)))
+array-read-again : tie.Need-array-read-again Inv-loop μ-loop
+array-read-again c = c .bucket .ensures .1
+
+again-requires : tie.Need-again-requires Inv-loop μ-loop
+again-requires c κs =
+    let d = c .before .before in
+    let l = d .before .loop in
+    let xs = now (d .before .before .before .before .args .values) in
+    (search needs, λ e. unmet xs (l .met) (l .i) (l .inv .3) (ap (λ b. getD (l .met) b false) (sym (c .bucket .ensures .0)) ∙ e))
 
 returns-2 : tie.Need-returns-2 Inv-loop μ-loop
 unfolding firstRepeat
 returns-2 c =
-    let w = c .before .before in
-    let l = w .before .before in
-    let xs = l .before .before .args .values .now in
-    let none = behind (repeatsAt xs) (l .loop .i) (l .loop .inv .1) (w .stand-before .ensures .0) (c .before .if1 .left) in
-    ap asRow (sym (found-at (repeatsAt xs) (length xs) (l .loop .i + 1) none (search needs) (sym (w .stand-before .ensures .1) ∙ c .if2 .taken)))
+    let a = c .before in
+    let l = a .before .before .before .before in
+    let xs = l .before .before .before .args .values .now in
+    ap asRow (sym (found-at (repeatsAt xs) (length xs) (l .loop .i) (l .loop .inv .1) (search needs) (sym (a .again .ensures) ∙ c .if2 .taken)))
+
+array-write-met : tie.Need-array-write-met Inv-loop μ-loop
+array-write-met c = c .before .before .bucket .ensures .1
 
 loop-again : tie.Need-loop-again Inv-loop μ-loop
 loop-again c =
-    let w = c .before .before in
-    let l = w .before .before in
-    let t = repeatsAt (l .before .before .args .values .now) in
-    let none = behind t (l .loop .i) (l .loop .inv .1) (w .stand-before .ensures .0) (c .before .if1 .left) in
-    (omega arith, λ k h. behind t (l .loop .i + 1) none (w .stand-before .ensures .1) (c .if2 .left) k (omega arith))
+    let a = c .before in
+    let b = a .before in
+    let l = b .before .before .before in
+    let xs = l .before .before .before .args .values .now in
+    let room : b .bucket .result < length (l .loop .met) = omega (arith, b .bucket .ensures .1, l .loop .inv .2) in
+    (search needs, none-more (repeatsAt xs) (l .loop .i) (l .loop .inv .1) (sym (a .again .ensures) ∙ c .if2 .left), length-set (l .loop .met) (b .bucket .result) true ∙ l .loop .inv .2, met-more xs (l .loop .met) (l .loop .i) (b .bucket .result) room (b .bucket .ensures .0) (l .loop .inv .3))
 
 returns-3 : tie.Need-returns-3 Inv-loop μ-loop
 unfolding firstRepeat
 returns-3 c =
-    let xs = c .before .before .before .args .values .now in
+    let xs = c .before .before .before .before .args .values .now in
     let l = c .before .loop in
     ap asRow (sym (found-none (repeatsAt xs) (length xs) (l .i) (l .inv .1) (search needs)))
 
 pub first-repeat-spec : {M : Type 1} → statement M
 first-repeat-spec =
     tie.close
-    (tie.spec Inv-loop μ-loop loop-holds (λ c κs. search needs) returns (λ c. search needs) returns-2 (λ c. search needs)
-    (λ c. search needs) loop-again returns-3)
+    (tie.spec Inv-loop μ-loop (λ c κs. search needs) (λ c. search needs) loop-holds (λ c. search needs) (λ c. search needs) (λ c κs. search needs)
+    array-read-again again-requires returns-2 array-write-met (λ c. search needs) (λ c. search needs) loop-again returns-3)

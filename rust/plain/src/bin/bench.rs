@@ -17,10 +17,25 @@ const BASE_6: Timing = [4, 1, 1, 2, 1, 1, 2, 1, 6, 0];
 /// As `BASE_6` with a master node.
 const SLOTS_6: Timing = [4, 1, 1, 2, 1, 1, 2, 1, 6, 30];
 
-/// The longest file, that of 64 streams and 8 gaps.
-const LARGEST: usize = 1_908;
+/// As `BASE` with room for 256 priorities: V is 8 and U is 20.
+const BASE_8: Timing = [4, 1, 1, 2, 1, 1, 2, 1, 8, 0];
+
+/// As `BASE_8` with a master node; the longest message has 32 ticks.
+const SLOTS_8: Timing = [4, 1, 1, 2, 1, 1, 2, 1, 8, 34];
+
+const MOST_STREAMS: usize = 256;
+
+/// The longest file, that of 256 streams and 8 gaps.
+const LARGEST: usize = 7_284;
+
+/// Noise that takes about 1.5 % of the channel, where the longest message costs 35 or 39 ticks, and a quarter of that.
+const GAPS: [u32; 8] = [20_011, 20_023, 20_029, 20_047, 20_051, 20_063, 20_071, 20_089];
+const LONG_GAPS: [u32; 8] = [80_021, 80_039, 80_051, 80_071, 80_077, 80_107, 80_111, 80_141];
 
 const ROUNDS: u32 = 60;
+
+/// Where a call takes milliseconds.
+const FEWER_ROUNDS: u32 = 12;
 
 /// How long a round of one side should take: long beside the clock's own step, short enough to go through undisturbed.
 const ROUND: Duration = Duration::from_millis(2);
@@ -30,19 +45,19 @@ fn stream(row: u32, period: u32, jitter: u32, payload: u32) -> Stream {
     Stream { label, priority, period, jitter, payload, deadline: period, acknowledgement: 0 }
 }
 
-/// 64 streams whose periods lie apart by up to a factor of 16, with a load of so many in 10,000.
-fn full(timing: Timing, load: u64, gaps: Vec<u32>) -> Plan {
+/// So many streams, whose periods lie apart by up to a factor of 16, with a load of so many in 10,000.
+fn full(count: u32, timing: Timing, load: u64, gaps: &[u32]) -> Plan {
     let cost = |sent: u32| plain::slot(&timing).unwrap_or(plain::setup(&timing) + u64::from(sent));
-    let weight = |row: u32| u64::from(16 - row / 4);
-    let all: u64 = (0..64).map(weight).sum();
-    // Rows stand in no order of priority, as on the desk.
-    let streams = (0..64).map(|k| {
-        let row = k * 37 % 64;
+    let weight = |row: u32| u64::from(16 - 16 * row / count);
+    let all: u64 = (0..count).map(weight).sum();
+    // Rows stand in no order of priority, as on the desk. No count here is a multiple of 37, so that each stands there once.
+    let streams = (0..count).map(|k| {
+        let row = k * 37 % count;
         let (payload, acknowledgement) = (5, row % 7);
         let period = cost(payload + acknowledgement) * 10_000 * all / (load * weight(row));
         Stream { acknowledgement, ..stream(row, period as u32, 3 * row, payload) }
     });
-    Plan { timing, streams: streams.collect(), gaps }
+    Plan { timing, streams: streams.collect(), gaps: gaps.to_vec() }
 }
 
 fn single(period: u32, jitter: u32) -> Plan {
@@ -111,13 +126,39 @@ fn row(name: &str, rounds: u32, proved: &mut dyn FnMut(), plain: &mut dyn FnMut(
 
 fn answers_row(name: &str, rounds: u32, plan: &Plan) {
     let file = file(plan);
-    let (mut proved, mut ours) = ([0; ROW * 64], [0; ROW * 64]);
+    let (mut proved, mut ours) = ([0; ROW * MOST_STREAMS], [0; ROW * MOST_STREAMS]);
     assert_eq!(livnakesh::answer_words(&file, &mut proved), plain::answers(&file, &mut ours));
     assert_eq!(proved, ours);
     let file = &file[..];
     row(name, rounds, &mut || _ = black_box(livnakesh::answer_words(black_box(file), black_box(&mut proved))), &mut || {
         _ = black_box(plain::answers(black_box(file), black_box(&mut ours)))
     });
+}
+
+/// Of a plan in which every stream has a bound, so that no chain ends early.
+fn bounded_row(name: &str, rounds: u32, plan: &Plan) {
+    assert!(plain::Analysis::new(plan).levels().all(|level| level.worst().is_some()));
+    answers_row(name, rounds, plan);
+}
+
+/// More streams than an older file has, from light to nearly full.
+fn rows_of(count: u32) {
+    let light = full(count, BASE_8, 100, &[]);
+    bounded_row(&format!("{count} streams, 1 % load"), ROUNDS, &light);
+    // Nearly full, there is less left for noise.
+    let loads = [(50, ROUNDS, GAPS), (90, ROUNDS, GAPS), (99, FEWER_ROUNDS, LONG_GAPS)];
+    for (percent, rounds, _) in loads {
+        let plan = full(count, BASE_8, 100 * percent, &[]);
+        bounded_row(&format!("{count} streams, {percent} % load"), rounds, &plan);
+    }
+    for (percent, rounds, gaps) in loads {
+        let plan = full(count, BASE_8, 100 * percent, &gaps);
+        bounded_row(&format!("{count} streams, {percent} % load, 8 noise sources"), rounds, &plan);
+    }
+    for (percent, rounds, _) in loads {
+        let plan = full(count, SLOTS_8, 100 * percent, &[]);
+        bounded_row(&format!("{count} streams in slots, {percent} % load"), rounds, &plan);
+    }
 }
 
 fn rewrite_row(name: &str, file: &[u8]) {
@@ -129,7 +170,19 @@ fn rewrite_row(name: &str, file: &[u8]) {
     });
 }
 
-fn lighter_row(name: &str, old: &[u8], new: &[u8]) {
+fn refuse_row(name: &str, plan: &Plan) {
+    let mut file = file(plan);
+    let last_gap = file.len() - 4;
+    file[last_gap..].fill(0);
+    rewrite_row(name, &file);
+}
+
+/// A plan, and the same in another order of rows and gaps.
+fn lighter_row(name: &str, plan: &Plan) {
+    let mut turned = plan.clone();
+    turned.streams.reverse();
+    turned.gaps.reverse();
+    let (old, new) = (&file(plan)[..], &file(&turned)[..]);
     assert_eq!(livnakesh::lighter(old, new), livnakesh::Compared::Lighter);
     assert_eq!(plain::lighter(old, new), livnakesh::Compared::Lighter);
     row(name, ROUNDS, &mut || _ = black_box(livnakesh::lighter(black_box(old), black_box(new))), &mut || {
@@ -185,15 +238,14 @@ fn main() {
     println!("| | proved, ns a call | plain, ns a call | proved / plain |");
     println!("|---|---|---|---|");
     answers_row("one stream", ROUNDS, &single(100, 0));
-    answers_row("64 streams, 50 % load", ROUNDS, &full(BASE_6, 5_000, vec![]));
-    answers_row("64 streams, 90 % load", ROUNDS, &full(BASE_6, 9_000, vec![]));
-    answers_row("64 streams, 99 % load", ROUNDS, &full(BASE_6, 9_900, vec![]));
-    let gaps = vec![20_011, 20_023, 20_029, 20_047, 20_051, 20_063, 20_071, 20_089];
-    let noisy = full(BASE_6, 9_000, gaps);
-    answers_row("64 streams, 90 % load, 8 noise sources", ROUNDS, &noisy);
-    let slots = full(SLOTS_6, 9_000, vec![]);
-    assert!(plain::Analysis::new(&slots).levels().all(|level| level.worst().is_some()));
-    answers_row("64 streams in slots, 90 % load", ROUNDS, &slots);
+    bounded_row("64 streams, 1 % load", ROUNDS, &full(64, BASE_6, 100, &[]));
+    answers_row("64 streams, 50 % load", ROUNDS, &full(64, BASE_6, 5_000, &[]));
+    answers_row("64 streams, 90 % load", ROUNDS, &full(64, BASE_6, 9_000, &[]));
+    answers_row("64 streams, 99 % load", ROUNDS, &full(64, BASE_6, 9_900, &[]));
+    answers_row("64 streams, 90 % load, 8 noise sources", ROUNDS, &full(64, BASE_6, 9_000, &GAPS));
+    bounded_row("64 streams in slots, 90 % load", ROUNDS, &full(64, SLOTS_6, 9_000, &[]));
+    rows_of(190);
+    rows_of(256);
     let long = single(26, 40_000);
     assert_eq!(longest_busy_period(&long), Some(1_000_000));
     answers_row("one stream, L 1,000,000, 40,000 instances", ROUNDS, &long);
@@ -202,14 +254,16 @@ fn main() {
     answers_row("two streams, L 1,000,000, 39,600 instances", ROUNDS, &pair);
     answers_row("P5: 171,798,691 evaluations, none", 2, &single(25, 25));
     answers_row("64 streams, the last of 32,757 evaluations, none", ROUNDS, &crowded());
-    rewrite_row("read and write 64 streams, 8 gaps", &file(&noisy));
-    let mut refused = file(&noisy);
-    refused[LARGEST - 4..].fill(0);
-    rewrite_row("refuse 64 streams for their last gap", &refused);
-    let mut light = noisy.clone();
-    light.streams.reverse();
-    light.gaps.reverse();
-    lighter_row("lighter, two plans of 64 streams, 8 gaps", &file(&noisy), &file(&light));
+    let noisy = [full(64, BASE_6, 9_000, &GAPS), full(256, BASE_8, 9_000, &GAPS)];
+    for plan in &noisy {
+        rewrite_row(&format!("read and write {} streams, 8 gaps", plan.streams.len()), &file(plan));
+    }
+    for plan in &noisy {
+        refuse_row(&format!("refuse {} streams for their last gap", plan.streams.len()), plan);
+    }
+    for plan in &noisy {
+        lighter_row(&format!("lighter, two plans of {} streams, 8 gaps", plan.streams.len()), plan);
+    }
     parting_row("parting bit");
     tournament_row("tournament of 128 contenders, start and 32 steps");
 }

@@ -20,11 +20,15 @@ pub const GREATEST: u32 = 65_535;
 /// The longest P.
 pub const LONGEST_SLOT: u32 = 5_000_000;
 
-/// The longest file, that of 64 streams and 8 gaps in edition 3.
-pub const LARGEST: usize = 1_908;
+/// The most streams of a plan, and of one in an older file.
+pub const MOST_STREAMS: usize = 256;
+pub const MOST_IN_OLD: usize = 64;
 
-/// The terms that one plan may sum up; longer chains have a test of their own.
-pub const MOST_WORK: u64 = 60_000;
+/// The longest file, that of 256 streams and 8 gaps in edition 3.
+pub const LARGEST: usize = 7_284;
+
+/// The terms that one plan of up to 64 streams may sum up; longer chains have a test of their own.
+const MOST_WORK: u64 = 60_000;
 
 /// Without an acknowledgement.
 pub fn stream(label: u32, priority: u32, period: u32, jitter: u32, payload: u32, deadline: u32) -> Stream {
@@ -97,9 +101,17 @@ pub fn file_in(edition: Edition, plan: &Plan) -> Vec<u8> {
     contents.into_iter().chain(values).flat_map(u32::to_le_bytes).collect()
 }
 
+/// The most streams in a file of the edition.
+pub fn most_streams(edition: Edition) -> usize {
+    match edition {
+        Edition::One | Edition::Two => MOST_IN_OLD,
+        Edition::Three => MOST_STREAMS,
+    }
+}
+
 /// The oldest edition that has words for all of a plan.
 pub fn oldest(plan: &Plan) -> Edition {
-    if plan.streams.iter().any(|s| s.acknowledgement > 0) {
+    if plan.streams.len() > MOST_IN_OLD || plan.streams.iter().any(|s| s.acknowledgement > 0) {
         return Edition::Three;
     }
     match plan.timing[plain::P] {
@@ -189,8 +201,19 @@ impl Rng {
     }
 }
 
+/// More streams than an older file has, and often as many as there may be.
+pub fn many(rng: &mut Rng) -> usize {
+    match rng.below(4) {
+        0 => rng.pick(&[65, 127, 128, 129, 190, 255]),
+        1 => MOST_STREAMS,
+        _ => rng.within(65, 256) as usize,
+    }
+}
+
+/// Many streams are drawn seldom, since their answers take longest.
 fn counts(rng: &mut Rng) -> (usize, usize) {
     let n = match rng.below(10) {
+        _ if rng.one_in(80) => many(rng) as u64,
         0..=3 => rng.within(1, 4),
         4..=6 => rng.within(1, 16),
         7..=8 => rng.within(1, 64),
@@ -283,7 +306,7 @@ fn word(ticks: u64) -> u32 {
 }
 
 /// A plan that would be accepted, with a load from light to well above all of the channel. Each edition is the oldest for a third of
-/// them.
+/// those with at most 64 streams.
 pub fn plan(rng: &mut Rng) -> Plan {
     let (n, m) = counts(rng);
     plan_of(rng, n, m)
@@ -294,7 +317,7 @@ pub fn plan_of(rng: &mut Rng, n: usize, m: usize) -> Plan {
     plan_in(rng, edition, n, m)
 }
 
-/// One that the edition is the oldest for.
+/// One that the edition is the oldest for, but for the number of its streams.
 pub fn plan_in(rng: &mut Rng, edition: Edition, n: usize, m: usize) -> Plan {
     let mut timing = timing(rng, n);
     let most_payload = rng.pick(&[1, 10, 100, 1_000, 65_535]);
@@ -333,6 +356,12 @@ pub fn plan_in(rng: &mut Rng, edition: Edition, n: usize, m: usize) -> Plan {
     };
     let gaps = (0..m).map(|_| gap(rng)).collect();
     Plan { timing, streams, gaps }
+}
+
+/// A plan of more streams than an older file has.
+pub fn many_streams(rng: &mut Rng) -> Plan {
+    let (n, m) = (many(rng), rng.below(9) as usize);
+    plan_of(rng, n, m)
 }
 
 /// A plan with every field at or next to one of its limits.
@@ -518,6 +547,24 @@ pub fn need_lag_cases(tallies: &ByEdition) {
     tallies.need_all(&["3 before ETG, and 11", "3 after LAG, and 11", "3 of ETG, and 6", "3 of LAG, and 6"], 1_000);
 }
 
+/// How many streams there are, right or wrong.
+pub fn tally_streams(tally: &mut Tally, plan: &Plan) {
+    tally.count(match plan.streams.len() {
+        0 => "streams: none",
+        1 => "streams: 1",
+        2..=15 => "streams: 2 to 15",
+        16..=63 => "streams: 16 to 63",
+        64 => "streams: 64",
+        65..=127 => "streams: 65 to 127",
+        128..=255 => "streams: 128 to 255",
+        256 => "streams: 256",
+        _ => "streams: too many",
+    });
+}
+
+/// All numbers of streams that an older file has not.
+pub const MANY: [&str; 3] = ["streams: 65 to 127", "streams: 128 to 255", "streams: 256"];
+
 /// How long a slot is beside the longest message, or that there is none.
 pub fn tally_slot(tally: &mut Tally, plan: &Plan) {
     tally.count(match plan.timing[plain::P] {
@@ -542,8 +589,14 @@ pub fn tally_acknowledgements(tally: &mut Tally, plan: &Plan) {
     }
 }
 
-/// The terms summed up in a plan's chains, or nothing if they are more than `most`; so that no case takes for ever.
-pub fn work(plan: &Plan, most: u64) -> Option<u64> {
+/// Whether a plan's chains are short, so that no case takes for ever. Of many rows the shortest have more terms, by the rows squared.
+pub fn is_short(plan: &Plan) -> bool {
+    let rows = plan.streams.len() as u64;
+    work(plan, MOST_WORK * (rows * rows / 4_096).max(1)).is_some()
+}
+
+/// The terms summed up in a plan's chains, or nothing if they are more than `most`.
+fn work(plan: &Plan, most: u64) -> Option<u64> {
     let mut left = most;
     for (k, level) in Analysis::new(plan).levels().enumerate() {
         let terms = (k + 1 + plan.gaps.len()) as u64;
@@ -610,7 +663,7 @@ pub fn tally_tie(tally: &mut Tally, terms: &[i64]) {
 pub fn drawn(rng: &mut Rng, draw: fn(&mut Rng) -> Plan, counts: &mut impl Counts) -> Plan {
     loop {
         let plan = draw(rng);
-        if work(&plan, MOST_WORK).is_some() {
+        if is_short(&plan) {
             return plan;
         }
         counts.of(&plan).count("(chains too long, drawn again)");
@@ -646,6 +699,9 @@ impl Tally {
 
     /// Past the test harness, which keeps what a passing test prints to itself.
     pub fn print(&self, title: &str) {
+        if self.0.is_empty() {
+            return;
+        }
         let mut text = format!("\n{title}\n");
         for (kind, seen) in &self.0 {
             text += &format!("{seen:>10}  {kind}\n");
@@ -672,17 +728,21 @@ impl Counts for Tally {
     }
 }
 
-/// A tally for each edition that is the oldest for a plan: without a master node, in slots, and with acknowledgements, so that none
-/// stands in for another.
+/// A tally for each edition that is the oldest for a plan: without a master node, in slots, and with acknowledgements; and one for
+/// plans of more than 64 streams. So none stands in for another.
 #[derive(Default)]
 pub struct ByEdition {
     pub one: Tally,
     pub two: Tally,
     pub three: Tally,
+    pub many: Tally,
 }
 
 impl Counts for ByEdition {
     fn of(&mut self, plan: &Plan) -> &mut Tally {
+        if plan.streams.len() > MOST_IN_OLD {
+            return &mut self.many;
+        }
         self.at(oldest(plan))
     }
 }
@@ -711,6 +771,7 @@ impl ByEdition {
         self.one.print(&format!("{title}, no master node"));
         self.two.print(&format!("{title}, in slots"));
         self.three.print(&format!("{title}, acknowledged"));
+        self.many.print(&format!("{title}, many streams"));
     }
 }
 
