@@ -130,7 +130,7 @@ fn put_sorted(
     }
 }
 
-// The answer words of such a stream. Nothing is put in order, so that no room is cleared for 256.
+// The answer words of a plan's one stream where there is no noise. Nothing is put in order, so that no room is cleared for 256.
 fn put_lone(words: &[u32; CARRIED], u: u32, all: u32, late: u64, slot: u64, out: &mut [u64])
     requires { ⌜ PlacesWithin (now words) 1 0 ⌝ }
     requires { ⌜ Tolls (timingIn (now words)) u all late slot ⌝ }

@@ -238,6 +238,7 @@ fn main() {
     println!("| | proved, ns a call | plain, ns a call | proved / plain |");
     println!("|---|---|---|---|");
     answers_row("one stream", ROUNDS, &single(100, 0));
+    bounded_row("8 streams, 50 % load", ROUNDS, &full(8, BASE_6, 5_000, &[]));
     bounded_row("64 streams, 1 % load", ROUNDS, &full(64, BASE_6, 100, &[]));
     answers_row("64 streams, 50 % load", ROUNDS, &full(64, BASE_6, 5_000, &[]));
     answers_row("64 streams, 90 % load", ROUNDS, &full(64, BASE_6, 9_000, &[]));
