@@ -1,10 +1,47 @@
-// What lent memory and an answer in numbers look like in print, for the programs that run what other languages call.
+// For the programs that run what other languages call: the words of a plan to lend, and what lent memory and an answer in numbers look like
+// in print.
 //
 // Every public function answers for every input. What reaches the terminal is outside what is proved. This crate knows of console alone.
 ghost use Prim.Native.Nat.{_<_, _≤_};
 ghost use lib.ListN.{length};
 use console::print;
 use console::print_number;
+
+// The words of P2, which are those of P1 and a gap. Word 9 is P, and 0 here.
+pub const P2: [u32; 32] = [
+    4,
+    1,
+    1,
+    2,
+    1,
+    1,
+    2,
+    1,
+    4,
+    0,
+    655361,
+    1,
+    100,
+    0,
+    5,
+    60,
+    0,
+    655370,
+    2,
+    150,
+    10,
+    7,
+    120,
+    0,
+    720898,
+    3,
+    400,
+    0,
+    2,
+    200,
+    0,
+    1000,
+];
 
 pub fn number(n: u64) {
     print(b" ");

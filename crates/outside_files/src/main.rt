@@ -1,9 +1,14 @@
-// Plan files: their answers, written again, and two compared.
-use crate::writing::one_file;
-use crate::writing::p1_file;
-use crate::writing::p2_file;
-use crate::writing::p7_file;
-use crate::writing::slots_file;
+// The functions on plan files that other languages call, on short and long memory of this program's own, a line for each call: what is lent,
+// what comes back and, after a bar, what all the lent memory ends with. Lent bytes and words are 7 before the call.
+//
+// The answers are proved in the crate outside; here they are run and compared. This program must not know any rule.
+mod files;
+
+use crate::files::one_file;
+use crate::files::p1_file;
+use crate::files::p2_file;
+use crate::files::p7_file;
+use crate::files::with_byte;
 use carried::CARRIED;
 use carried::CONTENTS;
 use carried::WORD;
@@ -33,7 +38,7 @@ fn rewrite(file: &[u8], lent: &mut [u8]) {
     bytes(&lent[..]);
 }
 
-// Both into a few words and bytes.
+// Both into a few words and bytes: enough for the answers of one stream, and for no file.
 fn both(file: &[u8]) {
     let mut few_words = [7; 4];
     answers(file, &mut few_words);
@@ -41,28 +46,34 @@ fn both(file: &[u8]) {
     rewrite(file, &mut few_bytes);
 }
 
+// The answers of three streams into as many words as they are.
+fn three(file: &[u8]) {
+    let mut enough = [7; 9];
+    answers(file, &mut enough);
+}
+
+// P1 with words and bytes to spare, and with too few; with a LAG, written again without it.
 fn of_p1() {
-    let file = p1_file(168, 0, 168, 0);
+    let p1 = p1_file(0);
     let mut room = [7; 11];
-    answers(&file, &mut room);
+    answers(&p1, &mut room);
     let mut too_few = [7; 8];
-    answers(&file, &mut too_few);
+    answers(&p1, &mut too_few);
     let mut enough = [7; 176];
-    rewrite(&file, &mut enough);
+    rewrite(&p1, &mut enough);
     let mut too_short = [7; 167];
-    rewrite(&file, &mut too_short);
-    let with_lag = p1_file(68, 2, 72, 1);
+    rewrite(&p1, &mut too_short);
+    let with_lag = with_byte(with_byte(p1, 68, 2), 72, 1);
     let mut also_enough = [7; 168];
     rewrite(&with_lag, &mut also_enough);
 }
 
+// P2 and P7, of three streams, and P3 and P4, of one.
 fn of_others() {
     let p2 = p2_file();
-    let mut enough = [7; 9];
-    answers(&p2, &mut enough);
+    three(&p2);
     let p7 = p7_file();
-    let mut also = [7; 9];
-    answers(&p7, &mut also);
+    three(&p7);
     let p3 = one_file(25);
     both(&p3);
     let p4 = one_file(24);
@@ -83,19 +94,6 @@ fn lengths() {
     both(&none);
 }
 
-// P1 and P1 with other bytes: both of the second, and whether it is lighter.
-fn changed(at: usize, byte: u8, also: usize, other: u8) {
-    print(b"P1 with");
-    number(at as u64);
-    number(byte as u64);
-    number(also as u64);
-    number(other as u64);
-    let p1 = p1_file(168, 0, 168, 0);
-    let new = p1_file(at, byte, also, other);
-    lighter(&p1, &new);
-    both(&new);
-}
-
 fn lighter(old: &[u8], new: &[u8]) {
     let weighed = livnakesh_lighter(old, new);
     print(b":");
@@ -105,37 +103,49 @@ fn lighter(old: &[u8], new: &[u8]) {
     print(b"\n");
 }
 
-// P1 in slots with another byte, beside P1 in slots: the second's answers, and whether it is lighter.
+// P1 and P1 with other bytes: whether the second is lighter, and both of it.
+fn changed(at: usize, byte: u8, also: usize, other: u8) {
+    print(b"P1 with");
+    number(at as u64);
+    number(byte as u64);
+    number(also as u64);
+    number(other as u64);
+    let p1 = p1_file(0);
+    let new = with_byte(with_byte(p1, at, byte), also, other);
+    lighter(&p1, &new);
+    both(&new);
+}
+
+// P1 in slots and the same with another byte: whether the second is lighter, and its answers.
 fn in_slots(at: usize, byte: u8) {
     print(b"slots with");
     number(at as u64);
     number(byte as u64);
-    let old = slots_file(168, 0);
-    let new = slots_file(at, byte);
-    lighter(&old, &new);
-    let mut enough = [7; 9];
-    answers(&new, &mut enough);
+    let slots = p1_file(30);
+    let new = with_byte(slots, at, byte);
+    lighter(&slots, &new);
+    three(&new);
 }
 
 fn compared() {
-    let p1 = p1_file(168, 0, 168, 0);
+    let p1 = p1_file(0);
     let p2 = p2_file();
     print(b"P1, P2");
     lighter(&p1, &p2);
     print(b"P2, P1");
     lighter(&p2, &p1);
-    let slots = slots_file(168, 0);
+    let slots = p1_file(30);
     print(b"P1, slots");
     lighter(&p1, &slots);
     print(b"slots, P1");
     lighter(&slots, &p1);
-    let p11 = p1_file(100, 0, 168, 0);
+    let p11 = with_byte(p1, 100, 0);
+    let p8 = with_byte(p1, 116, 1);
     print(b"P11, P8");
-    let p8 = p1_file(116, 1, 168, 0);
     lighter(&p11, &p8);
 }
 
-pub(crate) fn cases() {
+fn main() {
     of_p1();
     of_others();
     lengths();
