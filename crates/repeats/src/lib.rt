@@ -9,20 +9,21 @@ ghost use mathlib.Core.Bool.{false};
 ghost use Prim.Native.Nat.{_<_};
 ghost use lib.ListN.{length};
 ghost use Rattle.repeats.specs.Repeats.{repeatsAt, firstRepeat};
-ghost use Rattle.repeats.specs.private.Buckets.{buckets, bucketOf};
+ghost use Rattle.repeats.specs.private.Buckets.{bucketOf};
 
 // Values are kept apart in so many buckets, and rows are held against each other only where two are in one.
 const BUCKETS: usize = 1024;
 
-// So many rows are few.
+// Up to so many rows no buckets are cleared, which takes as long as holding 8 to 16 rows against each other: machines differ.
 const FEW: usize = 16;
 
-// Neighbours have buckets of their own, and so have those of two halves that are not far apart, as labels of a few groups.
-fn bucket(value: u32) -> usize
-    ensures { λ r. ⌜ r ≡ bucketOf value ⌝ }
+// Among 1,024 neighbours have buckets of their own, and so have those of two halves that are not far apart, as labels of a few groups.
+fn bucket(value: u32, buckets: usize) -> usize
+    requires { ⌜ 0 < buckets ⌝ }
+    ensures { λ r. ⌜ r ≡ bucketOf buckets value ⌝ }
     ensures { λ r. ⌜ r < buckets ⌝ }
 {
-    (value as usize % 65536 + 251 * (value as usize / 65536)) % BUCKETS
+    (value as usize % 65536 + 251 * (value as usize / 65536)) & (buckets - 1)
 }
 
 // Whether row i has the value of an earlier row. There is no way out of the loop, so that several rows are compared at once.
@@ -52,33 +53,16 @@ fn again(values: &[u32], i: usize, met: bool) -> bool
     false
 }
 
-// The lowest row that has the value of an earlier row, by holding each against all before it.
-fn first_of_few(values: &[u32]) -> FoundRow
+// The lowest row that has the value of an earlier row. A bucket may be met from the start: then only more rows are held against each other.
+fn first_by_buckets(values: &[u32], met: &mut [bool]) -> FoundRow
+    requires { ⌜ 0 < length (now met) ⌝ }
     ensures { λ r. ⌜ r ≡ firstRepeat (now (values .entry)) ⌝ }
 {
     let n = values.len();
-    let mut k: usize = 0;
-    while k < n {
-        if stands_before(values, k) {
-            return FoundRow::At(Row(k));
-        }
-        k += 1;
-    }
-    FoundRow::Nothing
-}
-
-// The lowest row that has the value of an earlier row, or that all rows differ. For a few rows buckets would take longer to clear.
-pub fn first_repeat(values: &[u32]) -> FoundRow
-    ensures { λ r. ⌜ r ≡ firstRepeat (now (values .entry)) ⌝ }
-{
-    let n = values.len();
-    if n <= FEW {
-        return first_of_few(values);
-    }
-    let mut met = [false; BUCKETS];
+    let buckets = met.len();
     let mut i: usize = 0;
     while i < n {
-        let b = bucket(values[i]);
+        let b = bucket(values[i], buckets);
         if again(values, i, met[b]) {
             return FoundRow::At(Row(i));
         }
@@ -86,4 +70,16 @@ pub fn first_repeat(values: &[u32]) -> FoundRow
         i += 1;
     }
     FoundRow::Nothing
+}
+
+// The lowest row that has the value of an earlier row, or that all rows differ. A few rows have one bucket, met from the start.
+pub fn first_repeat(values: &[u32]) -> FoundRow
+    ensures { λ r. ⌜ r ≡ firstRepeat (now (values .entry)) ⌝ }
+{
+    if values.len() <= FEW {
+        let mut one = [true];
+        return first_by_buckets(values, &mut one);
+    }
+    let mut met = [false; BUCKETS];
+    first_by_buckets(values, &mut met)
 }
