@@ -1,6 +1,6 @@
 -- The counts: each way to be out of range, and what follows for the whole table. Assumes nothing.
 use mathlib.Core.Path.{_≡_, refl, sym, ap, _∙_}
-use mathlib.Core.Bool.{Bool, true, false, _&&_, and-false}
+use mathlib.Core.Bool.{Bool, true, false, _&&_, and-true, and-false}
 use mathlib.Core.List.{List, _∷_, _++_}
 use Prim.Native.Nat.{ℕ, _≤_, _<_}
 use native.Mathlib.Nat.{le-trans, lt-of-not-le}
@@ -20,10 +20,6 @@ use Rattle.carried.specs.Layout as layout
 use Rattle.carried.proofs.Editions.{most-places}
 use Rattle.carried.specs.Carried.{Entered, meantTiming, enteredIn}
 use Rattle.checks.specs.Checks.{inRange, rangeLines, counted, fieldLines, lagLines, rowLines, slotLines, valueLines, lines}
-
-pub and-true : (t : Bool) → t && true ≡ t
-and-true true = refl
-and-true false = refl
 
 module _ (edition : Edition) (n m : ℕ) where
   pub too-few : n < 1 → inRange edition n m ≡ false

@@ -1,7 +1,7 @@
 -- The words of a file, and what is entered in the bodies of a file of each edition: word by word its words are those of the bodies, each in
 -- its place, and 0 where the edition has none; in edition 3 they are the bodies. Assumes nothing.
 use mathlib.Core.Path.{_≡_, refl, sym, ap, ap₂, _∙_, subst}
-use mathlib.Core.Bool.{true, false, not, _&&_, true≢false}
+use mathlib.Core.Bool.{true, false, not, _&&_, and-true, true≢false}
 use mathlib.Core.List.{List, [], _++_, flatMap, append-nil}
 use Prim.Native.Nat.{ℕ, _+_, _-_, _*_, _/_, _%_, _≤_, _<_}
 use native.Mathlib.Nat.{lt-of-not-le, add-zero}
@@ -19,7 +19,6 @@ use Rattle.carried.specs.Layout as layout
 use Rattle.carried.specs.Carried.{Entered, plainTiming, plainly, enteredTimingIn, streamIn, enteredIn, timingIn, planIn, timingWords, streamWords, enteredWords}
 use Rattle.carried.proofs.Editions.{before-P, past-P}
 use Rattle.carried.proofs.Plans.{length-words as length-entered, stream-word, gap-word, words-back, tail-back}
-use Rattle.checks.proofs.Counts.{and-true}
 use Rattle.file.specs.File.{contents, fileWords, recordIn, enteredInBodies}
 
 -- ---- the words of a file
