@@ -12,11 +12,11 @@ use Rattle.bound.specs.Terms.{Terms}
 use Rattle.bound.specs.Bound.{sideL, busy}
 use Rattle.bound.specs.Claims.{Sound}
 use Rattle.bound.proofs.Sides.{sideL-mono, sideL-pos}
-use Rattle.analysis.specs.declared.Gathered.{Gathered}
+use Rattle.terms.specs.declared.Gathered.{Gathered}
 use Rattle.analysis.specs.declared.searches.Own.{Own}
 use Rattle.analysis.specs.private.Stairs.{height, start, Moved}
 use Rattle.analysis.specs.private.Chains.{ownL, MakesUp, RestKept, OwnKept}
-use Rattle.analysis.specs.private.Fit.{FitRow}
+use Rattle.terms.specs.Fit.{FitRow}
 use Rattle.analysis.proofs.Climbing.{onward-below, onward-later}
 
 -- ---- the stairs

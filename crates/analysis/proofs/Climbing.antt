@@ -6,15 +6,14 @@ use native.Mathlib.Nat.{le-refl, min-le-left, min-le-right, lt-of-not-le, zero-m
 use native.Mathlib.Decide.{decLe}
 use native.Mathlib.Omega.{arith}
 use borrow.Author.Count.{below-more}
-use lib.ListN.{length, getD, set, replicate, length-set, getD-replicate}
+use lib.ListN.{length, getD, set, length-set}
 use lib.Seq.{getD-set-same, getD-set-other}
 use Rattle.names.specs.Limits.{ticks}
 use Rattle.laws.specs.Lists.{ceil, sumTo}
 use Rattle.laws.proofs.Round.{ceil-zero, ceil-mono, ceil-more, ceil-over}
 use Rattle.laws.proofs.Lists.{sumTo-none, sumTo-more, sumTo-le, sumTo-same, sumTo-add, sumTo-mono, sumTo-at-most, sumTo-append}
 use Rattle.laws.proofs.Chain.{Mono}
-use Rattle.analysis.specs.Gathered.{stairs as most}
-use Rattle.analysis.specs.private.Stairs.{stair, height, start, latest, onward, Stairs, Edges, Gone, NoEdgeBefore, lot, lots, LotEnds, Near, NewNearest, Moved, far}
+use Rattle.analysis.specs.private.Stairs.{stair, height, start, earliest, latest, onward, Stairs, Edges, Gone, NoEdgeBefore, lot, LotEnds, Near, NewNearest, Moved, far}
 use Rattle.analysis.specs.private.Chains.{side}
 
 -- ---- one stair
@@ -120,7 +119,7 @@ height-still costs periods edges x k to h still =
 pub gone-edges : (costs periods edges now : List ℕ) (n k x : ℕ) → Stairs costs periods n → Edges edges n → x ≤ latest → Gone periods edges now 0 k x → Edges now n
 gone-edges costs periods edges now n k x s b h p =
     record {
-      long = p .long ∙ b .long;
+      long = omega (arith, p .long, b .long);
       below = λ j g. elim (decLe k j) [
         | yes l ↦ rw (p .waits j l) (b .below j g)
         | no l ↦ rw (p .gone j (omega arith) (lt-of-not-le l)) (onward-below (getD edges j 0) (getD periods j 0) x (b .below j g) (s .period j g) h)
@@ -142,13 +141,15 @@ pub fewer-stairs : (costs periods : List ℕ) (to n : ℕ) → to ≤ n → Stai
 fewer-stairs costs periods to n h s =
     record {
       few = omega (arith, s .few);
+      costs-long = omega (arith, s .costs-long);
+      periods-long = omega (arith, s .periods-long);
       cost = λ k l. s .cost k (omega arith);
       some = λ k l. s .some k (omega arith);
       period = λ k l. s .period k (omega arith);
     }
 
 pub fewer-edges : (edges : List ℕ) (to n : ℕ) → to ≤ n → Edges edges n → Edges edges to
-fewer-edges edges to n h b = record { long = b .long; below = λ k l. b .below k (omega arith) }
+fewer-edges edges to n h b = record { long = omega (arith, b .long); below = λ k l. b .below k (omega arith) }
 
 -- the stairs never fall
 pub height-mono : (costs periods edges : List ℕ) (n x y : ℕ) → x ≤ y → height costs periods edges n x ≤ height costs periods edges n y
@@ -168,21 +169,22 @@ nearest-more edges from k v near next h e f j a l =
     (λ _. rw (getD-set-same edges k v 0 h) (omega (arith, e, min-le-right near v)))
     j l a
 
--- at first none is known, and 0 is before all
-pub near-start : (edges : List ℕ) (n : ℕ) → n ≤ most → Near edges (replicate lots 0) n
-near-start edges n h = record { long = refl; before = λ b k a l g. omega (arith, getD-replicate {A = ℕ} lots b 0 0 (omega arith)) }
+-- at first none is known, and the earliest is before all
+pub near-start : (edges nearest : List ℕ) (n : ℕ) → n ≤ length nearest * lot → ((k : ℕ) → k < n → earliest ≤ getD edges k 0)
+    → ((b : ℕ) → b < length nearest → getD nearest b 0 ≡ earliest) → Near edges nearest n
+near-start edges nearest n h after none = record { long = h; before = λ b k a l g. omega (arith, none b (omega arith), after k g) }
 
 -- lot b of n stairs: what is known of its nearest edge
-pub near-lot : (edges nearest : List ℕ) (n b to : ℕ) → LotEnds (b * lot) n to → Near edges nearest n → NoEdgeBefore (getD nearest b 0) edges (b * lot) to
-near-lot edges nearest n b to e r k a l = r .before b k a (omega (arith, e .short)) (omega (arith, e .within))
+pub near-lot : (edges nearest : List ℕ) (n b from to : ℕ) → from ≡ b * lot → LotEnds from n to → Near edges nearest n → NoEdgeBefore (getD nearest b 0) edges from to
+near-lot edges nearest n b from to d e r k a l = r .before b k (omega arith) (omega (arith, e .short)) (omega (arith, e .within))
 
 -- .. and after it went on
-pub near-on : (periods edges next nearest found : List ℕ) (n b to x : ℕ) → LotEnds (b * lot) n to → Gone periods edges next (b * lot) to x → NewNearest next nearest found b (b * lot) to
+pub near-on : (periods edges next nearest found : List ℕ) (n b from to x : ℕ) → from ≡ b * lot → LotEnds from n to → Gone periods edges next from to x → NewNearest next nearest found b from to
     → Near edges nearest n → Near next found n
-near-on periods edges next nearest found n b to x e p f r =
+near-on periods edges next nearest found n b from to x s e p f r =
     record {
-      long = f .long ∙ r .long;
-      before = λ a k l g m. elim (decLe (b * lot) k) [
+      long = rw (f .long) (r .long);
+      before = λ a k l g m. elim (decLe from k) [
         | no q ↦ other a k l g m (λ d. omega (arith, d, lt-of-not-le q)) (p .front k (lt-of-not-le q))
         | yes q ↦ elim (decLe to k) [
           | yes t ↦ other a k l g m (λ d. omega (arith, d, e .whole (omega arith))) (p .waits k t)

@@ -1,7 +1,6 @@
 pub mod Climbing
 pub mod Starts
-pub mod Fit
-pub mod Most
+pub mod Sides
 pub mod Chains
 pub mod Waits
 pub mod Unique

@@ -21,7 +21,7 @@ use Rattle.bound.specs.Claims.{Sound}
 use Rattle.bound.proofs.Sides.{sideW-mono, busy-is-least}
 use Rattle.bound.proofs.Largest.{some-instance}
 use Rattle.bound.proofs.Instances.{room, settles, w-exists, w-rises, sideW-suc}
-use Rattle.analysis.specs.Gathered.{Lent, termsOf}
+use Rattle.terms.specs.Gathered.{Lent, termsOf}
 use Rattle.analysis.specs.declared.searches.Reached.{Reached}
 use Rattle.analysis.specs.private.Chains.{side, restW, aloneTerms, MakesUp, RestKept, Bounded, Settled, largerOf}
 use Rattle.analysis.proofs.Chains.{kept-start, kept-up}

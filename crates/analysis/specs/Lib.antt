@@ -1,2 +1,2 @@
-pub mod Gathered
+pub mod Answered
 pub mod private

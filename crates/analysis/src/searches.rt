@@ -3,28 +3,31 @@
 // The search for L is the plain chain from 1, one evaluation of the right side a turn; all searches of a row for w climb once.
 ghost use mathlib.Core.Path.{_≡_};
 ghost use Prim.Native.Nat.{_+_, _*_, _^_, _≤_, _<_};
-ghost use lib.ListN.{length};
 ghost use lib.IntN.{pos, _-ℤ_};
 ghost use Rattle.names.specs.Limits.{ticks};
 ghost use Rattle.laws.specs.Lists.{ceil};
 ghost use Rattle.laws.specs.declared.Found.the-variants.{At};
 ghost use Rattle.bound.specs.Bound as rule;
-ghost use Rattle.analysis.specs.Gathered.{stairs as most, lent, termsOf};
-ghost use Rattle.analysis.specs.private.Stairs.{Stand, Near};
+ghost use Rattle.terms.specs.Gathered.{lent, termsOf};
+ghost use Rattle.terms.specs.Fit.{FitRow, Fit};
+ghost use Rattle.analysis.specs.private.Stairs.{fewStairs, Room, Stand, Near};
 ghost use Rattle.analysis.specs.private.Chains.{OwnKept, ownL, aloneTerms, Bounded, side, Settled, largerOf};
-ghost use Rattle.analysis.specs.private.Fit.{FitRow, Fit};
-use crate::Gathered;
-use crate::STAIRS;
-use crate::stairs::LOTS;
+use crate::stairs::LOT;
 use crate::stairs::START;
 use crate::stairs::climbed;
 use crate::stairs::periods_past;
-use crate::stairs::start_edges;
+use crate::stairs::start;
 use bound::Answer;
 use bound::Verdict;
 use laws::Found;
-use names::STREAMS;
+use names::FEW;
+use names::SOURCES;
 use names::TICKS;
+use terms::Gathered;
+use terms::STAIRS;
+
+// The stairs of few streams: a whole number of lots, as all stairs are.
+const FEW_STAIRS: usize = SOURCES + FEW;
 
 // The least busy period there can be, where the chains for L start.
 const FIRST: u64 = 1;
@@ -78,24 +81,23 @@ fn busy_alone(g: Gathered) -> Found
 // L: the chain from 1, one evaluation of the right side a turn. The stairs come before i's own: measured, that is faster.
 fn busy_period<'a>(
     g: Gathered,
-    costs: &'a [u64; STAIRS],
-    periods: &'a [u64; STAIRS],
-    jitters: &'a [u64; STREAMS],
-    edges: &mut [u64; STAIRS],
+    costs: &'a [u64],
+    periods: &'a [u64],
+    jitters: &'a [u64],
+    edges: &mut [u64],
+    nearest: &mut [u64],
 ) -> Found
     requires { ⌜ Fit (lent g (now costs) (now periods) (now jitters)) ⌝ }
-    requires { ⌜ length (now edges) ≡ most ⌝ }
+    requires { ⌜ Room (g .sources + g .urgent) (now edges) (now nearest) ⌝ }
     ensures { λ r. ⌜ r ≡ rule.busy (termsOf (lent g (now (costs .entry)) (now (periods .entry)) (now (jitters .entry)))) ⌝ }
-    ensures { λ _. ⌜ length (now (edges .exit)) ≡ most ⌝ }
 {
     let n = g.sources + g.urgent;
-    start_edges(jitters, g.sources, g.urgent, 0, 0, edges);
-    let mut nearest = [0; LOTS];
+    start(jitters, g.sources, g.urgent, 0, 0, edges, nearest);
     let mut own = own_start(g);
     let mut rest: u64 = 0;
     let mut x = FIRST;
     while x <= TICKS {
-        rest = climbed(x + START, n, costs, periods, edges, &mut nearest, rest);
+        rest = climbed(x + START, n, costs, periods, edges, nearest, rest);
         own = own_at(g, own, x);
         let y = g.blocking + own.sum + rest;
         if y == x {
@@ -112,10 +114,10 @@ fn settled(
     from: u64,
     sum: u64,
     n: usize,
-    costs: &[u64; STAIRS],
-    periods: &[u64; STAIRS],
-    edges: &mut [u64; STAIRS],
-    nearest: &mut [u64; LOTS],
+    costs: &[u64],
+    periods: &[u64],
+    edges: &mut [u64],
+    nearest: &mut [u64],
 ) -> u64
     requires { ⌜ Stand (now costs) (now periods) (now edges) (now nearest) n ⌝ }
     requires { ⌜ Bounded (side (now costs) (now periods) (now edges) n base sum) from ⌝ }
@@ -178,25 +180,33 @@ struct Worst {
 fn largest_term<'a>(
     g: Gathered,
     l: u64,
-    costs: &'a [u64; STAIRS],
-    periods: &'a [u64; STAIRS],
-    jitters: &'a [u64; STREAMS],
-    edges: &mut [u64; STAIRS],
+    costs: &'a [u64],
+    periods: &'a [u64],
+    jitters: &'a [u64],
+    edges: &mut [u64],
+    nearest: &mut [u64],
 ) -> Worst
     requires { ⌜ Fit (lent g (now costs) (now periods) (now jitters)) ⌝ }
     requires { ⌜ rule.busy (termsOf (lent g (now costs) (now periods) (now jitters))) ≡ At l ⌝ }
-    requires { ⌜ length (now edges) ≡ most ⌝ }
+    requires { ⌜ Room (g .sources + g .urgent) (now edges) (now nearest) ⌝ }
     ensures { λ r. ⌜ r .bound ≡ rule.bound (termsOf (lent g (now (costs .entry)) (now (periods .entry)) (now (jitters .entry)))) l ⌝ }
     ensures { λ r. ⌜ r .instance ≡ rule.worst (termsOf (lent g (now (costs .entry)) (now (periods .entry)) (now (jitters .entry)))) l ⌝ }
 {
     let n = g.sources + g.urgent;
-    start_edges(jitters, g.sources, g.urgent, g.late + 1, g.cost, edges);
+    start(
+        jitters,
+        g.sources,
+        g.urgent,
+        g.late + 1,
+        g.cost,
+        edges,
+        nearest,
+    );
     let count = instances(l, g.jitter, g.period);
     let ends = g.jitter + g.last;
     let cost = g.cost;
     let mut base = g.blocking;
-    let mut nearest = [0; LOTS];
-    let mut wait = settled(base, 0, 0, n, costs, periods, edges, &mut nearest);
+    let mut wait = settled(base, 0, 0, n, costs, periods, edges, nearest);
     let mut q: u64 = 0;
     let first = term(ends + wait, 0);
     let mut best = Reached {
@@ -206,16 +216,7 @@ fn largest_term<'a>(
     while q + 1 < count {
         let sum = wait - base;
         base += cost;
-        wait = settled(
-            base,
-            wait + cost,
-            sum,
-            n,
-            costs,
-            periods,
-            edges,
-            &mut nearest,
-        );
+        wait = settled(base, wait + cost, sum, n, costs, periods, edges, nearest);
         q += 1;
         let next = term(ends + wait, q * g.period);
         best = larger(
@@ -268,19 +269,21 @@ pub(crate) fn answer_alone(g: Gathered, deadline: u64) -> Answer
     judged(first as u64, 0, deadline)
 }
 
-// The answer among other streams and noise sources.
-pub(crate) fn answer_among<'a>(
+// The answer among other streams and noise sources, in rooms that are set before they are read.
+fn searched<'a>(
     g: Gathered,
-    costs: &'a [u64; STAIRS],
-    periods: &'a [u64; STAIRS],
-    jitters: &'a [u64; STREAMS],
+    costs: &'a [u64],
+    periods: &'a [u64],
+    jitters: &'a [u64],
+    edges: &mut [u64],
+    nearest: &mut [u64],
     deadline: u64,
 ) -> Answer
     requires { ⌜ Fit (lent g (now costs) (now periods) (now jitters)) ⌝ }
+    requires { ⌜ Room (g .sources + g .urgent) (now edges) (now nearest) ⌝ }
     ensures { λ r. ⌜ r ≡ rule.answer (termsOf (lent g (now (costs .entry)) (now (periods .entry)) (now (jitters .entry)))) deadline ⌝ }
 {
-    let mut edges = [0; STAIRS];
-    let found = busy_period(g, costs, periods, jitters, &mut edges);
+    let found = busy_period(g, costs, periods, jitters, edges, nearest);
     let Found::At(l) = found else {
         return Answer {
             verdict: Verdict::None,
@@ -288,6 +291,58 @@ pub(crate) fn answer_among<'a>(
             instance: 0,
         };
     };
-    let worst = largest_term(g, l, costs, periods, jitters, &mut edges);
+    let worst = largest_term(g, l, costs, periods, jitters, edges, nearest);
     judged(worst.bound, worst.instance, deadline)
+}
+
+// Few stairs have small rooms.
+fn answer_few<'a>(
+    g: Gathered,
+    costs: &'a [u64],
+    periods: &'a [u64],
+    jitters: &'a [u64],
+    deadline: u64,
+) -> Answer
+    requires { ⌜ Fit (lent g (now costs) (now periods) (now jitters)) ⌝ }
+    requires { ⌜ g .sources + g .urgent ≤ fewStairs ⌝ }
+    ensures { λ r. ⌜ r ≡ rule.answer (termsOf (lent g (now (costs .entry)) (now (periods .entry)) (now (jitters .entry)))) deadline ⌝ }
+{
+    let mut edges = [0; FEW_STAIRS];
+    let mut nearest = [0; FEW_STAIRS / LOT];
+    searched(
+        g,
+        costs,
+        periods,
+        jitters,
+        &mut edges,
+        &mut nearest,
+        deadline,
+    )
+}
+
+// The answer among other streams and noise sources.
+pub(crate) fn answer_among<'a>(
+    g: Gathered,
+    costs: &'a [u64],
+    periods: &'a [u64],
+    jitters: &'a [u64],
+    deadline: u64,
+) -> Answer
+    requires { ⌜ Fit (lent g (now costs) (now periods) (now jitters)) ⌝ }
+    ensures { λ r. ⌜ r ≡ rule.answer (termsOf (lent g (now (costs .entry)) (now (periods .entry)) (now (jitters .entry)))) deadline ⌝ }
+{
+    if g.sources + g.urgent <= FEW_STAIRS {
+        return answer_few(g, costs, periods, jitters, deadline);
+    }
+    let mut edges = [0; STAIRS];
+    let mut nearest = [0; STAIRS / LOT];
+    searched(
+        g,
+        costs,
+        periods,
+        jitters,
+        &mut edges,
+        &mut nearest,
+        deadline,
+    )
 }

@@ -4,13 +4,11 @@
 ghost use mathlib.Core.Path.{_≡_};
 ghost use Prim.Native.Nat.{ℕ, _+_, _-_, _≤_, _<_, min};
 ghost use lib.ListN.{length, getD};
-ghost use Rattle.names.specs.Limits.{streams, sources, ticks};
+ghost use Rattle.names.specs.Limits.{ticks};
 ghost use Rattle.laws.specs.Lists.{ceil};
-ghost use Rattle.analysis.specs.Gathered.{stairs as most, cost};
-ghost use Rattle.analysis.specs.private.Stairs.{far, lots, height, Due, Risen, NoEdgeBefore, Near, NewNearest, LotEnds, Moved};
-ghost use Rattle.analysis.specs.private.Stairs.{StreamsStarted, SourcesStarted, Started};
-use crate::STAIRS;
-use names::STREAMS;
+ghost use Rattle.terms.specs.Gathered.{stairs as most, cost};
+ghost use Rattle.analysis.specs.private.Stairs.{far, earliest, height, Due, Risen, NoEdgeBefore, Near, NewNearest, LotEnds, Moved};
+ghost use Rattle.analysis.specs.private.Stairs.{Room, StreamsStarted, SourcesStarted, Started};
 use names::TICKS;
 
 // Time is counted from so long before a busy period that no edge of a stair is below zero.
@@ -19,11 +17,11 @@ pub(crate) const START: u64 = 2 * (TICKS + 1);
 // No edge comes so far.
 const FAR: u64 = 2 * START;
 
-// Stairs are looked at in lots: in a lot whose nearest edge is not passed none of them rises.
-const LOT: usize = 8;
+// No edge is so early.
+const EARLIEST: u64 = START / 4;
 
-// The last lot need not be full.
-pub(crate) const LOTS: usize = (STAIRS + (LOT - 1)) / LOT;
+// Stairs are looked at in lots: in a lot whose nearest edge is not passed none of them rises.
+pub(crate) const LOT: usize = 8;
 
 // How many periods x is past an edge, rounded up. A chain mostly passes one at a time, and needs no division then.
 pub(crate) fn periods_past(x: u64, edge: u64, period: u64) -> u64
@@ -73,9 +71,9 @@ fn lot_at(
     x: u64,
     from: usize,
     to: usize,
-    costs: &[u64; STAIRS],
-    periods: &[u64; STAIRS],
-    edges: &mut [u64; STAIRS],
+    costs: &[u64],
+    periods: &[u64],
+    edges: &mut [u64],
     sum: u64,
 ) -> Lot
     requires { ⌜ Due (now costs) (now periods) (now edges) from to x sum ⌝ }
@@ -104,15 +102,14 @@ fn climbed_lot(
     b: usize,
     from: usize,
     to: usize,
-    costs: &[u64; STAIRS],
-    periods: &[u64; STAIRS],
-    edges: &mut [u64; STAIRS],
-    nearest: &mut [u64; LOTS],
+    costs: &[u64],
+    periods: &[u64],
+    edges: &mut [u64],
+    nearest: &mut [u64],
     sum: u64,
 ) -> u64
     requires { ⌜ Due (now costs) (now periods) (now edges) from to x sum ⌝ }
-    requires { ⌜ length (now nearest) ≡ lots ⌝ }
-    requires { ⌜ b < lots ⌝ }
+    requires { ⌜ b < length (now nearest) ⌝ }
     requires { ⌜ NoEdgeBefore (getD (now nearest) b 0) (now edges) from to ⌝ }
     ensures { λ r. ⌜ Risen (now (costs .entry)) (now (periods .entry)) (now (edges .entry)) (now (edges .exit)) from to x sum r ⌝ }
     ensures { λ _. ⌜ NewNearest (now (edges .exit)) (now (nearest .entry)) (now (nearest .exit)) b from to ⌝ }
@@ -139,10 +136,10 @@ fn lot_end(k: usize, n: usize) -> usize
 pub(crate) fn climbed(
     x: u64,
     n: usize,
-    costs: &[u64; STAIRS],
-    periods: &[u64; STAIRS],
-    edges: &mut [u64; STAIRS],
-    nearest: &mut [u64; LOTS],
+    costs: &[u64],
+    periods: &[u64],
+    edges: &mut [u64],
+    nearest: &mut [u64],
     sum: u64,
 ) -> u64
     requires { ⌜ Due (now costs) (now periods) (now edges) 0 n x sum ⌝ }
@@ -164,11 +161,10 @@ pub(crate) fn climbed(
 }
 
 // A noise source's stair starts `window` before time's start.
-fn start_sources(n: usize, window: u64, edges: &mut [u64; STAIRS])
-    requires { ⌜ n ≤ most ⌝ }
+fn start_sources(n: usize, window: u64, edges: &mut [u64])
+    requires { ⌜ n ≤ length (now edges) ⌝ }
     requires { ⌜ window ≤ cost ⌝ }
-    requires { ⌜ length (now edges) ≡ most ⌝ }
-    ensures { λ _. ⌜ SourcesStarted n window (now (edges .exit)) ⌝ }
+    ensures { λ _. ⌜ SourcesStarted n window (now (edges .entry)) (now (edges .exit)) ⌝ }
 {
     let mut k: usize = 0;
     while k < n {
@@ -178,18 +174,11 @@ fn start_sources(n: usize, window: u64, edges: &mut [u64; STAIRS])
 }
 
 // A stream's stair starts its jitter and `late` before time's start.
-fn start_streams(
-    jitters: &[u64; STREAMS],
-    from: usize,
-    n: usize,
-    late: u64,
-    edges: &mut [u64; STAIRS],
-)
-    requires { ⌜ from ≤ sources ⌝ }
-    requires { ⌜ n ≤ streams ⌝ }
-    requires { ⌜ late ≤ cost ⌝ }
+fn start_streams(jitters: &[u64], from: usize, n: usize, late: u64, edges: &mut [u64])
+    requires { ⌜ n ≤ length (now jitters) ⌝ }
     requires { ⌜ ((k : ℕ) → k < n → getD (now jitters) k 0 ≤ ticks) ⌝ }
-    requires { ⌜ length (now edges) ≡ most ⌝ }
+    requires { ⌜ late ≤ cost ⌝ }
+    requires { ⌜ from + n ≤ length (now edges) ⌝ }
     ensures { λ _. ⌜ StreamsStarted (now (jitters .entry)) from n late (now (edges .entry)) (now (edges .exit)) ⌝ }
 {
     let mut k: usize = 0;
@@ -199,23 +188,36 @@ fn start_streams(
     }
 }
 
-// Where all stairs start: those of the noise sources, and the streams' after them.
-pub(crate) fn start_edges(
-    jitters: &[u64; STREAMS],
+// At first no nearest edge is known. 0 would do as well, but a few zeros are cleared by a call that takes longer than they do.
+fn start_lots(nearest: &mut [u64])
+    ensures { λ _. ⌜ ((b : ℕ) → b < length (now (nearest .exit)) → getD (now (nearest .exit)) b 0 ≡ earliest) ⌝ }
+{
+    let mut b: usize = 0;
+    while b < nearest.len() {
+        nearest[b] = EARLIEST;
+        b += 1;
+    }
+}
+
+// Where all stairs start: those of the noise sources, and the streams' after them. Of no lot is the nearest edge known.
+pub(crate) fn start(
+    jitters: &[u64],
     from: usize,
     urgent: usize,
     late: u64,
     window: u64,
-    edges: &mut [u64; STAIRS],
+    edges: &mut [u64],
+    nearest: &mut [u64],
 )
-    requires { ⌜ from ≤ sources ⌝ }
-    requires { ⌜ urgent ≤ streams ⌝ }
+    requires { ⌜ urgent ≤ length (now jitters) ⌝ }
+    requires { ⌜ ((k : ℕ) → k < urgent → getD (now jitters) k 0 ≤ ticks) ⌝ }
     requires { ⌜ late ≤ cost ⌝ }
     requires { ⌜ window ≤ cost ⌝ }
-    requires { ⌜ ((k : ℕ) → k < urgent → getD (now jitters) k 0 ≤ ticks) ⌝ }
-    requires { ⌜ length (now edges) ≡ most ⌝ }
+    requires { ⌜ Room (from + urgent) (now edges) (now nearest) ⌝ }
     ensures { λ _. ⌜ Started (now (jitters .entry)) from urgent late window (now (edges .exit)) ⌝ }
+    ensures { λ _. ⌜ Near (now (edges .exit)) (now (nearest .exit)) (from + urgent) ⌝ }
 {
     start_sources(from, window, edges);
     start_streams(jitters, from, urgent, late, edges);
+    start_lots(nearest);
 }

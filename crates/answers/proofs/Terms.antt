@@ -1,27 +1,26 @@
 -- A row's own terms, and the streams in order before which hits and gaps stand, are the terms of the rules, and within the analysis' limits. Assumes nothing.
 use mathlib.Core.Path.{_≡_, refl, sym, ap, ap₂, _∙_}
-use mathlib.Core.Bool.{true, false, cond}
-use mathlib.Core.List.{List, [], map}
+use mathlib.Core.Bool.{true, cond}
+use mathlib.Core.List.{List, map}
 use Prim.Native.Nat.{ℕ, max, _+_, _-_, _*_, _^_, _≤_, _<_}
-use native.Mathlib.Nat.{le-refl}
 use native.Mathlib.Omega.{arith}
-use borrow.Author.Tests.{le-leb, lt-ltb, le-ltb, eq-eqb}
+use borrow.Author.Tests.{le-leb, lt-ltb, eq-eqb}
 use lib.Dec.{ltb}
-use lib.ListN.{getD}
+use lib.ListN.{length, getD}
 use Rattle.names.specs.Limits.{streams, sources}
-use Rattle.laws.specs.Lists.{ceil, sumTo, largestOf, those, rows}
+use Rattle.laws.specs.Lists.{ceil, sumTo, largestOf, rows}
 use Rattle.laws.specs.Ranks.{rank}
-use Rattle.laws.proofs.Lists.{largest-those, length-rows, rows-at, rows-same, every-all, sum-rows, sumTo-same}
+use Rattle.laws.proofs.Lists.{largest-those, rows-same, every-all, sum-rows, sumTo-same}
 use Rattle.laws.proofs.Ranks.{rank-below, rank-less, rank-apart, rank-onto, sum-in-order, sum-front, sum-map-those, largest-same}
 use Rattle.bound.specs.Terms as bound
 use Rattle.bound.specs.Bound.{demand, answer}
 use Rattle.bound.specs.Claims.{Sound}
 use Rattle.bound.specs.declared.Answer.{Answer}
 use Rattle.bound.proofs.Same.{instead, same-answer}
-use Rattle.analysis.specs.declared.Gathered.{Gathered}
+use Rattle.terms.specs.declared.Gathered.{Gathered}
 use Rattle.analysis.specs.declared.Answered.{Answered, the-variants.Outside, the-variants.Exact}
-use Rattle.analysis.specs.Gathered.{Lent, lent, termsOf, shareAt, cost, shareFits, sourceFits, rowFits, fits, answered}
-use Rattle.analysis.proofs.Fit.{lone-fits}
+use Rattle.terms.specs.Gathered.{Lent, lent, termsOf, shareAt, cost, shareFits, sourceFits, rowFits, fits}
+use Rattle.analysis.specs.Answered.{answered}
 use Rattle.plan.specs.declared.Timing.{Timing}
 use Rattle.plan.specs.declared.Stream.{Stream}
 use Rattle.plan.specs.Plan.{Plan}
@@ -29,16 +28,29 @@ use Rattle.plan.specs.Rules as rule
 use Rattle.plan.proofs.Rules.{terms-sound}
 use Rattle.carried.specs.Layout as layout
 use Rattle.carried.specs.Carried.{enteredIn, timingIn, planIn}
+use Rattle.answers.specs.declared.order.Toll.{Toll}
 use Rattle.answers.specs.declared.own.Others.{Others}
 use Rattle.answers.specs.private.Gather.{PlacesWithin, Tolls, Column, Extremes, Slotted, InOrder, Before, RowOf, RowTerms, sent, urgency, rowStream}
 use Rattle.answers.proofs.Gather.{place-is, fits-here, either-within}
 
-module _ (ws : List ℕ) (n m : ℕ) (u all late slot : ℕ) (fine : PlacesWithin ws n m) (tolls : Tolls (timingIn ws) u all late slot) where
+module _ (ws : List ℕ) (n m : ℕ) (toll : Toll) (fine : PlacesWithin ws n m) (tolls : Tolls (timingIn ws) toll) where
   abbrev t : Timing
   t = timingIn ws
 
   abbrev p : Plan
   p = planIn n m ws
+
+  abbrev u : ℕ
+  u = toll .u
+
+  abbrev all : ℕ
+  all = toll .all
+
+  abbrev late : ℕ
+  late = toll .late
+
+  abbrev slot : ℕ
+  slot = toll .slot
 
   few-ticks : slot ≤ cost
   few-ticks = omega (arith, tolls .slot-is, fine .timing .p)
@@ -192,11 +204,17 @@ module _ (ws : List ℕ) (n m : ℕ) (u all late slot : ℕ) (fine : PlacesWithi
           ap (λ a. shareFits (shareAt given a)) (sym e) ∙ ap shareFits (share-in-place j l)
           ∙ fits-here {a = rule.airtime t (rowStream ws j)} {b = rowStream ws j .period} {d = rowStream ws j .jitter} c (refl, omega (arith, w .period)) (refl, omega (arith, w .jitter)) (w .some-period)
 
+      places : g .sources + g .urgent ≤ m + n
+      places = omega (arith, own .sources, own .urgent, rank-below (urgency ws) n k among)
+
       terms-fit : fits given ≡ true
       unfolding fits
       terms-fit =
           simp (
             own .fits,
+            le-leb (g .sources + g .urgent) (length costs) (omega (arith, places, o .long .of-costs)),
+            le-leb (g .sources + g .urgent) (length periods) (omega (arith, places, o .long .of-periods)),
+            le-leb (g .urgent) (length jitters) (omega (arith, places, own .sources, o .long .of-jitters)),
             every-all (λ a. shareFits (shareAt given a)) (g .urgent) shares-fit,
             every-all (λ j. sourceFits (g .hit) (getD costs j 0) (getD periods j 0)) (g .sources)
                 (λ j h. let l : j < m = omega (arith, own .sources) in rw (hits .put j l, gaps j l) (simp (le-leb _ _ (fine .gap j l .some-gap), le-leb _ _ (fine .gap j l .gap), eq-eqb (g .hit) (g .hit) refl))),
@@ -208,64 +226,6 @@ module _ (ws : List ℕ) (n m : ℕ) (u all late slot : ℕ) (fine : PlacesWithi
             fits = terms-fit;
             same = λ D. ap (λ r. answer r D) terms-but ∙ same-answer (rule.terms p i) (termsOf given .urgent) same-urgent D;
           }
-
--- ---- one stream, which is alone on the channel
-module _ (ws : List ℕ) where
-  abbrev pub own-priorities : List ℕ
-  own-priorities = rows streams (urgency ws)
-
-  abbrev pub own-messages : List ℕ
-  own-messages = rows streams (λ k. sent (rowStream ws k))
-
-  pub lone-priorities : Column (λ j. j .priority .0) ws 1 own-priorities
-  lone-priorities = record { long = length-rows streams (urgency ws); is = λ k h. rows-at streams (urgency ws) 0 k (omega arith) }
-
-  pub lone-messages : Column sent ws 1 own-messages
-  lone-messages = record { long = length-rows streams (λ k. sent (rowStream ws k)); is = λ k h. rows-at streams (λ k. sent (rowStream ws k)) 0 k (omega arith) }
-
-  -- a stream is neither more nor less urgent than itself
-  not-itself : ltb (getD own-priorities 0 0) (urgency ws 0) ≡ false
-  not-itself = le-ltb (getD own-priorities 0 0) (urgency ws 0) (omega (arith, rows-at streams (urgency ws) 0 0 (omega arith)))
-
-  nor-itself : ltb (urgency ws 0) (getD own-priorities 0 0) ≡ false
-  nor-itself = le-ltb (urgency ws 0) (getD own-priorities 0 0) (omega (arith, rows-at streams (urgency ws) 0 0 (omega arith)))
-
-  pub lone-extremes : (u all own : ℕ) → own ≤ cost → Extremes own-priorities own-messages 1 (urgency ws 0) u all own (record { urgent = 0; blocking = 0; hit = own })
-  unfolding sumTo rows largestOf
-  lone-extremes u all own h =
-      record {
-        urgent = simp not-itself;
-        blocking = simp nor-itself;
-        little = omega arith;
-        hit = simp not-itself (omega arith);
-        small = h;
-      }
-
-  nobody : rule.hp (planIn 1 0 ws) (rowStream ws 0) ≡ []
-  unfolding enteredIn rows those
-  nobody = simp (le-ltb (urgency ws 0) (urgency ws 0) (le-refl (urgency ws 0)))
-
-  module _ (g : Gathered) (own : RowOf ws 1 0 0 g) where
-    none : g .sources + g .urgent ≡ 0
-    none = omega (arith, own .sources, own .urgent, rank-below (urgency ws) 1 0 (omega arith))
-
-    pub lone-fit : fits (lent g [] [] []) ≡ true
-    lone-fit = lone-fits g (own .fits) none
-
-    pub lone-terms : termsOf (lent g [] [] []) ≡ rule.terms (planIn 1 0 ws) (rowStream ws 0)
-    unfolding rule.terms enteredIn rows
-    lone-terms =
-        let u : g .urgent ≡ 0 = omega (arith, none) in
-        λ z.
-        record {
-          B = own .blocking z;
-          own = record { C″ = own .cost z; T = own .period z; J = own .jitter z };
-          urgent = (ap (λ k. rows k (shareAt (lent g [] [] []))) u ∙ sym (ap (map (rule.share (timingIn ws))) nobody)) z;
-          gaps = ap (λ k. rows k (λ (j : ℕ). 0)) (own .sources) z;
-          hit = own .hit z;
-          late = own .late z;
-          last = own .last z;
-        }
 
 -- ---- the analysis' answer to such terms is the rules' answer
 pub answered-is : (t : Lent) (D : ℕ) → fits t ≡ true → answered t D ≡ Exact (answer (termsOf t) D)

@@ -3,27 +3,24 @@
 // All streams are looked at in one pass with no branch to be guessed, their priorities and messages side by side.
 ghost use mathlib.Core.Path.{_≡_};
 ghost use Prim.Native.Nat.{ℕ, _+_, _≤_, _<_, max};
-ghost use lib.ListN.{getD};
+ghost use lib.ListN.{length, getD};
 ghost use Rattle.names.specs.Limits as limit;
 ghost use Rattle.costs.specs.Costs.{mostV, mostU};
 ghost use Rattle.carried.specs.Carried.{timingIn};
 ghost use Rattle.answers.specs.private.Gather.{sent, PlacesWithin, Tolls, Column};
 ghost use Rattle.answers.specs.private.Gather.{Extremes, Slotted, RowOf};
-use crate::order::ACKNOWLEDGEMENT;
 use crate::order::FIRST;
 use crate::order::JITTER;
-use crate::order::PAYLOAD;
 use crate::order::PERIOD;
+use crate::order::Toll;
 use crate::order::airtime;
 use crate::order::if_less;
-use crate::order::message;
 use crate::order::wide;
-use analysis::Gathered;
 use carried::CARRIED;
 use carried::STREAM;
 use names::Priority;
 use names::Row;
-use names::STREAMS;
+use terms::Gathered;
 
 // How many streams are more urgent than one, its B, and the largest cost of these and its own.
 struct Others {
@@ -39,24 +36,27 @@ fn larger(a: u32, b: u32) -> u32
 }
 
 // What the other streams are to one of priority q whose C + K is `mine`: how many are more urgent, B, and the dearest of itself and these, each
-// at its C''. `all` is what comes to each C + K.
+// at its C''.
 fn others_of(
-    priorities: &[u32; STREAMS],
-    messages: &[u32; STREAMS],
+    priorities: &[u32],
+    messages: &[u32],
     n: usize,
     q: Priority,
     mine: u32,
-    u: u32,
-    all: u32,
+    toll: Toll,
 ) -> Others
     requires { ⌜ n ≤ limit.streams ⌝ }
+    requires { ⌜ n ≤ length (now priorities) ⌝ }
+    requires { ⌜ n ≤ length (now messages) ⌝ }
     requires { ⌜ ((k : ℕ) → k < n → 1 ≤ getD (now messages) k 0) ⌝ }
     requires { ⌜ ((k : ℕ) → k < n → getD (now messages) k 0 ≤ limit.payload + limit.acknowledgement) ⌝ }
-    requires { ⌜ u ≤ all ⌝ }
-    requires { ⌜ all ≤ mostV + mostU ⌝ }
+    requires { ⌜ toll .u ≤ toll .all ⌝ }
+    requires { ⌜ toll .all ≤ mostV + mostU ⌝ }
     requires { ⌜ mine ≤ limit.payload + limit.acknowledgement ⌝ }
-    ensures { λ r. ⌜ Extremes (now (priorities .entry)) (now (messages .entry)) n (q .0) u all (all + mine) r ⌝ }
+    ensures { λ r. ⌜ Extremes (now (priorities .entry)) (now (messages .entry)) n (q .0) (toll .u) (toll .all) (toll .all + mine) r ⌝ }
 {
+    let u = toll.u;
+    let all = toll.all;
     let mut urgent: u32 = 0;
     let mut blocking: u32 = 0;
     let mut hit = all + mine;
@@ -90,21 +90,18 @@ fn in_slots(found: Others, slot: u64) -> Others
     }
 }
 
-// A row's own terms. `u` and `all` are what comes to a C + K for C' and for C''.
+// A row's own terms.
 pub(crate) fn gathered(
     words: &[u32; CARRIED],
     n: usize,
     m: usize,
-    u: u32,
-    all: u32,
-    late: u64,
-    slot: u64,
+    toll: Toll,
     row: Row,
-    priorities: &[u32; STREAMS],
-    messages: &[u32; STREAMS],
+    priorities: &[u32],
+    messages: &[u32],
 ) -> Gathered
     requires { ⌜ PlacesWithin (now words) n m ⌝ }
-    requires { ⌜ Tolls (timingIn (now words)) u all late slot ⌝ }
+    requires { ⌜ Tolls (timingIn (now words)) toll ⌝ }
     requires { ⌜ row .0 < n ⌝ }
     requires { ⌜ Column (λ j. j .priority .0) (now words) n (now priorities) ⌝ }
     requires { ⌜ Column sent (now words) n (now messages) ⌝ }
@@ -113,18 +110,10 @@ pub(crate) fn gathered(
     let k = row.0;
     let at = FIRST + STREAM * k;
     let mine = messages[k];
-    let found = others_of(
-        priorities,
-        messages,
-        n,
-        Priority(priorities[k]),
-        mine,
-        u,
-        all,
-    );
-    let others = in_slots(found, slot);
-    let whole = wide(all + mine);
-    let own = airtime(slot, whole);
+    let found = others_of(priorities, messages, n, Priority(priorities[k]), mine, toll);
+    let others = in_slots(found, toll.slot);
+    let whole = wide(toll.all + mine);
+    let own = airtime(toll.slot, whole);
     let period = wide(words[at + PERIOD]);
     let jitter = wide(words[at + JITTER]);
     Gathered {
@@ -135,43 +124,7 @@ pub(crate) fn gathered(
         urgent: others.urgent,
         sources: m,
         hit: others.hit,
-        late,
-        last: whole,
-    }
-}
-
-// The terms of a plan's one stream where there is no noise.
-pub(crate) fn gathered_lone(
-    words: &[u32; CARRIED],
-    u: u32,
-    all: u32,
-    late: u64,
-    slot: u64,
-) -> Gathered
-    requires { ⌜ PlacesWithin (now words) 1 0 ⌝ }
-    requires { ⌜ Tolls (timingIn (now words)) u all late slot ⌝ }
-    ensures { λ r. ⌜ RowOf (now (words .entry)) 1 0 0 r ⌝ }
-{
-    let mine = message(words[FIRST + PAYLOAD], words[FIRST + ACKNOWLEDGEMENT]);
-    let whole = wide(all + mine);
-    let found = Others {
-        urgent: 0,
-        blocking: 0,
-        hit: whole,
-    };
-    let others = in_slots(found, slot);
-    let own = airtime(slot, whole);
-    let period = wide(words[FIRST + PERIOD]);
-    let jitter = wide(words[FIRST + JITTER]);
-    Gathered {
-        blocking: others.blocking,
-        cost: own,
-        period,
-        jitter,
-        urgent: others.urgent,
-        sources: 0,
-        hit: others.hit,
-        late,
+        late: toll.late,
         last: whole,
     }
 }

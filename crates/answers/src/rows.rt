@@ -1,37 +1,38 @@
 // The answers of all rows, in file order.
 ghost use mathlib.Core.Path.{_≡_};
 ghost use mathlib.Core.Bool.{true};
-ghost use mathlib.Core.List.{[], _++_};
-ghost use Prim.Native.Nat.{_+_, _*_, _≤_};
-ghost use lib.ListN.{length, drop};
+ghost use mathlib.Core.List.{_++_};
+ghost use Prim.Native.Nat.{ℕ, _*_, _≤_, _<_};
+ghost use lib.ListN.{length, getD, drop};
 ghost use Rattle.bound.specs.Bound.{answer};
 ghost use Rattle.row_words.specs.RowWords.{wordsPerRow};
 ghost use Rattle.carried.specs.Carried.{timingIn, planIn};
-ghost use Rattle.analysis.specs.Gathered.{lent, termsOf, fits};
+ghost use Rattle.terms.specs.Gathered.{lent, termsOf, fits};
 ghost use Rattle.answers.specs.Answers.{answerWords};
-ghost use Rattle.answers.specs.private.Gather.{PlacesWithin, Tolls};
+ghost use Rattle.answers.specs.private.Gather.{few, sent, PlacesWithin, Tolls, Column, Long, InOrder};
+ghost use Rattle.carried.specs.Layout as layout;
 use crate::order::FIRST;
-use crate::order::messages_in;
-use crate::order::priorities_in;
+use crate::order::Toll;
+use crate::order::put_columns;
 use crate::order::put_gaps;
 use crate::order::put_hits;
 use crate::order::put_in_order;
 use crate::order::wide;
 use crate::own::gathered;
-use crate::own::gathered_lone;
 use analysis::Answered;
-use analysis::Gathered;
-use analysis::STAIRS;
-use analysis::answer_lone;
 use bound::Answer;
 use bound::Verdict;
 use carried::CARRIED;
 use carried::STREAM;
 use carried::timing_in;
 use costs::overheads_of;
+use names::FEW;
 use names::Row;
+use names::SOURCES;
 use names::STREAMS;
 use row_words::put_answer;
+use terms::Gathered;
+use terms::STAIRS;
 
 // The word of a stream that has its deadline.
 const DEADLINE: usize = 5;
@@ -39,9 +40,9 @@ const DEADLINE: usize = 5;
 // The answer of terms that are within the limits, as a plan's are.
 fn row_answer<'a>(
     g: Gathered,
-    costs: &'a [u64; STAIRS],
-    periods: &'a [u64; STAIRS],
-    jitters: &'a [u64; STREAMS],
+    costs: &'a [u64],
+    periods: &'a [u64],
+    jitters: &'a [u64],
     deadline: u64,
 ) -> Answer
     requires { ⌜ fits (lent g (now costs) (now periods) (now jitters)) ≡ true ⌝ }
@@ -58,89 +59,137 @@ fn row_answer<'a>(
     }
 }
 
-// The answer of terms that are within the limits and have nobody else on the channel.
-fn lone_answer(g: Gathered, deadline: u64) -> Answer
-    requires { ⌜ fits (lent g [] [] []) ≡ true ⌝ }
-    ensures { λ r. ⌜ r ≡ answer (termsOf (lent g [] [] [])) deadline ⌝ }
-{
-    match answer_lone(g, deadline) {
-        Answered::Exact(a) => a,
-        // Never got to.
-        Answered::Outside => Answer {
-            verdict: Verdict::None,
-            bound: 0,
-            instance: 0,
-        },
-    }
-}
-
-// Each row's answer words in file order, at the start of what is lent; the streams are put in order once.
-fn put_sorted(
+// Each row's answer words in file order, at the start of what is lent, from streams that stand in order.
+fn put_answers<'a>(
     words: &[u32; CARRIED],
     n: usize,
     m: usize,
-    u: u32,
-    all: u32,
-    late: u64,
-    slot: u64,
+    toll: Toll,
+    priorities: &[u32],
+    messages: &[u32],
+    costs: &mut [u64],
+    periods: &'a [u64],
+    jitters: &'a [u64],
     out: &mut [u64],
 )
     requires { ⌜ PlacesWithin (now words) n m ⌝ }
-    requires { ⌜ Tolls (timingIn (now words)) u all late slot ⌝ }
+    requires { ⌜ Tolls (timingIn (now words)) toll ⌝ }
+    requires { ⌜ Column (λ j. j .priority .0) (now words) n (now priorities) ⌝ }
+    requires { ⌜ Column sent (now words) n (now messages) ⌝ }
+    requires { ⌜ InOrder (now words) n m (toll .slot) (toll .all) n (now costs) (now periods) (now jitters) ⌝ }
+    requires { ⌜ ((k : ℕ) → k < m → getD (now periods) k 0 ≡ getD (now words) (layout.gapAt n k) 0) ⌝ }
     requires { ⌜ wordsPerRow * n ≤ length (now out) ⌝ }
     ensures { λ _. ⌜ now (out .exit) ≡ answerWords (planIn n m (now (words .entry))) ++ drop (wordsPerRow * n) (now (out .entry)) ⌝ }
 {
-    let priorities = priorities_in(words, n);
-    let messages = messages_in(words, n);
-    let mut costs = [0; STAIRS];
-    let mut periods = [0; STAIRS];
-    let mut jitters = [0; STREAMS];
-    put_in_order(
-        words,
-        n,
-        m,
-        all,
-        slot,
-        &priorities,
-        &messages,
-        &mut costs,
-        &mut periods,
-        &mut jitters,
-    );
-    put_gaps(words, FIRST + STREAM * n, m, &mut periods);
     let mut k: usize = 0;
     while k < n {
-        let g = gathered(
-            words,
-            n,
-            m,
-            u,
-            all,
-            late,
-            slot,
-            Row(k),
-            &priorities,
-            &messages,
-        );
-        put_hits(g.hit, m, &mut costs);
+        let g = gathered(words, n, m, toll, Row(k), priorities, messages);
+        put_hits(g.hit, m, costs);
         let deadline = wide(words[FIRST + STREAM * k + DEADLINE]);
-        let a = row_answer(g, &costs, &periods, &jitters, deadline);
+        let a = row_answer(g, &costs[..], periods, jitters, deadline);
         put_answer(out, Row(k), a);
         k += 1;
     }
 }
 
-// The answer words of a plan's one stream where there is no noise. Nothing is put in order, so that no room is cleared for 256.
-fn put_lone(words: &[u32; CARRIED], u: u32, all: u32, late: u64, slot: u64, out: &mut [u64])
-    requires { ⌜ PlacesWithin (now words) 1 0 ⌝ }
-    requires { ⌜ Tolls (timingIn (now words)) u all late slot ⌝ }
-    requires { ⌜ wordsPerRow ≤ length (now out) ⌝ }
-    ensures { λ _. ⌜ now (out .exit) ≡ answerWords (planIn 1 0 (now (words .entry))) ++ drop wordsPerRow (now (out .entry)) ⌝ }
+// The same from the words: the streams are put in order once, in rooms that are large enough.
+fn put_sorted(
+    words: &[u32; CARRIED],
+    n: usize,
+    m: usize,
+    toll: Toll,
+    priorities: &mut [u32],
+    messages: &mut [u32],
+    costs: &mut [u64],
+    periods: &mut [u64],
+    jitters: &mut [u64],
+    out: &mut [u64],
+)
+    requires { ⌜ PlacesWithin (now words) n m ⌝ }
+    requires { ⌜ Tolls (timingIn (now words)) toll ⌝ }
+    requires { ⌜ n ≤ length (now priorities) ⌝ }
+    requires { ⌜ n ≤ length (now messages) ⌝ }
+    requires { ⌜ Long n m (now costs) (now periods) (now jitters) ⌝ }
+    requires { ⌜ wordsPerRow * n ≤ length (now out) ⌝ }
+    ensures { λ _. ⌜ now (out .exit) ≡ answerWords (planIn n m (now (words .entry))) ++ drop (wordsPerRow * n) (now (out .entry)) ⌝ }
 {
-    let g = gathered_lone(words, u, all, late, slot);
-    let deadline = wide(words[FIRST + DEADLINE]);
-    let a = lone_answer(g, deadline);
-    put_answer(out, Row(0), a);
+    put_columns(words, n, priorities, messages);
+    put_in_order(
+        words,
+        n,
+        m,
+        toll,
+        &priorities[..],
+        &messages[..],
+        costs,
+        periods,
+        jitters,
+    );
+    put_gaps(words, FIRST + STREAM * n, m, periods);
+    put_answers(
+        words,
+        n,
+        m,
+        toll,
+        &priorities[..],
+        &messages[..],
+        costs,
+        &periods[..],
+        &jitters[..],
+        out,
+    );
+}
+
+// Few streams have small rooms.
+fn put_few(words: &[u32; CARRIED], n: usize, m: usize, toll: Toll, out: &mut [u64])
+    requires { ⌜ PlacesWithin (now words) n m ⌝ }
+    requires { ⌜ Tolls (timingIn (now words)) toll ⌝ }
+    requires { ⌜ n ≤ few ⌝ }
+    requires { ⌜ wordsPerRow * n ≤ length (now out) ⌝ }
+    ensures { λ _. ⌜ now (out .exit) ≡ answerWords (planIn n m (now (words .entry))) ++ drop (wordsPerRow * n) (now (out .entry)) ⌝ }
+{
+    let mut priorities = [0; FEW];
+    let mut messages = [0; FEW];
+    let mut costs = [0; SOURCES + FEW];
+    let mut periods = [0; SOURCES + FEW];
+    let mut jitters = [0; FEW];
+    put_sorted(
+        words,
+        n,
+        m,
+        toll,
+        &mut priorities,
+        &mut messages,
+        &mut costs,
+        &mut periods,
+        &mut jitters,
+        out,
+    );
+}
+
+fn put_many(words: &[u32; CARRIED], n: usize, m: usize, toll: Toll, out: &mut [u64])
+    requires { ⌜ PlacesWithin (now words) n m ⌝ }
+    requires { ⌜ Tolls (timingIn (now words)) toll ⌝ }
+    requires { ⌜ wordsPerRow * n ≤ length (now out) ⌝ }
+    ensures { λ _. ⌜ now (out .exit) ≡ answerWords (planIn n m (now (words .entry))) ++ drop (wordsPerRow * n) (now (out .entry)) ⌝ }
+{
+    let mut priorities = [0; STREAMS];
+    let mut messages = [0; STREAMS];
+    let mut costs = [0; STAIRS];
+    let mut periods = [0; STAIRS];
+    let mut jitters = [0; STREAMS];
+    put_sorted(
+        words,
+        n,
+        m,
+        toll,
+        &mut priorities,
+        &mut messages,
+        &mut costs,
+        &mut periods,
+        &mut jitters,
+        out,
+    );
 }
 
 // Each row's answer words in file order, at the start of what is lent.
@@ -151,12 +200,14 @@ pub(crate) fn put_rows(words: &[u32; CARRIED], n: usize, m: usize, out: &mut [u6
 {
     let timing = timing_in(words);
     let c = overheads_of(timing);
-    let u = c.u as u32;
-    let all = (c.lead + c.u) as u32;
-    let late = c.late;
-    let slot = wide(timing.p);
-    if (n == 1) & (m == 0) {
-        return put_lone(words, u, all, late, slot, out);
+    let toll = Toll {
+        u: c.u as u32,
+        all: (c.lead + c.u) as u32,
+        late: c.late,
+        slot: wide(timing.p),
+    };
+    if n <= FEW {
+        return put_few(words, n, m, toll, out);
     }
-    put_sorted(words, n, m, u, all, late, slot, out)
+    put_many(words, n, m, toll, out)
 }

@@ -23,6 +23,7 @@ use judge::refused;
 use laws::Found;
 use laws::smaller;
 use names::CONSTANT;
+use names::FEW;
 use names::FoundRow;
 use names::SOURCES;
 use names::STREAMS;
@@ -34,6 +35,7 @@ ghost use lib.Dec.{ltb};
 ghost use lib.ListN.{length, getD, take};
 ghost use Rattle.names.specs.Limits as limit;
 ghost use Rattle.laws.specs.Lists.{rows};
+ghost use Rattle.repeats.specs.Repeats.{firstRepeat};
 ghost use Rattle.judge.specs.Table.{judge};
 ghost use Rattle.carried.specs.Layout as layout;
 ghost use Rattle.plan.specs.Plan.{TimingWithin};
@@ -54,17 +56,43 @@ const ACKNOWLEDGEMENT: usize = 6;
 const SUM: u64 = CONSTANT as u64;
 
 // Word k of each stream, in row order: a column of plain numbers, as it can be lent.
-fn column(words: &[u32], n: usize, k: usize) -> [u32; STREAMS]
+fn put_column(words: &[u32], n: usize, k: usize, out: &mut [u32])
     requires { ⌜ length (now words) ≡ layout.largest ⌝ }
     requires { ⌜ n ≤ limit.streams ⌝ }
     requires { ⌜ k < layout.streamLength ⌝ }
-    ensures { λ r. ⌜ take n r ≡ rows n (λ j. getD (now (words .entry)) (layout.streamAt j + k) 0) ⌝ }
+    requires { ⌜ n ≤ length (now out) ⌝ }
+    ensures { λ _. ⌜ take n (now (out .exit)) ≡ rows n (λ j. getD (now (words .entry)) (layout.streamAt j + k) 0) ⌝ }
 {
-    let mut out = [0; STREAMS];
     for r in 0..n {
         out[r] = words[TIMING + STREAM * r + k];
     }
-    out
+}
+
+// The first row that repeats word k of an earlier one, by a column in a room that is large enough.
+fn repeat_in(words: &[u32], n: usize, k: usize, room: &mut [u32]) -> FoundRow
+    requires { ⌜ length (now words) ≡ layout.largest ⌝ }
+    requires { ⌜ n ≤ limit.streams ⌝ }
+    requires { ⌜ k < layout.streamLength ⌝ }
+    requires { ⌜ n ≤ length (now room) ⌝ }
+    ensures { λ r. ⌜ r ≡ firstRepeat (rows n (λ j. getD (now (words .entry)) (layout.streamAt j + k) 0)) ⌝ }
+{
+    put_column(words, n, k, room);
+    first_repeat(&room[..n])
+}
+
+// Few rows have a small room.
+fn repeat_of(words: &[u32], n: usize, k: usize) -> FoundRow
+    requires { ⌜ length (now words) ≡ layout.largest ⌝ }
+    requires { ⌜ n ≤ limit.streams ⌝ }
+    requires { ⌜ k < layout.streamLength ⌝ }
+    ensures { λ r. ⌜ r ≡ firstRepeat (rows n (λ j. getD (now (words .entry)) (layout.streamAt j + k) 0)) ⌝ }
+{
+    if n <= FEW {
+        let mut few = [0; FEW];
+        return repeat_in(words, n, k, &mut few);
+    }
+    let mut room = [0; STREAMS];
+    repeat_in(words, n, k, &mut room)
 }
 
 // 2: n is not 1 to 256, in editions 1 and 2 not 1 to 64, or m is more than 8.
@@ -125,17 +153,11 @@ pub fn check_rows(words: &[u32; CARRIED], n: usize) -> Checked
     ensures { λ r. ⌜ r ≡ judge (rowLines (streamsIn (min n limit.streams) (now (words .entry)))) ⌝ }
 {
     let count = smaller(n, STREAMS);
-    // One row repeats none, and then no room is cleared for 256.
-    if count < 2 {
-        return Checked::Fine;
-    }
-    let priorities = column(words, count, PRIORITY);
-    match first_repeat(&priorities[..count]) {
+    match repeat_of(words, count, PRIORITY) {
         FoundRow::At(r) => return refused(4, r.0),
         FoundRow::Nothing => {}
     }
-    let labels = column(words, count, LABEL);
-    match first_repeat(&labels[..count]) {
+    match repeat_of(words, count, LABEL) {
         FoundRow::At(r) => refused(5, r.0),
         FoundRow::Nothing => Checked::Fine,
     }

@@ -34,6 +34,9 @@ pub const OLDER_STREAMS: usize = 64;
 
 pub const SOURCES: usize = 8;
 
+// So many streams are few. A room is cleared whole, and one for the most streams takes longer to clear than a few take to be answered.
+pub const FEW: usize = 16;
+
 pub const CONTENDERS: usize = 128;
 
 // The largest timing constant, payload, acknowledgement and number of priority bits.

@@ -2,6 +2,7 @@
 //
 // `first_repeat` answers for a slice of any length, and its contract determines the answer. Nothing is
 // assumed. This crate must not know what the values stand for: refusals 4, 5 and 9 all ask it.
+use names::FEW;
 use names::FoundRow;
 use names::Row;
 ghost use mathlib.Core.Path.{_≡_};
@@ -13,9 +14,6 @@ ghost use Rattle.repeats.specs.private.Buckets.{bucketOf};
 
 // Values are kept apart in so many buckets, and rows are held against each other only where two are in one.
 const BUCKETS: usize = 1024;
-
-// Up to so many rows no buckets are cleared, which takes as long as holding 8 to 16 rows against each other: machines differ.
-const FEW: usize = 16;
 
 // Among 1,024 neighbours have buckets of their own, and so have those of two halves that are not far apart, as labels of a few groups.
 fn bucket(value: u32, buckets: usize) -> usize

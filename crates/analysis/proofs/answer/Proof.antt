@@ -6,8 +6,8 @@ use mathlib.Core.Bool.{true}
 use native.Mathlib.Omega.{arith}
 use Rattle.bound.specs.Bound.{answer}
 use Rattle.analysis.specs.declared.Answered.the-variants.{Exact}
-use Rattle.analysis.specs.Gathered.{Lent, lent, fits}
-use Rattle.analysis.proofs.Fit.{fit-known}
+use Rattle.terms.specs.Gathered.{Lent, lent, fits}
+use Rattle.terms.proofs.Fit.{fit-known}
 use Rattle.analysis.proofs.Waits.{alone-terms}
 use Rattle.analysis.proofs.answer.Statement.{statement}
 use Rattle.analysis.proofs.answer.Tie as tie
@@ -17,7 +17,7 @@ returns c = simp (sym (c .before .terms-fit .ensures) ∙ not-true _ (c .if1 .ta
 
 -- what is lent, which fits
 abbrev given : tie.Else1 → Lent
-given c = let a = c .before .before .args in lent (a .g) (a .costs .now) (a .periods .now) (a .jitters .now)
+given c = let a = c .before .before .before .before .before .args in lent (a .g) (a .costs .now) (a .periods .now) (a .jitters .now)
 
 known : (c : tie.Else1) → fits (given c) ≡ true
 known c = sym (c .before .terms-fit .ensures) ∙ not-false _ (c .if1 .left)
@@ -33,7 +33,7 @@ returns-2 c =
     let t = c .before in
     let e = t .before .before in
     let none = t .if2 .taken in
-    simp (known e) (ap Exact (c .answer-alone .ensures ∙ ap (λ r. answer r (e .before .before .args .deadline)) (sym (alone-terms (given e) (omega (arith, none)) (omega (arith, none))))))
+    simp (known e) (ap Exact (c .answer-alone .ensures ∙ ap (λ r. answer r (e .before .before .before .before .before .args .deadline)) (sym (alone-terms (given e) (omega (arith, none)) (omega (arith, none))))))
 
 answer-among-requires : tie.Need-answer-among-requires
 answer-among-requires c κs = fit-known _ (known (c .before .before))

@@ -9,8 +9,8 @@ use Rattle.laws.specs.Lists.{ceil}
 use Rattle.laws.specs.Search.{Least}
 use Rattle.bound.specs.Terms.{Terms}
 use Rattle.bound.specs.Bound.{demand, E}
-use Rattle.analysis.specs.declared.Gathered.{Gathered}
-use Rattle.analysis.specs.Gathered.{termsWith}
+use Rattle.terms.specs.declared.Gathered.{Gathered}
+use Rattle.terms.specs.Gathered.{termsWith}
 use Rattle.analysis.specs.declared.searches.Own.{Own}
 use Rattle.analysis.specs.declared.searches.Reached.{Reached}
 use Rattle.analysis.specs.private.Stairs.{height, start, far, Stairs, Edges}

@@ -5,7 +5,7 @@ use Prim.Native.Nat.{ℕ, _+_, _-_, _*_, _^_, _≤_, _<_}
 use lib.ListN.{length, getD}
 use Rattle.names.specs.Limits.{ticks}
 use Rattle.laws.specs.Lists.{ceil, sumTo}
-use Rattle.analysis.specs.Gathered.{stairs as most, cost}
+use Rattle.terms.specs.Gathered.{stairs as most, cost}
 
 -- how high stair k is at x
 abbrev pub stair : List ℕ → List ℕ → List ℕ → ℕ → ℕ → ℕ
@@ -15,26 +15,31 @@ stair costs periods edges x k = ceil (x - getD edges k 0) (getD periods k 0) * g
 unfoldable pub height : List ℕ → List ℕ → List ℕ → ℕ → ℕ → ℕ
 height costs periods edges n x = sumTo (stair costs periods edges x) n
 
--- time's start, where no edge comes to, and the latest time that is looked at
+-- time's start, where no edge comes to, where none is yet, and the latest time that is looked at
 abbrev pub start : ℕ
 start = 2 * (ticks + 1)
 
 abbrev pub far : ℕ
 far = 2 * start
 
+abbrev pub earliest : ℕ
+earliest = 2 ^ 31
+
 abbrev pub latest : ℕ
 latest = start + ticks
 
--- the costs and periods of n stairs are within the limits
+-- the costs and periods of n stairs are lent, and within the limits
 pub record Stairs (costs periods : List ℕ) (n : ℕ) : Type 0 where
   pub few : n ≤ most
+  pub costs-long : n ≤ length costs
+  pub periods-long : n ≤ length periods
   pub cost : (k : ℕ) → k < n → getD costs k 0 ≤ cost
   pub some : (k : ℕ) → k < n → 1 ≤ getD periods k 0
   pub period : (k : ℕ) → k < n → getD periods k 0 ≤ ticks
 
--- the edges of n stairs stay below `far`
+-- there is room for the edges of n stairs, and these stay below `far`
 pub record Edges (edges : List ℕ) (n : ℕ) : Type 0 where
-  pub long : length edges ≡ most
+  pub long : n ≤ length edges
   pub below : (k : ℕ) → k < n → getD edges k 0 < far
 
 -- the first edge at or after x, or the edge itself where x has not passed it
@@ -69,9 +74,6 @@ NoEdgeBefore v edges from to = (k : ℕ) → from ≤ k → k < to → v ≤ get
 abbrev pub lot : ℕ
 lot = 8
 
-abbrev pub lots : ℕ
-lots = ceil most lot
-
 -- where the lot that starts at k ends, if there are n stairs
 pub record LotEnds (k n r : ℕ) : Type 0 where
   pub after : k < r
@@ -79,10 +81,19 @@ pub record LotEnds (k n r : ℕ) : Type 0 where
   pub short : r ≤ k + lot
   pub whole : r < n → r ≡ k + lot
 
--- for each lot an edge that none of the lot is before
+-- there is room for all lots, and for each an edge that none of the lot is before
 pub record Near (edges nearest : List ℕ) (n : ℕ) : Type 0 where
-  pub long : length nearest ≡ lots
+  pub long : n ≤ length nearest * lot
   pub before : (b k : ℕ) → b * lot ≤ k → k < b * lot + lot → k < n → getD nearest b 0 ≤ getD edges k 0
+
+-- room for the edges of n stairs, and for the nearest of each lot
+pub record Room (n : ℕ) (edges nearest : List ℕ) : Type 0 where
+  pub each : n ≤ length edges
+  pub lots : n ≤ length nearest * lot
+
+-- the stairs of few streams
+abbrev pub fewStairs : ℕ
+fewStairs = 24
 
 -- stairs that may climb: their edges, and the nearest of each lot, are known
 pub record Stand (costs periods edges nearest : List ℕ) (n : ℕ) : Type 0 where
@@ -102,18 +113,18 @@ pub record Moved (costs periods edges next : List ℕ) (n x : ℕ) : Type 0 wher
   pub later : (y : ℕ) → x ≤ y → height costs periods edges n y ≡ height costs periods edges n x + height costs periods next n y
 
 -- the stairs of n noise sources start `window` before time's start
-pub record SourcesStarted (n window : ℕ) (r : List ℕ) : Type 0 where
-  pub long : length r ≡ most
+pub record SourcesStarted (n window : ℕ) (edges r : List ℕ) : Type 0 where
+  pub long : length r ≡ length edges
   pub source : (k : ℕ) → k < n → getD r k 0 ≡ start - window
 
 -- the stairs of n streams start their jitter and `late` before time's start, and those before them stay
 pub record StreamsStarted (jitters : List ℕ) (from n late : ℕ) (edges r : List ℕ) : Type 0 where
-  pub long : length r ≡ most
+  pub long : length r ≡ length edges
   pub front : (k : ℕ) → k < from → getD r k 0 ≡ getD edges k 0
   pub stream : (k : ℕ) → k < n → getD r (from + k) 0 ≡ start - (getD jitters k 0 + late)
 
 -- all stairs have started
 pub record Started (jitters : List ℕ) (sources urgent late window : ℕ) (r : List ℕ) : Type 0 where
-  pub long : length r ≡ most
+  pub long : sources + urgent ≤ length r
   pub source : (k : ℕ) → k < sources → getD r k 0 ≡ start - window
   pub stream : (k : ℕ) → k < urgent → getD r (sources + k) 0 ≡ start - (getD jitters k 0 + late)

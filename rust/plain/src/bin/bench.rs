@@ -238,7 +238,9 @@ fn main() {
     println!("| | proved, ns a call | plain, ns a call | proved / plain |");
     println!("|---|---|---|---|");
     answers_row("one stream", ROUNDS, &single(100, 0));
-    bounded_row("8 streams, 50 % load", ROUNDS, &full(8, BASE_6, 5_000, &[]));
+    for count in [2, 4, 8, 16, 32] {
+        bounded_row(&format!("{count} streams, 50 % load"), ROUNDS, &full(count, BASE_6, 5_000, &[]));
+    }
     bounded_row("64 streams, 1 % load", ROUNDS, &full(64, BASE_6, 100, &[]));
     answers_row("64 streams, 50 % load", ROUNDS, &full(64, BASE_6, 5_000, &[]));
     answers_row("64 streams, 90 % load", ROUNDS, &full(64, BASE_6, 9_000, &[]));

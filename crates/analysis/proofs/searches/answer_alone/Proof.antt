@@ -10,8 +10,8 @@ use mir.Val.{toZ, ofZ, SFits}
 use mir.Facts.{toZ-ofZ, fits-natAbs}
 use Rattle.bound.proofs.Alone.{alone-bound, alone-is-first}
 use Rattle.bound.proofs.Answers.{answer-none, answer-bound}
-use Rattle.analysis.specs.declared.Gathered.{Gathered}
-use Rattle.analysis.proofs.Fit.{fit-sound}
+use Rattle.terms.specs.declared.Gathered.{Gathered}
+use Rattle.terms.proofs.Fit.{fit-sound}
 use Rattle.analysis.proofs.searches.answer_alone.Statement.{statement}
 use Rattle.analysis.proofs.searches.answer_alone.Tie as tie
 

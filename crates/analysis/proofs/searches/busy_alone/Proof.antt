@@ -5,7 +5,9 @@ use native.Mathlib.Omega.{arith}
 use Rattle.bound.specs.Bound.{sideL}
 use Rattle.analysis.specs.private.Chains.{aloneTerms}
 use Rattle.analysis.proofs.Chains.{BusyChain, busy-start, busy-rises, busy-found, busy-more, busy-none}
-use Rattle.analysis.proofs.Fit.{fit-sound, alone-fits, sideL-alone}
+use Rattle.terms.proofs.Fit.{fit-sound}
+use Rattle.terms.proofs.Fit.{alone-fits}
+use Rattle.analysis.proofs.Sides.{sideL-alone}
 use Rattle.analysis.proofs.searches.busy_alone.Statement.{statement}
 use Rattle.analysis.proofs.searches.busy_alone.Tie as tie
 

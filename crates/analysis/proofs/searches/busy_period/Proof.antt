@@ -1,59 +1,72 @@
 -- The chain from 1: each turn adds up the rest and i's own part, which is L's right side at x. It stands still at the least positive L, or passes the limit.
 use borrow.Author.Needs.{needs}
-use mathlib.Core.Path.{_≡_, ap, _∙_}
+use mathlib.Core.Path.{_≡_, refl, ap, _∙_}
 use Prim.Native.Nat.{_+_, _-_, _^_, _<_}
 use native.Mathlib.Nat.{add-zero}
 use native.Mathlib.Omega.{arith}
+use lib.ListN.{length}
 use Rattle.bound.specs.Bound.{demand, E, sideL}
-use Rattle.analysis.specs.Gathered.{Lent, lent, termsOf}
+use Rattle.terms.specs.Gathered.{Lent, lent, termsOf}
 use Rattle.analysis.specs.private.Stairs.{Near}
 use Rattle.analysis.specs.private.Chains.{ownL, restL, MakesUp, RestKept}
-use Rattle.analysis.proofs.Climbing.{near-start}
 use Rattle.analysis.proofs.Chains.{kept-start, kept-now, kept-on, kept-up, BusyChain, busy-start, busy-rises, busy-found, busy-more, busy-none}
-use Rattle.analysis.proofs.Fit.{fit-sound, sideL-fits, sideL-parts}
+use Rattle.terms.proofs.Fit.{fit-sound, sideL-fits}
+use Rattle.analysis.proofs.Sides.{sideL-parts}
 use Rattle.analysis.proofs.Starts.{laid}
 use Rattle.analysis.proofs.searches.busy_period.Statement.{statement}
 use Rattle.analysis.proofs.searches.busy_period.Tie as tie
 
 abbrev Inv-loop : tie.InvT-loop
-Inv-loop g costs periods jitters edges₀ n nearest₀ own₀ rest₀ x₀ edges nearest own rest x =
+Inv-loop g costs periods jitters edges₀ nearest₀ n own₀ rest₀ x₀ edges nearest own rest x =
     BusyChain g (termsOf (lent g costs periods jitters)) own x × RestKept costs periods edges n (restL (termsOf (lent g costs periods jitters))) x rest × Near edges nearest n
+    × (length edges ≡ length edges₀) × (length nearest ≡ length nearest₀)
 
 abbrev μ-loop : tie.MeasureT-loop
-μ-loop g costs periods jitters edges₀ n nearest₀ own₀ rest₀ x₀ edges nearest own rest x = 2 ^ 32 - x
+μ-loop g costs periods jitters edges₀ nearest₀ n own₀ rest₀ x₀ edges nearest own rest x = 2 ^ 32 - x
 
 abbrev given : tie.Start Inv-loop μ-loop → Lent
 given s = lent (s .args .g) (s .args .costs .now) (s .args .periods .now) (s .args .jitters .now)
 
--- the function's entry, seen from where the stairs have started and from the loop
-abbrev entry : tie.After-start-edges Inv-loop μ-loop → tie.Start Inv-loop μ-loop
-entry c = c .before .before .before
+-- the function's entry, seen from the sum of the stairs, from where they have started and from the loop
+abbrev first : tie.After-struct-known Inv-loop μ-loop → tie.Start Inv-loop μ-loop
+first c = c .before .before .before .before .before .before
+
+abbrev entry : tie.After-start Inv-loop μ-loop → tie.Start Inv-loop μ-loop
+entry c = first (c .before .before .before)
+
+abbrev edged : tie.After-own-start Inv-loop μ-loop → tie.After-start Inv-loop μ-loop
+edged c = c .before .before .before .before .before
 
 abbrev begun : tie.At-loop Inv-loop μ-loop → tie.Start Inv-loop μ-loop
-begun c = entry (c .before .before)
+begun c = entry (edged (c .before))
 
 add-n : tie.Need-add-n Inv-loop μ-loop
-add-n c = let f = c .before .pre .0 in omega (arith, f .row .few, f .row .quiet)
+add-n c = let f = first c .pre .0 in omega (arith, f .row .few, f .row .quiet)
 
-start-edges-requires : tie.Need-start-edges-requires Inv-loop μ-loop
-start-edges-requires c κs =
-    let s = c .before .before in
+start-requires : tie.Need-start-requires Inv-loop μ-loop
+start-requires c κs =
+    let s = first (c .before .before) in
     let f = s .pre .0 in
-    (f .row .quiet, (f .row .few, (omega arith, (omega arith, ((λ k h. f .urgent k h .jitter), s .pre .1)))))
+    (f .jitters, ((λ k h. f .urgent k h .jitter), (omega arith, (omega arith, s .pre .1))))
 
 -- for L no one is late, and the noise's window is as long as L
-started : (c : tie.After-start-edges Inv-loop μ-loop) → MakesUp (given (entry c) .costs) (given (entry c) .periods) (c .start-edges .last .1 .1 .1 .1 .1 .0) (given (entry c) .row .sources + given (entry c) .row .urgent) (restL (termsOf (given (entry c))))
+started : (c : tie.After-start Inv-loop μ-loop) → MakesUp (given (entry c) .costs) (given (entry c) .periods) (c .start .last .1 .1 .1 .1 .1 .0) (given (entry c) .row .sources + given (entry c) .row .urgent) (restL (termsOf (given (entry c))))
 started c =
     let r = termsOf (given (entry c)) in
-    laid (given (entry c)) (entry c .pre .0) 0 0 (omega arith) (omega arith) _ (c .start-edges .ensures) (restL r) (λ x. ap (λ z. demand (r .urgent) z + E r z) (add-zero x))
+    laid (given (entry c)) (entry c .pre .0) 0 0 (omega arith) (omega arith) _ (c .start .ensures .0) (restL r) (λ x. ap (λ z. demand (r .urgent) z + E r z) (add-zero x))
 
 own-start-requires : tie.Need-own-start-requires Inv-loop μ-loop
-own-start-requires c κs = entry c .pre .0 .row
+own-start-requires c κs = entry (c .before .before .before .before) .pre .0 .row
 
 loop-holds : tie.Need-loop-holds Inv-loop μ-loop
 loop-holds c =
-    let s = entry (c .before) in
-    (busy-start (fit-sound _ _ _ (s .pre .0 .row)) (c .own-start .ensures), kept-start _ _ _ _ _ 1 (started (c .before)), near-start _ _ (started (c .before) .stairs .few))
+    let l = edged c in (
+      busy-start (fit-sound _ _ _ (entry l .pre .0 .row)) (c .own-start .ensures),
+      kept-start _ _ _ _ _ 1 (started l),
+      l .start .ensures .1,
+      refl,
+      refl,
+    )
 
 -- the right side at x fits, and with it each of its parts
 room : (c : tie.In-loop Inv-loop μ-loop)
@@ -69,7 +82,7 @@ climbed-requires c κs =
     let d = c .before .before in
     let l = d .before in
     let k = l .loop .inv .1 in
-    (record { up = omega arith; stairs = started (l .before .before) .stairs; known = k .known; early = omega (arith, d .loop-test .taken); room = omega (arith, room d, kept-now _ _ _ _ _ _ _ k) }, l .loop .inv .2)
+    (record { up = omega arith; stairs = started (edged (l .before)) .stairs; known = k .known; early = omega (arith, d .loop-test .taken); room = omega (arith, room d, kept-now _ _ _ _ _ _ _ k) }, l .loop .inv .2)
 
 -- the turn and the loop, seen from the evaluation of the stairs
 abbrev turn : tie.After-climbed Inv-loop μ-loop → tie.In-loop Inv-loop μ-loop
@@ -77,6 +90,9 @@ turn c = c .before .before .before
 
 abbrev round : tie.After-climbed Inv-loop μ-loop → tie.At-loop Inv-loop μ-loop
 round c = turn c .before
+
+abbrev evaluation : tie.After-slice-known6 Inv-loop μ-loop → tie.After-climbed Inv-loop μ-loop
+evaluation c = c .before .before .before .before
 
 -- the rest at x, and the edges after it
 theirs : (c : tie.After-climbed Inv-loop μ-loop) → c .climbed .result ≡ restL (termsOf (given (begun (round c)))) (round c .loop .x)
@@ -88,52 +104,70 @@ came : (c : tie.After-climbed Inv-loop μ-loop)
 came c = kept-on _ _ _ _ _ _ _ _ _ (c .climbed .ensures .0) (c .climbed .ensures .1 .0) (round c .loop .inv .1)
 
 own-at-requires : tie.Need-own-at-requires Inv-loop μ-loop
-own-at-requires c κs = (begun (round c) .pre .0 .row, (turn c .loop-test .taken, round c .loop .inv .0 .mine))
+own-at-requires c κs = let d = evaluation c in (begun (round d) .pre .0 .row, (turn d .loop-test .taken, round d .loop .inv .0 .mine))
 
 add-y : tie.Need-add-y Inv-loop μ-loop
 add-y c =
     let d = c .before .before in
-    omega (arith, room (turn (d .before)), d .own-at .ensures .0)
+    omega (arith, room (turn (evaluation (d .before))), d .own-at .ensures .0)
 
 add-y-2 : tie.Need-add-y-2 Inv-loop μ-loop
 add-y-2 c =
     let d = c .before .before in
-    omega (arith, room (turn (d .before)), d .own-at .ensures .0, theirs (d .before))
+    let e = evaluation (d .before) in
+    omega (arith, room (turn e), d .own-at .ensures .0, theirs e)
 
 -- the evaluation is L's right side at x
 evaluated : (c : tie.After-own-at Inv-loop μ-loop)
-    → let t = given (begun (round (c .before))) in
-    t .row .blocking + c .own-at .result .sum + c .before .climbed .result ≡ sideL (termsOf t) (round (c .before) .loop .x)
+    → let d = evaluation (c .before) in
+    let t = given (begun (round d)) in
+    t .row .blocking + c .own-at .result .sum + d .climbed .result ≡ sideL (termsOf t) (round d .loop .x)
 evaluated c =
-    let d = c .before in
+    let d = evaluation (c .before) in
     omega (arith, c .own-at .ensures .0, theirs d, sideL-parts (given (begun (round d))) (round d .loop .x))
 
 returns : tie.Need-returns Inv-loop μ-loop
 returns c =
     let o = c .before .before .before in
-    let d = o .before in
-    (busy-found (round d .loop .inv .0) (evaluated o) (c .if1 .taken) (turn d .loop-test .taken), came d .known .long)
+    let d = evaluation (o .before) in
+    busy-found (round d .loop .inv .0) (evaluated o) (c .if1 .taken) (turn d .loop-test .taken)
 
 loop-less : tie.Need-loop-less Inv-loop μ-loop
 loop-less c =
     let o = c .before .before .before in
-    let d = o .before in
+    let d = evaluation (o .before) in
     omega (arith, busy-rises (round d .loop .inv .0) (evaluated o), turn d .loop-test .taken, c .if1 .left)
 
 loop-again : tie.Need-loop-again Inv-loop μ-loop
 loop-again c =
     let o = c .before .before .before in
-    let b = round (o .before) .loop .inv .0 in (
+    let d = evaluation (o .before) in
+    let b = round d .loop .inv .0 in (
       busy-more b (evaluated o) (o .own-at .ensures .1),
-      kept-up _ _ _ _ _ _ _ _ (busy-rises b (evaluated o)) (came (o .before)),
-      o .before .climbed .ensures .1 .1,
+      kept-up _ _ _ _ _ _ _ _ (busy-rises b (evaluated o)) (came d),
+      d .climbed .ensures .1 .1,
+      d .climbed .kept .1 .1 .1 .1 .0 ∙ round d .loop .inv .3,
+      d .climbed .kept .1 .1 .1 .1 .1 .0 ∙ round d .loop .inv .4,
     )
 
+-- the rooms stay as large as they were
+rooms : (c : tie.At-loop Inv-loop μ-loop)
+    → let a = begun c .args in
+    (length (c .loop .edges) ≡ length (a .edges .now)) × (length (c .loop .nearest) ≡ length (a .nearest .now))
+rooms c = let k = edged (c .before) .start .kept in (c .loop .inv .3 ∙ k .1 .1 .1 .1 .1 .0, c .loop .inv .4 ∙ k .1 .1 .1 .1 .1 .1 .0)
+
+same-length : tie.Need-same-length Inv-loop μ-loop
+same-length c = let d = evaluation (c .before .before .before .before) in d .climbed .kept .1 .1 .1 .1 .0 ∙ rooms (round d) .0
+
+same-length-2 : tie.Need-same-length-2 Inv-loop μ-loop
+same-length-2 c = let d = evaluation (c .before .before .before .before) in d .climbed .kept .1 .1 .1 .1 .1 .0 ∙ rooms (round d) .1
+
 returns-2 : tie.Need-returns-2 Inv-loop μ-loop
-returns-2 c = (busy-none (c .before .loop .inv .0) (omega arith), c .before .loop .inv .1 .known .long)
+returns-2 c = busy-none (c .before .loop .inv .0) (omega arith)
 
 pub busy-period-spec : {M : Type 1} → statement M
 busy-period-spec =
     tie.close
-    (tie.spec Inv-loop μ-loop add-n start-edges-requires own-start-requires loop-holds (λ c. search needs) climbed-requires own-at-requires
-    add-y add-y-2 returns loop-less loop-again returns-2)
+    (tie.spec Inv-loop μ-loop add-n start-requires own-start-requires loop-holds (λ c. search needs) climbed-requires
+    own-at-requires add-y add-y-2 same-length same-length-2 returns loop-less loop-again (λ c. rooms (c .before) .0)
+    (λ c. rooms (c .before) .1) returns-2)

@@ -5,7 +5,7 @@ use Prim.Native.Nat.{_+_, _*_, _^_, _<_}
 use native.Mathlib.Omega.{arith}
 use Rattle.analysis.specs.private.Chains.{ownL, OwnKept}
 use Rattle.analysis.proofs.Chains.{own-now, own-on}
-use Rattle.analysis.proofs.Fit.{alone-fits}
+use Rattle.terms.proofs.Fit.{alone-fits}
 use Rattle.analysis.proofs.searches.own_at.Statement.{statement}
 use Rattle.analysis.proofs.searches.own_at.Tie as tie
 

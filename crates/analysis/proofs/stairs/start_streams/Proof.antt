@@ -16,21 +16,24 @@ abbrev μ-loop : tie.MeasureT-loop
 μ-loop jitters from n late edges₀ k₀ edges k = n - k
 
 loop-holds : tie.Need-loop-holds Inv-loop μ-loop
-loop-holds c = (omega arith, streams-none _ _ _ _ (c .pre .1 .1 .1 .1))
+loop-holds c = (omega arith, streams-none _ _ _ _)
 
 add-edges : tie.Need-add-edges Inv-loop μ-loop
-add-edges c = omega (arith, c .before .before .before .pre .1 .1 .1 .0 _ (c .before .loop-test .taken))
+add-edges c = omega (arith, c .before .before .before .pre .1 .0 _ (c .before .loop-test .taken))
 
 sub-edges : tie.Need-sub-edges Inv-loop μ-loop
-sub-edges c = omega (arith, c .before .before .before .pre .1 .1 .1 .0 _ (c .before .loop-test .taken))
+sub-edges c = omega (arith, c .before .before .before .pre .1 .0 _ (c .before .loop-test .taken))
 
-element-write-edges : tie.Need-element-write-edges Inv-loop μ-loop
-element-write-edges c = omega (arith, c .before .before .loop .inv .1 .long)
+mul-edges-2 : tie.Need-mul-edges-2 Inv-loop μ-loop
+mul-edges-2 c = omega (arith, c .before .before .before .pre .1 .1 .1)
+
+slice-write-edges : tie.Need-slice-write-edges Inv-loop μ-loop
+slice-write-edges c = omega (arith, c .before .before .loop .inv .1 .long, c .before .before .before .pre .1 .1 .1)
 
 loop-again : tie.Need-loop-again Inv-loop μ-loop
 loop-again c =
     let l = c .before .before .loop in
-    (omega arith, streams-more _ _ _ _ _ _ _ (omega arith) refl (l .inv .1))
+    (omega arith, streams-more _ _ _ _ _ _ _ (omega (arith, c .before .before .before .pre .1 .1 .1)) refl (l .inv .1))
 
 returns : tie.Need-returns Inv-loop μ-loop
 returns c =
@@ -40,5 +43,5 @@ returns c =
 pub start-streams-spec : {M : Type 1} → statement M
 start-streams-spec =
     tie.close
-    (tie.spec Inv-loop μ-loop loop-holds (λ c. search needs) (λ c. search needs) add-edges sub-edges (λ c. search needs) (λ c. search needs)
-    element-write-edges (λ c. search needs) (λ c. search needs) loop-again returns)
+    (tie.spec Inv-loop μ-loop loop-holds (λ c. search needs) (λ c. search needs) add-edges sub-edges (λ c. search needs) mul-edges-2
+    slice-write-edges (λ c. search needs) (λ c. search needs) loop-again (λ c. c .before .loop .inv .1 .long) returns)

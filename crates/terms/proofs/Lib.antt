@@ -1,0 +1,3 @@
+pub mod Fit
+pub mod Most
+pub mod Unique
