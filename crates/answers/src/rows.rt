@@ -167,6 +167,7 @@ fn put_few(words: &[u32; CARRIED], n: usize, m: usize, toll: Toll, out: &mut [u6
     );
 }
 
+// All others have rooms for the most streams.
 fn put_many(words: &[u32; CARRIED], n: usize, m: usize, toll: Toll, out: &mut [u64])
     requires { ⌜ PlacesWithin (now words) n m ⌝ }
     requires { ⌜ Tolls (timingIn (now words)) toll ⌝ }

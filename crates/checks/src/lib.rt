@@ -56,8 +56,7 @@ const ACKNOWLEDGEMENT: usize = 6;
 const SUM: u64 = CONSTANT as u64;
 
 // Word k of each stream, in row order: a column of plain numbers, as it can be lent.
-fn put_column(words: &[u32], n: usize, k: usize, out: &mut [u32])
-    requires { ⌜ length (now words) ≡ layout.largest ⌝ }
+fn put_column(words: &[u32; CARRIED], n: usize, k: usize, out: &mut [u32])
     requires { ⌜ n ≤ limit.streams ⌝ }
     requires { ⌜ k < layout.streamLength ⌝ }
     requires { ⌜ n ≤ length (now out) ⌝ }
@@ -69,8 +68,7 @@ fn put_column(words: &[u32], n: usize, k: usize, out: &mut [u32])
 }
 
 // The first row that repeats word k of an earlier one, by a column in a room that is large enough.
-fn repeat_in(words: &[u32], n: usize, k: usize, room: &mut [u32]) -> FoundRow
-    requires { ⌜ length (now words) ≡ layout.largest ⌝ }
+fn repeat_in(words: &[u32; CARRIED], n: usize, k: usize, room: &mut [u32]) -> FoundRow
     requires { ⌜ n ≤ limit.streams ⌝ }
     requires { ⌜ k < layout.streamLength ⌝ }
     requires { ⌜ n ≤ length (now room) ⌝ }
@@ -81,8 +79,7 @@ fn repeat_in(words: &[u32], n: usize, k: usize, room: &mut [u32]) -> FoundRow
 }
 
 // Few rows have a small room.
-fn repeat_of(words: &[u32], n: usize, k: usize) -> FoundRow
-    requires { ⌜ length (now words) ≡ layout.largest ⌝ }
+fn repeat_of(words: &[u32; CARRIED], n: usize, k: usize) -> FoundRow
     requires { ⌜ n ≤ limit.streams ⌝ }
     requires { ⌜ k < layout.streamLength ⌝ }
     ensures { λ r. ⌜ r ≡ firstRepeat (rows n (λ j. getD (now (words .entry)) (layout.streamAt j + k) 0)) ⌝ }

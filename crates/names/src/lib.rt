@@ -1,4 +1,4 @@
-// The crew's words, and the limits of document 01, each once.
+// The crew's words, the limits of document 01, each once, and how many streams are few.
 //
 // A priority decides a tournament, a row is a place in the plan (from 0), a label is what is painted on
 // the node. Each is a struct of one number, so the build refuses one where another is wanted.

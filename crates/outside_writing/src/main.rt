@@ -37,7 +37,7 @@ fn into_enough(n: usize, m: usize, at: usize, word: u32) {
     write(n, m, at, word, &mut lent);
 }
 
-// One byte fewer.
+// One byte too few for the file of P1.
 fn into_short(n: usize, m: usize, at: usize, word: u32) {
     let mut lent = [7; 167];
     write(n, m, at, word, &mut lent);

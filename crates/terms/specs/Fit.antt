@@ -1,4 +1,4 @@
--- Lent terms within the limits, fact by fact.
+-- Lent terms within the limits, fact by fact, for the contracts of private functions: what `fits` of Gathered.antt says, taken apart.
 use mathlib.Core.Path.{_≡_}
 use Prim.Native.Nat.{ℕ, _+_, _≤_, _<_}
 use lib.ListN.{length, getD}

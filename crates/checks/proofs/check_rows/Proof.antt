@@ -18,10 +18,10 @@ use Rattle.checks.proofs.check_rows.Tie as tie
 
 -- how many rows there are, seen from the two looks
 abbrev counted : tie.After-repeat-of → tie.After-smaller
-counted c = c .before .before
+counted c = c .before
 
 abbrev before : tie.After-repeat-of2 → tie.After-repeat-of
-before c = c .before .before .before .before
+before c = c .before .before .before
 
 priorities-are : (c : tie.After-repeat-of)
     → let a = counted c .before .args in
@@ -54,14 +54,14 @@ enum-told c = search needs
 returns-2 : tie.Need-returns-2
 returns-2 c =
     let f = c .before .before .before .before in
-    let t = f .before .before in
+    let t = f .before in
     c .refused2 .ensures
     ∙ sym (passed _ _ (ap rowIn (priorities-are (before f) ∙ t .enum-told .given .1)) ∙ given _ _ _ (ap rowIn (labels-are f ∙ c .before .before .r2 .given .1)))
 
 returns-3 : tie.Need-returns-3
 returns-3 c =
     let f = c .before .before in
-    let t = f .before .before in
+    let t = f .before in
     sym (passed _ _ (ap rowIn (priorities-are (before f) ∙ t .enum-told .given .1))
     ∙ passed _ _ (ap rowIn (labels-are f ∙ c .enum-told2 .given .1))
     ∙ nothing-given)

@@ -1,8 +1,7 @@
 -- The front of the room is the column. Assumes nothing.
 use borrow.Author.Needs.{needs}
-use mathlib.Core.Path.{_≡_, sym, ap, _∙_}
+use mathlib.Core.Path.{sym, ap, _∙_}
 use native.Mathlib.Omega.{arith}
-use lib.ListN.{length}
 use lib.Seq.{length-take-le}
 use Rattle.repeats.specs.Repeats.{firstRepeat}
 use Rattle.checks.proofs.repeat_in.Statement.{statement}
@@ -11,9 +10,7 @@ use Rattle.checks.proofs.repeat_in.Tie as tie
 slice-aggregate-first-repeat : tie.Need-slice-aggregate-first-repeat
 slice-aggregate-first-repeat c =
     let p = c .before .before .before in
-    let s = p .before .before .before .before in
-    let same : length (p .put-column .last .1 .1 .1 .0) ≡ length (s .args .room .now) = search needs in
-    sym (length-take-le _ _ (omega (arith, same, s .pre .1 .1 .1)))
+    sym (length-take-le _ _ (omega (arith, p .put-column .kept .1 .1 .1 .0, p .before .before .before .pre .1 .1)))
 
 returns : tie.Need-returns
 returns c = c .first-repeat .ensures ∙ ap firstRepeat (c .before .before .before .before .put-column .ensures)

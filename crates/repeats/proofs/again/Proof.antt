@@ -1,6 +1,6 @@
 -- A bucket that was not met has no earlier row. Assumes nothing.
 use borrow.Author.Needs.{needs}
-use mathlib.Core.Path.{_≡_, sym}
+use mathlib.Core.Path.{sym}
 use Rattle.repeats.proofs.again.Statement.{statement}
 use Rattle.repeats.proofs.again.Tie as tie
 

@@ -1,6 +1,5 @@
 -- The rooms are large enough for few stairs.
 use borrow.Author.Needs.{needs}
-use native.Mathlib.Omega.{arith}
 use Rattle.analysis.proofs.searches.answer_few.Statement.{statement}
 use Rattle.analysis.proofs.searches.answer_few.Tie as tie
 
