@@ -26,14 +26,11 @@ fine-places edition ws n m e =
     let at : (k : ℕ) → k < n → getD (priorities (rows n (rowStream ws))) k 0 ≡ urgency ws k =
     λ k h. ap (λ l. getD l k 0) listed ∙ rows-at n (urgency ws) 0 k h in
     record {
-      rows =
-          record {
-            few = omega (arith, w .count, length-rows n (rowStream ws));
-            stream = λ k h. rw (rows-at n (rowStream ws) blank k h) at (w .stream k (omega (arith, length-rows n (rowStream ws))));
-            apart = λ i j h l e. r .priorities i j (omega (arith, many)) (omega (arith, many)) (at i h ∙ e ∙ sym (at j l));
-          };
+      few = omega (arith, w .count, length-rows n (rowStream ws));
       quiet = omega (arith, w .sources, length-rows m (λ k. getD ws (layout.gapAt n k) 0));
       timing = w .timing;
+      stream = λ k h. rw (rows-at n (rowStream ws) blank k h) at (w .stream k (omega (arith, length-rows n (rowStream ws))));
       gap = λ k h. rw (rows-at m (λ k. getD ws (layout.gapAt n k) 0) 0 k h) at (w .gap k (omega (arith, length-rows m (λ k. getD ws (layout.gapAt n k) 0))));
+      apart = λ i j h l e. r .priorities i j (omega (arith, many)) (omega (arith, many)) (at i h ∙ e ∙ sym (at j l));
       slots = λ k h. rw (rows-at n (rowStream ws) blank k h) at (r .slots k (omega (arith, length-rows n (rowStream ws))));
     }

@@ -1,17 +1,18 @@
 -- A row's own terms, and the streams in order before which hits and gaps stand, are the terms of the rules, and within the analysis' limits. Assumes nothing.
 use mathlib.Core.Path.{_≡_, refl, sym, ap, ap₂, _∙_}
-use mathlib.Core.Bool.{true, cond}
+use mathlib.Core.Bool.{Bool, true, cond}
 use mathlib.Core.List.{List, map}
 use Prim.Native.Nat.{ℕ, max, _+_, _-_, _*_, _^_, _≤_, _<_}
+use native.Mathlib.Nat.{zero-add}
 use native.Mathlib.Omega.{arith}
-use borrow.Author.Tests.{le-leb, lt-ltb, eq-eqb}
+use borrow.Author.Tests.{le-leb, lt-ltb, ltb-true, eq-eqb}
 use lib.Dec.{ltb}
 use lib.ListN.{length, getD}
-use Rattle.names.specs.Limits.{streams, sources}
-use Rattle.laws.specs.Lists.{ceil, sumTo, largestOf, rows}
+use Rattle.names.specs.Limits.{streams, sources, ticks}
+use Rattle.laws.specs.Lists.{ceil, sumTo, largestOf, those, rows}
 use Rattle.laws.specs.Ranks.{rank}
-use Rattle.laws.proofs.Lists.{largest-those, rows-same, every-all, sum-rows, sumTo-same}
-use Rattle.laws.proofs.Ranks.{rank-below, rank-less, rank-apart, rank-onto, sum-in-order, sum-front, sum-map-those, largest-same}
+use Rattle.laws.proofs.Lists.{largest-more, largest-those, largest-less, largest-all, rows-same, every-all, sum-rows, sumTo-same}
+use Rattle.laws.proofs.Ranks.{rank-below, rank-less, rank-apart, rank-onto, sum-in-order, sum-front, sum-map-those, largest-le, largest-same, largest-part}
 use Rattle.bound.specs.Terms as bound
 use Rattle.bound.specs.Bound.{demand, answer}
 use Rattle.bound.specs.Claims.{Sound}
@@ -25,45 +26,67 @@ use Rattle.plan.specs.declared.Timing.{Timing}
 use Rattle.plan.specs.declared.Stream.{Stream}
 use Rattle.plan.specs.Plan.{Plan}
 use Rattle.plan.specs.Rules as rule
-use Rattle.plan.proofs.Rules.{terms-sound}
+use Rattle.plan.proofs.Rules.{self, slotted, terms-sound}
+use Rattle.costs.specs.declared.Overheads.{Overheads}
+use Rattle.costs.specs.Costs.{Overhead}
 use Rattle.carried.specs.Layout as layout
 use Rattle.carried.specs.Carried.{enteredIn, timingIn, planIn}
-use Rattle.answers.specs.declared.order.Toll.{Toll}
-use Rattle.answers.specs.declared.own.Others.{Others}
-use Rattle.answers.specs.private.Gather.{PlacesWithin, Tolls, Column, Extremes, Slotted, InOrder, Before, RowOf, RowTerms, sent, urgency, rowStream}
-use Rattle.answers.proofs.Gather.{place-is, fits-here, either-within}
+use Rattle.answers.specs.private.Gather.{rowStream, urgency, lessThan, largestIn, PlacesWithin, Priorities, Ordered, InOrder, Before, RowOf, RowTerms}
+use Rattle.answers.proofs.Gather.{either-within, either-is, place-is}
 
-module _ (ws : List ℕ) (n m : ℕ) (toll : Toll) (fine : PlacesWithin ws n m) (tolls : Tolls (timingIn ws) toll) where
+-- ---- a cost, and a period and a jitter that are words
+fits-here : {a b d x y : ℕ} → a ≤ cost → (b ≡ x) × (b < 2 ^ 32) → (d ≡ y) × (d < 2 ^ 32) → 1 ≤ x → shareFits (record { C″ = a; T = b; J = d }) ≡ true
+fits-here {a} {b} {d} c t j s = simp (le-leb a cost c, le-leb 1 b (omega arith), le-leb b ticks (omega arith), le-leb d ticks (omega arith))
+
+module _ (ws : List ℕ) (n m : ℕ) (over : Overheads) (fine : PlacesWithin ws n m) (overhead : Overhead (timingIn ws) over) where
   abbrev t : Timing
   t = timingIn ws
 
   abbrev p : Plan
   p = planIn n m ws
 
-  abbrev u : ℕ
-  u = toll .u
+  abbrev at : ℕ → ℕ
+  at = rank (urgency ws) n
 
-  abbrev all : ℕ
-  all = toll .all
+  cost-within : (k : ℕ) → k < n → rule.airtime t (rowStream ws k) ≤ cost
+  cost-within k h =
+      let w = fine .stream k h in
+      let o = overhead in
+      either-within (t .p) (omega (arith, o .lead-is, o .u-is, o .little, o .small, w .payload, w .acknowledgement)) (omega (arith, fine .timing .p))
 
-  abbrev late : ℕ
-  late = toll .late
+  -- ---- the costs of all streams, in order
+  module _ (costs : List ℕ) (c : Ordered (rule.airtime t) ws n m n costs) where
+    -- each is a row's
+    place-within : (a : ℕ) → a < n → getD costs (m + a) 0 ≤ cost
+    place-within a h =
+        let (j, l, e) = rank-onto (urgency ws) n (fine .apart) a h in
+        let same : getD costs (m + a) 0 ≡ rule.airtime t (rowStream ws j) = ap (λ z. getD costs (m + z) 0) (sym e) ∙ c .is j l in
+        omega (arith, same, cost-within j l)
 
-  abbrev slot : ℕ
-  slot = toll .slot
+    pub costs-within : (k : ℕ) → m ≤ k → k < m + n → getD costs k 0 ≤ cost
+    costs-within k h l =
+        let there : m + (k - m) ≡ k = omega arith in
+        rw there at (place-within (k - m) (omega arith))
 
-  few-ticks : slot ≤ cost
-  few-ticks = omega (arith, tolls .slot-is, fine .timing .p)
+    -- the largest over some places, ..
+    part-is : (a b : ℕ) → largestIn costs (m + a) (m + b) ≡ largestOf (λ x. x) (rows (b - a) (λ j. getD costs (m + (a + j)) 0))
+    part-is a b =
+        let many : (m + b) - (m + a) ≡ b - a = omega arith in
+        ap (λ z. largestOf (λ x. x) (rows z (λ j. getD costs (m + a + j) 0))) many
+        ∙ ap (largestOf (λ x. x)) (rows-same (b - a) _ _ (λ j h. ap (λ z. getD costs z 0) (omega arith)))
 
-  -- without slots and with them
-  either-is : {x y a b : ℕ} → x ≡ a → y ≡ b → rule.selfOrSlotted slot x y ≡ rule.selfOrSlotted (t .p) a b
-  either-is e d = λ z. rule.selfOrSlotted (tolls .slot-is z) (e z) (d z)
+    largest-within : (a b : ℕ) → b ≤ n → largestIn costs (m + a) (m + b) ≤ cost
+    largest-within a b h =
+        rw (part-is a b) (largest-le (λ x. x) (λ j. getD costs (m + (a + j)) 0) (b - a) cost (λ j l. place-within (a + j) (omega arith)))
 
-  whole-is : (j : Stream) → all + sent j ≡ rule.C″ t j
-  whole-is j = omega (arith, tolls .all-is)
-
-  whole-within : (k : ℕ) → k < n → all + sent (rowStream ws k) ≤ cost
-  whole-within k h = let w = fine .rows .stream k h in omega (arith, tolls .most, w .payload, w .acknowledgement)
+    -- .. if these are the places of the streams that pass a test, is the largest over those
+    those-are : (s : ℕ → Bool) (u : Stream → Bool) (a b : ℕ) → ((j : ℕ) → j < n → s (at j) ≡ u (rowStream ws j)) → ((j : ℕ) → j < b - a → (a + j < n) × (s (a + j) ≡ true))
+        → ((r : ℕ) → r < n → s r ≡ true → (a ≤ r) × (r < a + (b - a))) → largestIn costs (m + a) (m + b) ≡ largestOf (rule.airtime t) (those u (rows n (rowStream ws)))
+    those-are s u a b e inside only =
+        part-is a b
+        ∙ largest-part at n (rank-below (urgency ws) n) (rank-apart (urgency ws) n (fine .apart)) (λ r. getD costs (m + r) 0) s a (b - a) inside only
+        ∙ largest-same _ (λ j. cond (u j) (rule.airtime t j) 0) (rowStream ws) n (λ j h. ap₂ (λ x v. cond x v 0) (e j h) (c .is j h))
+        ∙ largest-those (rule.airtime t) u (rows n (rowStream ws))
 
   -- ---- row k
   module _ (k : ℕ) (among : k < n) where
@@ -71,98 +94,140 @@ module _ (ws : List ℕ) (n m : ℕ) (toll : Toll) (fine : PlacesWithin ws n m) 
     i = rowStream ws k
 
     abbrev place : ℕ
-    place = rank (urgency ws) n k
+    place = at k
+
+    -- ---- without slots a cost is C'', and in slots P
+    module _ (l : List Stream) where
+      all-self : t .p ≡ 0 → largestOf (rule.airtime t) l ≡ largestOf (rule.C″ t) l
+      all-self e = ap (λ (f : Stream → ℕ). largestOf f l) (λ z. λ j. self (t .p) (rule.C″ t j) (t .p) e z)
+
+      all-slotted : 1 ≤ t .p → largestOf (rule.airtime t) l ≡ largestOf (λ (j : Stream). t .p) l
+      all-slotted h = ap (λ (f : Stream → ℕ). largestOf f l) (λ z. λ j. slotted (t .p) (rule.C″ t j) (t .p) h z)
+
+      less-one : largestOf (rule.C″ t) l - (over .lead + 1) ≡ largestOf (λ j. rule.C′ t j - 1) l
+      less-one =
+          sym (largest-less (rule.C″ t) (over .lead + 1) l)
+          ∙ ap (λ (f : Stream → ℕ). largestOf f l) (λ z. λ (j : Stream). the-same j z)
+        where
+          the-same : (j : Stream) → rule.C″ t j - (over .lead + 1) ≡ rule.C′ t j - 1
+          the-same j = omega (arith, overhead .lead-is)
 
     -- ---- its own terms
-    module _ (ps ms : List ℕ) (cp : Column (λ j. j .priority .0) ws n ps) (cm : Column sent ws n ms) (found o : Others) (q mine whole own period jitter : ℕ)
-        (eq : q ≡ urgency ws k) (em : mine ≡ sent i) (ew : whole ≡ all + mine) (eo : own ≡ rule.selfOrSlotted slot whole slot)
-        (ex : Extremes ps ms n q u all (all + mine) found) (es : Slotted slot found o)
-        (et : (period ≡ i .period) × (period < 2 ^ 32)) (ej : (jitter ≡ i .jitter) × (jitter < 2 ^ 32)) where
-      abbrev row : Gathered
-      row = record { blocking = o .blocking; cost = own; period = period; jitter = jitter; urgent = o .urgent; sources = m; hit = o .hit; late = late; last = whole }
+    module _ (costs : List ℕ) (c : Ordered (rule.airtime t) ws n m n costs) where
+      own-is : getD costs (m + place) 0 ≡ rule.airtime t i
+      own-is = c .is k among
 
-      last-is : whole ≡ rule.C″ t i
-      last-is = ew ∙ ap (λ z. all + z) em ∙ whole-is i
+      here : place < n
+      here = rank-below (urgency ws) n k among
 
-      own-is : own ≡ rule.airtime t i
-      own-is = eo ∙ either-is last-is (tolls .slot-is)
-
-      blocking-is : found .blocking ≡ largestOf (λ j. rule.C′ t j - 1) (rule.lp p i)
+      before-is : largestIn costs (m + 0) (m + place) ≡ largestOf (rule.airtime t) (rule.hp p i)
       unfolding enteredIn
-      blocking-is =
-          ex .blocking
-          ∙ largest-same _ (λ j. cond (ltb (i .priority .0) (j .priority .0)) (rule.C′ t j - 1) 0) (rowStream ws) n
-          (λ j h. λ z. cond (ltb (eq z) (cp .is j h z)) (cm .is j h z + tolls .u-is z - 1) 0)
-          ∙ largest-those (λ j. rule.C′ t j - 1) (λ j. ltb (i .priority .0) (j .priority .0)) (rows n (rowStream ws))
+      before-is =
+          those-are costs c (λ r. ltb r place) (λ j. ltb (j .priority .0) (i .priority .0)) 0 place (λ j h. rank-less (urgency ws) n j k h)
+          (λ j h. (omega (arith, here), lt-ltb (0 + j) place (omega arith))) (λ r h e. let l = ltb-true r place e in (omega arith, omega arith))
 
-      blocked-is : o .blocking ≡ rule.B p i
+      behind-is : largestIn costs (m + (place + 1)) (m + n) ≡ largestOf (rule.airtime t) (rule.lp p i)
+      unfolding enteredIn
+      behind-is =
+          those-are costs c (λ r. ltb place r) (λ j. ltb (i .priority .0) (j .priority .0)) (place + 1) n (λ j h. rank-less (urgency ws) n k j among)
+          (λ j h. (omega arith, lt-ltb place (place + 1 + j) (omega arith)))
+          (λ r h e. let l = ltb-true place r e in (omega arith, omega arith))
+
+      blocking-is : (b behind : ℕ) → b ≡ rule.selfOrSlotted (over .slot) (behind - (over .lead + 1)) (over .slot - 1) → behind ≡ largestIn costs (m + (place + 1)) (m + n) → b ≡ rule.B p i
       unfolding rule.B enteredIn
-      blocked-is = es .blocking ∙ either-is blocking-is (ap (λ s. s - 1) (tolls .slot-is))
+      blocking-is b behind e d =
+          let same = rw (overhead .slot-is) at e in
+          either-is (t .p)
+          (λ z. same ∙ self (t .p) _ _ z ∙ ap (λ x. x - (over .lead + 1)) (d ∙ behind-is ∙ all-self (rule.lp p i) z) ∙ less-one (rule.lp p i))
+          (λ h. same ∙ slotted (t .p) _ _ h)
 
-      dearest-is : largestOf (λ j. cond (ltb (getD ps j 0) q) (all + getD ms j 0) 0) (rows n (λ j. j)) ≡ largestOf (rule.C″ t) (rule.hp p i)
-      unfolding enteredIn
-      dearest-is =
-          largest-same _ (λ j. cond (ltb (j .priority .0) (i .priority .0)) (rule.C″ t j) 0) (rowStream ws) n
-          (λ j h. ap₂ (λ a b. cond (ltb a b) (all + getD ms j 0) 0) (cp .is j h) eq ∙ ap (λ c. cond (ltb (urgency ws j) (i .priority .0)) c 0) (ap (λ z. all + z) (cm .is j h) ∙ whole-is (rowStream ws j)))
-          ∙ largest-those (rule.C″ t) (λ j. ltb (j .priority .0) (i .priority .0)) (rows n (rowStream ws))
-
-      hit-is : o .hit ≡ rule.hit p i
+      hit-is : (x : ℕ) → x ≡ largestIn costs (m + 0) (m + (place + 1)) → x ≡ rule.hit p i
       unfolding rule.hit largestOf enteredIn
-      hit-is = es .hit ∙ either-is (ex .hit ∙ ap₂ max (ap (λ z. all + z) em ∙ whole-is i) dearest-is) (tolls .slot-is)
+      hit-is x e =
+          let one : place + 1 - 0 ≡ place + 1 = omega arith in
+          let none : place - 0 ≡ place = omega arith in
+          let each : ℕ → ℕ = λ j. getD costs (m + (0 + j)) 0 in
+          let more : max (largestOf (λ z. z) (rows place each)) (each place) ≡ largestOf (λ z. z) (rows (place + 1) each) = largest-more (λ z. z) each place _ _ _ refl refl refl in
+          let both : x ≡ max (largestOf (rule.airtime t) (rule.hp p i)) (rule.airtime t i) =
+          e ∙ part-is costs c 0 (place + 1) ∙ ap (λ z. largestOf (λ y. y) (rows z each)) one ∙ sym more
+          ∙ ap₂ max (ap (λ z. largestOf (λ y. y) (rows z each)) (sym none) ∙ sym (part-is costs c 0 place) ∙ before-is) (ap (λ z. getD costs (m + z) 0) (zero-add place) ∙ own-is) in
+          either-is (t .p)
+          (λ z. omega (arith, both, all-self (rule.hp p i) z, self (t .p) (rule.C″ t i) (t .p) z))
+          (λ h. omega (arith, both, all-slotted (rule.hp p i) h, slotted (t .p) (rule.C″ t i) (t .p) h, largest-all (t .p) (rule.hp p i)))
 
-      urgent-is : o .urgent ≡ place
-      urgent-is = es .urgent ∙ ex .urgent ∙ place-is ws n k q ps cp eq
+      module _ (ps : List ℕ) (cp : Priorities ws n ps) (q seat hit behind blocking period jitter last : ℕ) (eq : q ≡ urgency ws k) (es : seat ≡ lessThan ps n q)
+          (eh : hit ≡ largestIn costs m (m + seat + 1)) (eb : behind ≡ largestIn costs (m + seat + 1) (m + n))
+          (ek : blocking ≡ rule.selfOrSlotted (over .slot) (behind - (over .lead + 1)) (over .slot - 1)) (et : (period ≡ i .period) × (period < 2 ^ 32))
+          (ej : (jitter ≡ i .jitter) × (jitter < 2 ^ 32)) (el : last ≡ rule.C″ t i) where
+        abbrev own : ℕ
+        own = getD costs (m + seat) 0
 
-      own-sound : Sound (rule.terms p i)
-      unfolding enteredIn
-      own-sound = terms-sound p i (fine .rows .stream k among) (fine .slots k among)
+        abbrev row : Gathered
+        row = record { blocking = blocking; cost = own; period = period; jitter = jitter; urgent = seat; sources = m; hit = hit; late = over .late; last = last }
 
-      row-fits : rowFits row ≡ true
-      unfolding rowFits rule.terms enteredIn
-      row-fits =
-          let h : o .hit ≤ cost = rw (es .hit) (either-within slot (ex .small) few-ticks) in
-          let b : o .blocking ≤ cost = rw (es .blocking) (either-within slot (ex .little) (omega (arith, few-ticks))) in
-          let each : own ≤ cost = rw eo (either-within slot (omega (arith, ew, em, whole-within k among)) few-ticks) in
-          simp (
-            le-leb (o .blocking) cost b,
-            le-leb (o .hit) cost h,
-            lt-ltb late own (omega (arith, own-sound .late, own-is, tolls .late-is)),
-            le-leb 1 whole (omega (arith, own-sound .ends, last-is)),
-            le-leb whole own (omega (arith, own-sound .last, last-is, own-is)),
-            le-leb (o .urgent) streams (omega (arith, urgent-is, rank-below (urgency ws) n k among, fine .rows .few)),
-            le-leb m sources (fine .quiet),
-            fits-here {a = own} {b = period} {d = jitter} each et ej (fine .rows .stream k among .some-period),
-          )
+        seat-is : seat ≡ place
+        seat-is = es ∙ place-is ws n k q ps cp eq
 
-      pub row-of : RowOf ws n m k row
-      row-of =
-          record {
-            fits = row-fits;
-            urgent = urgent-is;
-            sources = refl;
-            blocking = blocked-is;
-            cost = own-is;
-            period = et .0;
-            jitter = ej .0;
-            hit = hit-is;
-            late = tolls .late-is;
-            last = last-is;
-          }
+        cost-is : own ≡ rule.airtime t i
+        cost-is = ap (λ z. getD costs (m + z) 0) seat-is ∙ own-is
+
+        front : hit ≡ largestIn costs (m + 0) (m + (place + 1))
+        front = eh ∙ ap₂ (largestIn costs) (omega arith) (omega (arith, seat-is))
+
+        back : behind ≡ largestIn costs (m + (place + 1)) (m + n)
+        back = eb ∙ ap (λ a. largestIn costs a (m + n)) (omega (arith, seat-is))
+
+        sound : Sound (rule.terms p i)
+        unfolding enteredIn
+        sound = terms-sound p i (fine .stream k among) (fine .slots k among)
+
+        row-fits : rowFits row ≡ true
+        unfolding rowFits rule.terms enteredIn
+        row-fits =
+            let slot : over .slot ≤ cost = omega (arith, overhead .slot-is, fine .timing .p) in
+            let h : hit ≤ cost = omega (arith, front, largest-within costs c 0 (place + 1) (omega (arith, here))) in
+            let l : behind ≤ cost = omega (arith, back, largest-within costs c (place + 1) n (omega arith)) in
+            let b : blocking ≤ cost = rw ek (either-within (over .slot) (omega (arith, l)) (omega (arith, slot))) in
+            simp (
+              le-leb blocking cost b,
+              le-leb hit cost h,
+              lt-ltb (over .late) own (omega (arith, sound .late, cost-is, overhead .late-is)),
+              le-leb 1 last (omega (arith, sound .ends, el)),
+              le-leb last own (omega (arith, sound .last, el, cost-is)),
+              le-leb seat streams (omega (arith, seat-is, here, fine .few)),
+              le-leb m sources (fine .quiet),
+              fits-here {a = own} {b = period} {d = jitter} (omega (arith, cost-is, cost-within k among)) et ej (fine .stream k among .some-period),
+            )
+
+        pub row-of : RowOf ws n m k row
+        row-of =
+            record {
+              fits = row-fits;
+              urgent = seat-is;
+              sources = refl;
+              blocking = blocking-is blocking behind ek back;
+              cost = cost-is;
+              period = et .0;
+              jitter = ej .0;
+              hit = hit-is hit front;
+              late = overhead .late-is;
+              last = el;
+            }
 
     -- ---- with the streams in order beside them
-    module _ (g : Gathered) (costs₀ costs periods jitters : List ℕ) (own : RowOf ws n m k g) (o : InOrder ws n m slot all n costs periods jitters)
+    module _ (g : Gathered) (costs₀ costs periods jitters : List ℕ) (own : RowOf ws n m k g) (o : InOrder ws n m n costs periods jitters)
         (hits : Before (λ j. g .hit) m costs₀ costs) (gaps : (j : ℕ) → j < m → getD periods j 0 ≡ getD ws (layout.gapAt n j) 0) where
       abbrev given : Lent
       given = lent g costs periods jitters
 
       -- the share in the place of row j is the rules'
-      share-in-place : (j : ℕ) → j < n → shareAt given (rank (urgency ws) n j) ≡ rule.share t (rowStream ws j)
+      share-in-place : (j : ℕ) → j < n → shareAt given (at j) ≡ rule.share t (rowStream ws j)
       share-in-place j h =
           λ z.
           record {
-            C″ = (ap (λ s. getD costs (s + rank (urgency ws) n j) 0) (own .sources) ∙ o .cost j h ∙ either-is (whole-is (rowStream ws j)) (tolls .slot-is)) z;
-            T = (ap (λ s. getD periods (s + rank (urgency ws) n j) 0) (own .sources) ∙ o .period j h) z;
-            J = o .jitter j h z;
+            C″ = (ap (λ s. getD costs (s + at j) 0) (own .sources) ∙ o .cost .is j h) z;
+            T = (ap (λ s. getD periods (s + at j) 0) (own .sources) ∙ o .period .is j h) z;
+            J = (ap (λ z. getD jitters z 0) (sym (zero-add (at j))) ∙ o .jitter .is j h) z;
           }
 
       -- what hp(i) asks for is what the front of them asks for, since a row's place is before that of i exactly if it is more urgent
@@ -170,11 +235,10 @@ module _ (ws : List ℕ) (n m : ℕ) (toll : Toll) (fine : PlacesWithin ws n m) 
       unfolding demand enteredIn
       same-demand x =
           let asks : bound.Share → ℕ = λ j. ceil (x + j .J) (j .T) * j .C″ in
-          let q = rank (urgency ws) n in
           sum-rows asks (g .urgent) (shareAt given)
           ∙ ap (sumTo (λ a. asks (shareAt given a))) (own .urgent)
           ∙ sym (sum-front (λ a. asks (shareAt given a)) place n (omega (arith, rank-below (urgency ws) n k among)))
-          ∙ sym (sum-in-order q n (rank-below (urgency ws) n) (rank-apart (urgency ws) n (fine .rows .apart)) (λ a. cond (ltb a place) (asks (shareAt given a)) 0))
+          ∙ sym (sum-in-order at n (rank-below (urgency ws) n) (rank-apart (urgency ws) n (fine .apart)) (λ a. cond (ltb a place) (asks (shareAt given a)) 0))
           ∙ sumTo-same _ _ n (λ j h. ap₂ (λ b v. cond b v 0) (rank-less (urgency ws) n j k h) (ap asks (share-in-place j h)))
           ∙ sym (sum-map-those asks (rule.share t) (λ j. ltb (j .priority .0) (i .priority .0)) (rowStream ws) n)
 
@@ -198,11 +262,10 @@ module _ (ws : List ℕ) (n m : ℕ) (toll : Toll) (fine : PlacesWithin ws n m) 
 
       shares-fit : (a : ℕ) → a < g .urgent → shareFits (shareAt given a) ≡ true
       shares-fit a h =
-          let (j, l, e) = rank-onto (urgency ws) n (fine .rows .apart) a (omega (arith, own .urgent, rank-below (urgency ws) n k among)) in
-          let w = fine .rows .stream j l in
-          let c : rule.airtime t (rowStream ws j) ≤ cost = either-within (t .p) (omega (arith, whole-is (rowStream ws j), whole-within j l)) (omega (arith, few-ticks, tolls .slot-is)) in
+          let (j, l, e) = rank-onto (urgency ws) n (fine .apart) a (omega (arith, own .urgent, rank-below (urgency ws) n k among)) in
+          let w = fine .stream j l in
           ap (λ a. shareFits (shareAt given a)) (sym e) ∙ ap shareFits (share-in-place j l)
-          ∙ fits-here {a = rule.airtime t (rowStream ws j)} {b = rowStream ws j .period} {d = rowStream ws j .jitter} c (refl, omega (arith, w .period)) (refl, omega (arith, w .jitter)) (w .some-period)
+          ∙ fits-here {a = rule.airtime t (rowStream ws j)} {b = rowStream ws j .period} {d = rowStream ws j .jitter} (cost-within j l) (refl, omega (arith, w .period)) (refl, omega (arith, w .jitter)) (w .some-period)
 
       places : g .sources + g .urgent ≤ m + n
       places = omega (arith, own .sources, own .urgent, rank-below (urgency ws) n k among)
@@ -212,9 +275,9 @@ module _ (ws : List ℕ) (n m : ℕ) (toll : Toll) (fine : PlacesWithin ws n m) 
       terms-fit =
           simp (
             own .fits,
-            le-leb (g .sources + g .urgent) (length costs) (omega (arith, places, o .long .of-costs)),
-            le-leb (g .sources + g .urgent) (length periods) (omega (arith, places, o .long .of-periods)),
-            le-leb (g .urgent) (length jitters) (omega (arith, places, own .sources, o .long .of-jitters)),
+            le-leb (g .sources + g .urgent) (length costs) (omega (arith, places, o .cost .long)),
+            le-leb (g .sources + g .urgent) (length periods) (omega (arith, places, o .period .long)),
+            le-leb (g .urgent) (length jitters) (omega (arith, places, own .sources, o .jitter .long)),
             every-all (λ a. shareFits (shareAt given a)) (g .urgent) shares-fit,
             every-all (λ j. sourceFits (g .hit) (getD costs j 0) (getD periods j 0)) (g .sources)
                 (λ j h. let l : j < m = omega (arith, own .sources) in rw (hits .put j l, gaps j l) (simp (le-leb _ _ (fine .gap j l .some-gap), le-leb _ _ (fine .gap j l .gap), eq-eqb (g .hit) (g .hit) refl))),

@@ -1,33 +1,21 @@
-// A row's own terms: what the others are to its stream, and what it is itself.
-//
-// All streams are looked at in one pass with no branch to be guessed, their priorities and messages side by side.
+// A row's own terms: what it is itself, and what those before it and behind it are to it.
 ghost use mathlib.Core.Path.{_≡_};
-ghost use Prim.Native.Nat.{ℕ, _+_, _≤_, _<_, max};
+ghost use Prim.Native.Nat.{ℕ, _+_, _-_, _≤_, _<_, max};
 ghost use lib.ListN.{length, getD};
-ghost use Rattle.names.specs.Limits as limit;
-ghost use Rattle.costs.specs.Costs.{mostV, mostU};
+ghost use Rattle.terms.specs.Gathered.{cost};
+ghost use Rattle.plan.specs.Rules.{selfOrSlotted, airtime};
+ghost use Rattle.costs.specs.Costs.{Overhead};
 ghost use Rattle.carried.specs.Carried.{timingIn};
-ghost use Rattle.answers.specs.private.Gather.{sent, PlacesWithin, Tolls, Column};
-ghost use Rattle.answers.specs.private.Gather.{Extremes, Slotted, RowOf};
-use crate::order::FIRST;
+ghost use Rattle.answers.specs.private.Gather.{PlacesWithin, Priorities, largestIn, Ordered, RowOf};
 use crate::order::JITTER;
 use crate::order::PERIOD;
-use crate::order::Toll;
-use crate::order::airtime;
-use crate::order::if_less;
-use crate::order::wide;
+use crate::order::place_of;
+use crate::order::whole_of;
+use crate::order::word_of;
 use carried::CARRIED;
-use carried::STREAM;
-use names::Priority;
+use costs::Overheads;
 use names::Row;
 use terms::Gathered;
-
-// How many streams are more urgent than one, its B, and the largest cost of these and its own.
-struct Others {
-    urgent: usize,
-    blocking: u64,
-    hit: u64,
-}
 
 fn larger(a: u32, b: u32) -> u32
     ensures { λ r. ⌜ r ≡ max a b ⌝ }
@@ -35,96 +23,70 @@ fn larger(a: u32, b: u32) -> u32
     if a < b { b } else { a }
 }
 
-// What the other streams are to one of priority q whose C + K is `mine`: how many are more urgent, B, and the dearest of itself and these, each
-// at its C''.
-fn others_of(
-    priorities: &[u32],
-    messages: &[u32],
-    n: usize,
-    q: Priority,
-    mine: u32,
-    toll: Toll,
-) -> Others
-    requires { ⌜ n ≤ limit.streams ⌝ }
-    requires { ⌜ n ≤ length (now priorities) ⌝ }
-    requires { ⌜ n ≤ length (now messages) ⌝ }
-    requires { ⌜ ((k : ℕ) → k < n → 1 ≤ getD (now messages) k 0) ⌝ }
-    requires { ⌜ ((k : ℕ) → k < n → getD (now messages) k 0 ≤ limit.payload + limit.acknowledgement) ⌝ }
-    requires { ⌜ toll .u ≤ toll .all ⌝ }
-    requires { ⌜ toll .all ≤ mostV + mostU ⌝ }
-    requires { ⌜ mine ≤ limit.payload + limit.acknowledgement ⌝ }
-    ensures { λ r. ⌜ Extremes (now (priorities .entry)) (now (messages .entry)) n (q .0) (toll .u) (toll .all) (toll .all + mine) r ⌝ }
+// The largest cost from one place on and before another, or 0 if there is none between. Costs are small, and of words of 32 bits several are
+// compared at once.
+fn dearest(costs: &[u64], from: usize, to: usize) -> u64
+    requires { ⌜ from ≤ to ⌝ }
+    requires { ⌜ to ≤ length (now costs) ⌝ }
+    requires { ⌜ ((k : ℕ) → from ≤ k → k < to → getD (now costs) k 0 ≤ cost) ⌝ }
+    ensures { λ r. ⌜ r ≡ largestIn (now (costs .entry)) from to ⌝ }
 {
-    let u = toll.u;
-    let all = toll.all;
-    let mut urgent: u32 = 0;
-    let mut blocking: u32 = 0;
-    let mut hit = all + mine;
-    let mut k: usize = 0;
-    while k < n {
-        let priority = priorities[k];
-        let message = messages[k];
-        urgent += if_less(priority, q.0, 1);
-        blocking = larger(blocking, if_less(q.0, priority, message + u - 1));
-        hit = larger(hit, if_less(priority, q.0, all + message));
+    let mut most: u32 = 0;
+    let mut k = from;
+    while k < to {
+        most = larger(most, costs[k] as u32);
         k += 1;
     }
-    Others {
-        urgent: urgent as usize,
-        blocking: wide(blocking),
-        hit: wide(hit),
-    }
+    most as u64
 }
 
-// In slots each hit costs a slot, and B is a tick less, whoever is less urgent.
-fn in_slots(found: Others, slot: u64) -> Others
-    ensures { λ r. ⌜ Slotted slot found r ⌝ }
+// B, by the largest C'' behind: a tick less than its C', or 0 if there is none; and in slots a tick less than a slot.
+fn blocking(over: Overheads, behind: u64) -> u64
+    ensures { λ r. ⌜ r ≡ selfOrSlotted (over .slot) (behind - (over .lead + 1)) (over .slot - 1) ⌝ }
 {
-    if slot == 0 {
-        return found;
+    if over.slot != 0 {
+        return over.slot - 1;
     }
-    Others {
-        urgent: found.urgent,
-        blocking: slot - 1,
-        hit: slot,
+    if behind <= over.lead {
+        return 0;
     }
+    behind - over.lead - 1
 }
 
-// A row's own terms.
+// The own terms of a row, whose streams stand in order after m noise sources.
 pub(crate) fn gathered(
     words: &[u32; CARRIED],
     n: usize,
     m: usize,
-    toll: Toll,
+    over: Overheads,
     row: Row,
     priorities: &[u32],
-    messages: &[u32],
+    costs: &[u64],
 ) -> Gathered
     requires { ⌜ PlacesWithin (now words) n m ⌝ }
-    requires { ⌜ Tolls (timingIn (now words)) toll ⌝ }
+    requires { ⌜ Overhead (timingIn (now words)) over ⌝ }
     requires { ⌜ row .0 < n ⌝ }
-    requires { ⌜ Column (λ j. j .priority .0) (now words) n (now priorities) ⌝ }
-    requires { ⌜ Column sent (now words) n (now messages) ⌝ }
+    requires { ⌜ Priorities (now words) n (now priorities) ⌝ }
+    requires { ⌜ Ordered (airtime (timingIn (now words))) (now words) n m n (now costs) ⌝ }
     ensures { λ r. ⌜ RowOf (now (words .entry)) n m (row .0) r ⌝ }
 {
     let k = row.0;
-    let at = FIRST + STREAM * k;
-    let mine = messages[k];
-    let found = others_of(priorities, messages, n, Priority(priorities[k]), mine, toll);
-    let others = in_slots(found, toll.slot);
-    let whole = wide(toll.all + mine);
-    let own = airtime(toll.slot, whole);
-    let period = wide(words[at + PERIOD]);
-    let jitter = wide(words[at + JITTER]);
+    let place = place_of(priorities, n, priorities[k]);
+    let here = m + place;
+    let hit = dearest(costs, m, here + 1);
+    let behind = dearest(costs, here + 1, m + n);
+    let period = word_of(words, k, PERIOD);
+    let jitter = word_of(words, k, JITTER);
+    let last = whole_of(words, k, over);
     Gathered {
-        blocking: others.blocking,
-        cost: own,
+        blocking: blocking(over, behind),
+        cost: costs[here],
         period,
         jitter,
-        urgent: others.urgent,
+        urgent: place,
         sources: m,
-        hit: others.hit,
-        late: toll.late,
-        last: whole,
+        hit,
+        late: over.late,
+        last,
     }
 }

@@ -6,18 +6,19 @@ ghost use Prim.Native.Nat.{ℕ, _*_, _≤_, _<_};
 ghost use lib.ListN.{length, getD, drop};
 ghost use Rattle.bound.specs.Bound.{answer};
 ghost use Rattle.row_words.specs.RowWords.{wordsPerRow};
+ghost use Rattle.costs.specs.Costs.{Overhead};
 ghost use Rattle.carried.specs.Carried.{timingIn, planIn};
 ghost use Rattle.terms.specs.Gathered.{lent, termsOf, fits};
 ghost use Rattle.answers.specs.Answers.{answerWords};
-ghost use Rattle.answers.specs.private.Gather.{few, sent, PlacesWithin, Tolls, Column, Long, InOrder};
+ghost use Rattle.answers.specs.private.Gather.{few, PlacesWithin, Priorities, Long, InOrder};
 ghost use Rattle.carried.specs.Layout as layout;
+use crate::order::DEADLINE;
 use crate::order::FIRST;
-use crate::order::Toll;
-use crate::order::put_columns;
 use crate::order::put_gaps;
 use crate::order::put_hits;
 use crate::order::put_in_order;
-use crate::order::wide;
+use crate::order::put_priorities;
+use crate::order::word_of;
 use crate::own::gathered;
 use analysis::Answered;
 use bound::Answer;
@@ -25,6 +26,7 @@ use bound::Verdict;
 use carried::CARRIED;
 use carried::STREAM;
 use carried::timing_in;
+use costs::Overheads;
 use costs::overheads_of;
 use names::FEW;
 use names::Row;
@@ -33,9 +35,6 @@ use names::STREAMS;
 use row_words::put_answer;
 use terms::Gathered;
 use terms::STAIRS;
-
-// The word of a stream that has its deadline.
-const DEADLINE: usize = 5;
 
 // The answer of terms that are within the limits, as a plan's are.
 fn row_answer<'a>(
@@ -64,28 +63,26 @@ fn put_answers<'a>(
     words: &[u32; CARRIED],
     n: usize,
     m: usize,
-    toll: Toll,
+    over: Overheads,
     priorities: &[u32],
-    messages: &[u32],
     costs: &mut [u64],
     periods: &'a [u64],
     jitters: &'a [u64],
     out: &mut [u64],
 )
     requires { ⌜ PlacesWithin (now words) n m ⌝ }
-    requires { ⌜ Tolls (timingIn (now words)) toll ⌝ }
-    requires { ⌜ Column (λ j. j .priority .0) (now words) n (now priorities) ⌝ }
-    requires { ⌜ Column sent (now words) n (now messages) ⌝ }
-    requires { ⌜ InOrder (now words) n m (toll .slot) (toll .all) n (now costs) (now periods) (now jitters) ⌝ }
+    requires { ⌜ Overhead (timingIn (now words)) over ⌝ }
+    requires { ⌜ Priorities (now words) n (now priorities) ⌝ }
+    requires { ⌜ InOrder (now words) n m n (now costs) (now periods) (now jitters) ⌝ }
     requires { ⌜ ((k : ℕ) → k < m → getD (now periods) k 0 ≡ getD (now words) (layout.gapAt n k) 0) ⌝ }
     requires { ⌜ wordsPerRow * n ≤ length (now out) ⌝ }
     ensures { λ _. ⌜ now (out .exit) ≡ answerWords (planIn n m (now (words .entry))) ++ drop (wordsPerRow * n) (now (out .entry)) ⌝ }
 {
     let mut k: usize = 0;
     while k < n {
-        let g = gathered(words, n, m, toll, Row(k), priorities, messages);
+        let g = gathered(words, n, m, over, Row(k), priorities, &costs[..]);
         put_hits(g.hit, m, costs);
-        let deadline = wide(words[FIRST + STREAM * k + DEADLINE]);
+        let deadline = word_of(words, k, DEADLINE);
         let a = row_answer(g, &costs[..], periods, jitters, deadline);
         put_answer(out, Row(k), a);
         k += 1;
@@ -97,42 +94,28 @@ fn put_sorted(
     words: &[u32; CARRIED],
     n: usize,
     m: usize,
-    toll: Toll,
-    priorities: &mut [u32],
-    messages: &mut [u32],
+    over: Overheads,
+    priorities: &[u32],
     costs: &mut [u64],
     periods: &mut [u64],
     jitters: &mut [u64],
     out: &mut [u64],
 )
     requires { ⌜ PlacesWithin (now words) n m ⌝ }
-    requires { ⌜ Tolls (timingIn (now words)) toll ⌝ }
-    requires { ⌜ n ≤ length (now priorities) ⌝ }
-    requires { ⌜ n ≤ length (now messages) ⌝ }
+    requires { ⌜ Overhead (timingIn (now words)) over ⌝ }
+    requires { ⌜ Priorities (now words) n (now priorities) ⌝ }
     requires { ⌜ Long n m (now costs) (now periods) (now jitters) ⌝ }
     requires { ⌜ wordsPerRow * n ≤ length (now out) ⌝ }
     ensures { λ _. ⌜ now (out .exit) ≡ answerWords (planIn n m (now (words .entry))) ++ drop (wordsPerRow * n) (now (out .entry)) ⌝ }
 {
-    put_columns(words, n, priorities, messages);
-    put_in_order(
-        words,
-        n,
-        m,
-        toll,
-        &priorities[..],
-        &messages[..],
-        costs,
-        periods,
-        jitters,
-    );
+    put_in_order(words, n, m, over, priorities, costs, periods, jitters);
     put_gaps(words, FIRST + STREAM * n, m, periods);
     put_answers(
         words,
         n,
         m,
-        toll,
-        &priorities[..],
-        &messages[..],
+        over,
+        priorities,
         costs,
         &periods[..],
         &jitters[..],
@@ -141,15 +124,15 @@ fn put_sorted(
 }
 
 // Few streams have small rooms.
-fn put_few(words: &[u32; CARRIED], n: usize, m: usize, toll: Toll, out: &mut [u64])
+fn put_few(words: &[u32; CARRIED], n: usize, m: usize, over: Overheads, out: &mut [u64])
     requires { ⌜ PlacesWithin (now words) n m ⌝ }
-    requires { ⌜ Tolls (timingIn (now words)) toll ⌝ }
+    requires { ⌜ Overhead (timingIn (now words)) over ⌝ }
     requires { ⌜ n ≤ few ⌝ }
     requires { ⌜ wordsPerRow * n ≤ length (now out) ⌝ }
     ensures { λ _. ⌜ now (out .exit) ≡ answerWords (planIn n m (now (words .entry))) ++ drop (wordsPerRow * n) (now (out .entry)) ⌝ }
 {
     let mut priorities = [0; FEW];
-    let mut messages = [0; FEW];
+    put_priorities(words, n, &mut priorities);
     let mut costs = [0; SOURCES + FEW];
     let mut periods = [0; SOURCES + FEW];
     let mut jitters = [0; FEW];
@@ -157,9 +140,8 @@ fn put_few(words: &[u32; CARRIED], n: usize, m: usize, toll: Toll, out: &mut [u6
         words,
         n,
         m,
-        toll,
-        &mut priorities,
-        &mut messages,
+        over,
+        &priorities,
         &mut costs,
         &mut periods,
         &mut jitters,
@@ -168,14 +150,14 @@ fn put_few(words: &[u32; CARRIED], n: usize, m: usize, toll: Toll, out: &mut [u6
 }
 
 // All others have rooms for the most streams.
-fn put_many(words: &[u32; CARRIED], n: usize, m: usize, toll: Toll, out: &mut [u64])
+fn put_many(words: &[u32; CARRIED], n: usize, m: usize, over: Overheads, out: &mut [u64])
     requires { ⌜ PlacesWithin (now words) n m ⌝ }
-    requires { ⌜ Tolls (timingIn (now words)) toll ⌝ }
+    requires { ⌜ Overhead (timingIn (now words)) over ⌝ }
     requires { ⌜ wordsPerRow * n ≤ length (now out) ⌝ }
     ensures { λ _. ⌜ now (out .exit) ≡ answerWords (planIn n m (now (words .entry))) ++ drop (wordsPerRow * n) (now (out .entry)) ⌝ }
 {
     let mut priorities = [0; STREAMS];
-    let mut messages = [0; STREAMS];
+    put_priorities(words, n, &mut priorities);
     let mut costs = [0; STAIRS];
     let mut periods = [0; STAIRS];
     let mut jitters = [0; STREAMS];
@@ -183,9 +165,8 @@ fn put_many(words: &[u32; CARRIED], n: usize, m: usize, toll: Toll, out: &mut [u
         words,
         n,
         m,
-        toll,
-        &mut priorities,
-        &mut messages,
+        over,
+        &priorities,
         &mut costs,
         &mut periods,
         &mut jitters,
@@ -199,16 +180,9 @@ pub(crate) fn put_rows(words: &[u32; CARRIED], n: usize, m: usize, out: &mut [u6
     requires { ⌜ wordsPerRow * n ≤ length (now out) ⌝ }
     ensures { λ _. ⌜ now (out .exit) ≡ answerWords (planIn n m (now (words .entry))) ++ drop (wordsPerRow * n) (now (out .entry)) ⌝ }
 {
-    let timing = timing_in(words);
-    let c = overheads_of(timing);
-    let toll = Toll {
-        u: c.u as u32,
-        all: (c.lead + c.u) as u32,
-        late: c.late,
-        slot: wide(timing.p),
-    };
+    let over = overheads_of(timing_in(words));
     if n <= FEW {
-        return put_few(words, n, m, toll, out);
+        return put_few(words, n, m, over, out);
     }
-    put_many(words, n, m, toll, out)
+    put_many(words, n, m, over, out)
 }

@@ -22,6 +22,7 @@ overhead-within t w =
       lead-is = refl;
       u-is = ap (λ n. t .g + (t .h + t .g) * n + t .etg) nb;
       late-is = refl;
+      slot-is = refl;
       little = little;
       small = omega (arith, pulses, w .g, w .etg);
       early = early;
@@ -41,12 +42,12 @@ overhead-within t w =
 
 -- ---- what the code hands back, without a master node and with one
 module _ (t : Timing) {u : ℕ} (e : u ≡ U (fewBits t)) where
-  pub of-self : {v : ℕ} → t .p ≡ 0 → v ≡ «V» t → _≡_ {A = Overheads} (record { lead = v; u = u; late = v }) (overheadsOf t)
+  pub of-self : {v : ℕ} → t .p ≡ 0 → v ≡ «V» t → _≡_ {A = Overheads} (record { lead = v; u = u; late = v; slot = 0 }) (overheadsOf t)
   unfolding overheadsOf
-  of-self none d = λ j. record { lead = (d ∙ sym (self (t .p) («V» t) (t .h) none)) j; u = e j; late = (d ∙ sym (self (t .p) («V» t) 0 none)) j }
+  of-self none d = λ j. record { lead = (d ∙ sym (self (t .p) («V» t) (t .h) none)) j; u = e j; late = (d ∙ sym (self (t .p) («V» t) 0 none)) j; slot = sym none j }
 
-  pub of-slots : (t .p ≡ 0 → ⊥) → _≡_ {A = Overheads} (record { lead = t .h; u = u; late = 0 }) (overheadsOf t)
+  pub of-slots : (t .p ≡ 0 → ⊥) → _≡_ {A = Overheads} (record { lead = t .h; u = u; late = 0; slot = t .p }) (overheadsOf t)
   unfolding overheadsOf
   of-slots there =
       let some : 1 ≤ t .p = omega (arith, there) in
-      λ j. record { lead = sym (slotted (t .p) («V» t) (t .h) some) j; u = e j; late = sym (slotted (t .p) («V» t) 0 some) j }
+      λ j. record { lead = sym (slotted (t .p) («V» t) (t .h) some) j; u = e j; late = sym (slotted (t .p) («V» t) 0 some) j; slot = t .p }

@@ -23,7 +23,7 @@ fewBits t =
     }
 
 unfoldable pub overheadsOf : Timing → Overheads
-overheadsOf t = record { lead = lead t; u = U (fewBits t); late = late t }
+overheadsOf t = record { lead = lead t; u = U (fewBits t); late = late t; slot = t .p }
 
 -- the most that V can be, and so H: F + E + max(TFCS, SWX) + H
 abbrev pub mostV : ℕ
@@ -40,6 +40,7 @@ pub record Overhead (t : Timing) (o : Overheads) : Type 0 where
   pub lead-is : o .lead ≡ lead t
   pub u-is : o .u ≡ U t
   pub late-is : o .late ≡ late t
+  pub slot-is : o .slot ≡ t .p
   pub little : o .lead ≤ mostV
   pub small : o .u ≤ mostU
   pub early : o .late ≤ o .lead

@@ -10,11 +10,12 @@ ghost use Rattle.costs.specs.Costs.{fewBits, overheadsOf};
 use names::BITS;
 use plan::Timing;
 
-// What goes before C' in C'', U, and how late a release still joins a cycle.
+// What goes before C' in C'', U, how late a release still joins a cycle, and P.
 pub struct Overheads {
     pub lead: u64,
     pub u: u64,
     pub late: u64,
+    pub slot: u64,
 }
 
 fn longer(a: u32, b: u32) -> u64
@@ -65,11 +66,13 @@ pub fn overheads_of(t: Timing) -> Overheads
             lead: v,
             u,
             late: v,
+            slot: 0,
         };
     }
     Overheads {
         lead: t.h as u64,
         u,
         late: 0,
+        slot: t.p as u64,
     }
 }

@@ -130,6 +130,18 @@ largest-those g t (x ∷ l) = go (t x) (largest-those g t l)
     go true e = omega arith
     go false e = omega arith
 
+-- the largest where each is less by d
+pub largest-less : {A : Type 0} (f : A → ℕ) (d : ℕ) (l : List A) → largestOf (λ a. f a - d) l ≡ largestOf f l - d
+unfolding largestOf
+largest-less f d [] = omega arith
+largest-less f d (x ∷ l) = omega (arith, largest-less f d l)
+
+-- the largest where all are v
+pub largest-all : {A : Type 0} (v : ℕ) (l : List A) → largestOf (λ a. v) l ≤ v
+unfolding largestOf
+largest-all v [] = omega arith
+largest-all v (x ∷ l) = omega (arith, largest-all v l)
+
 -- ---- sums over 0 .. n - 1
 pub sumTo-none : (f : ℕ → ℕ) → sumTo f 0 ≡ 0
 unfolding sumTo

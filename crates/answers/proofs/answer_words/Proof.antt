@@ -30,7 +30,7 @@ returns c =
     (sym (ap (λ o. o .0) e), sym (ap (λ o. o .1) e))
 
 mul-if1 : tie.Need-mul-if1
-mul-if1 c = omega (arith, places c .rows .few)
+mul-if1 c = omega (arith, places c .few)
 
 returns-2 : tie.Need-returns-2
 returns-2 c =

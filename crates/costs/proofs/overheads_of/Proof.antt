@@ -11,8 +11,8 @@ returns c =
 
 returns-2 : tie.Need-returns-2
 returns-2 c =
-    let u = c .before .before .before in
-    of-slots (u .before .args .t) (u .u-of .ensures) (c .before .if1 .left)
+    let u = c .before .before .before .before in
+    of-slots (u .before .args .t) (u .u-of .ensures) (c .before .before .if1 .left)
 
 pub overheads-of-spec : {M : Type 1} → statement M
-overheads-of-spec = tie.close (tie.spec (λ c κs. search needs) (λ c κs. search needs) returns (λ c. search needs) returns-2)
+overheads-of-spec = tie.close (tie.spec (λ c κs. search needs) (λ c κs. search needs) returns (λ c. search needs) (λ c. search needs) returns-2)
