@@ -11,7 +11,7 @@ use lib.ListN.{length, getD}
 use Rattle.names.specs.Limits.{streams, sources, ticks}
 use Rattle.laws.specs.Lists.{ceil, sumTo, largestOf, those, rows}
 use Rattle.laws.specs.Ranks.{rank}
-use Rattle.laws.proofs.Lists.{largest-more, largest-those, largest-less, largest-all, rows-same, every-all, sum-rows, sumTo-same}
+use Rattle.laws.proofs.Lists.{largest-those, largest-less, largest-all, rows-same, every-all, sum-rows, sumTo-same}
 use Rattle.laws.proofs.Ranks.{rank-below, rank-less, rank-apart, rank-onto, sum-in-order, sum-front, sum-map-those, largest-le, largest-same, largest-part}
 use Rattle.bound.specs.Terms as bound
 use Rattle.bound.specs.Bound.{demand, answer}
@@ -31,8 +31,8 @@ use Rattle.costs.specs.declared.Overheads.{Overheads}
 use Rattle.costs.specs.Costs.{Overhead}
 use Rattle.carried.specs.Layout as layout
 use Rattle.carried.specs.Carried.{enteredIn, timingIn, planIn}
-use Rattle.answers.specs.private.Gather.{rowStream, urgency, lessThan, largestIn, PlacesWithin, Priorities, Ordered, InOrder, Before, RowOf, RowTerms}
-use Rattle.answers.proofs.Gather.{either-within, either-is, place-is}
+use Rattle.answers.specs.private.Gather.{rowStream, urgency, largestIn, PlacesWithin, Ordered, InOrder, Before, RowOf, RowTerms}
+use Rattle.answers.proofs.Gather.{largest-next, either-within, either-is}
 
 -- ---- a cost, and a period and a jitter that are words
 fits-here : {a b d x y : ℕ} → a ≤ cost → (b ≡ x) × (b < 2 ^ 32) → (d ≡ y) × (d < 2 ^ 32) → 1 ≤ x → shareFits (record { C″ = a; T = b; J = d }) ≡ true
@@ -68,18 +68,17 @@ module _ (ws : List ℕ) (n m : ℕ) (over : Overheads) (fine : PlacesWithin ws 
         let there : m + (k - m) ≡ k = omega arith in
         rw there at (place-within (k - m) (omega arith))
 
-    -- the largest over some places, ..
+    -- the largest over some places is small, ..
+    largest-within : (a b : ℕ) → m ≤ a → b ≤ m + n → largestIn costs a b ≤ cost
+    largest-within a b h l = largest-le (λ x. x) (λ j. getD costs (a + j) 0) (b - a) cost (λ j k. costs-within (a + j) (omega arith) (omega arith))
+
+    -- .. and if these are the places of the streams that pass a test, the largest over those
     part-is : (a b : ℕ) → largestIn costs (m + a) (m + b) ≡ largestOf (λ x. x) (rows (b - a) (λ j. getD costs (m + (a + j)) 0))
     part-is a b =
         let many : (m + b) - (m + a) ≡ b - a = omega arith in
         ap (λ z. largestOf (λ x. x) (rows z (λ j. getD costs (m + a + j) 0))) many
         ∙ ap (largestOf (λ x. x)) (rows-same (b - a) _ _ (λ j h. ap (λ z. getD costs z 0) (omega arith)))
 
-    largest-within : (a b : ℕ) → b ≤ n → largestIn costs (m + a) (m + b) ≤ cost
-    largest-within a b h =
-        rw (part-is a b) (largest-le (λ x. x) (λ j. getD costs (m + (a + j)) 0) (b - a) cost (λ j l. place-within (a + j) (omega arith)))
-
-    -- .. if these are the places of the streams that pass a test, is the largest over those
     those-are : (s : ℕ → Bool) (u : Stream → Bool) (a b : ℕ) → ((j : ℕ) → j < n → s (at j) ≡ u (rowStream ws j)) → ((j : ℕ) → j < b - a → (a + j < n) × (s (a + j) ≡ true))
         → ((r : ℕ) → r < n → s r ≡ true → (a ≤ r) × (r < a + (b - a))) → largestIn costs (m + a) (m + b) ≡ largestOf (rule.airtime t) (those u (rows n (rowStream ws)))
     those-are s u a b e inside only =
@@ -120,20 +119,22 @@ module _ (ws : List ℕ) (n m : ℕ) (over : Overheads) (fine : PlacesWithin ws 
       here : place < n
       here = rank-below (urgency ws) n k among
 
-      before-is : largestIn costs (m + 0) (m + place) ≡ largestOf (rule.airtime t) (rule.hp p i)
+      before-is : largestIn costs m (m + place) ≡ largestOf (rule.airtime t) (rule.hp p i)
       unfolding enteredIn
       before-is =
-          those-are costs c (λ r. ltb r place) (λ j. ltb (j .priority .0) (i .priority .0)) 0 place (λ j h. rank-less (urgency ws) n j k h)
+          ap (λ a. largestIn costs a (m + place)) (omega arith)
+          ∙ those-are costs c (λ r. ltb r place) (λ j. ltb (j .priority .0) (i .priority .0)) 0 place (λ j h. rank-less (urgency ws) n j k h)
           (λ j h. (omega (arith, here), lt-ltb (0 + j) place (omega arith))) (λ r h e. let l = ltb-true r place e in (omega arith, omega arith))
 
-      behind-is : largestIn costs (m + (place + 1)) (m + n) ≡ largestOf (rule.airtime t) (rule.lp p i)
+      behind-is : largestIn costs (m + place + 1) (m + n) ≡ largestOf (rule.airtime t) (rule.lp p i)
       unfolding enteredIn
       behind-is =
-          those-are costs c (λ r. ltb place r) (λ j. ltb (i .priority .0) (j .priority .0)) (place + 1) n (λ j h. rank-less (urgency ws) n k j among)
+          ap (λ a. largestIn costs a (m + n)) (omega arith)
+          ∙ those-are costs c (λ r. ltb place r) (λ j. ltb (i .priority .0) (j .priority .0)) (place + 1) n (λ j h. rank-less (urgency ws) n k j among)
           (λ j h. (omega arith, lt-ltb place (place + 1 + j) (omega arith)))
           (λ r h e. let l = ltb-true place r e in (omega arith, omega arith))
 
-      blocking-is : (b behind : ℕ) → b ≡ rule.selfOrSlotted (over .slot) (behind - (over .lead + 1)) (over .slot - 1) → behind ≡ largestIn costs (m + (place + 1)) (m + n) → b ≡ rule.B p i
+      blocking-is : (b behind : ℕ) → b ≡ rule.selfOrSlotted (over .slot) (behind - (over .lead + 1)) (over .slot - 1) → behind ≡ largestIn costs (m + place + 1) (m + n) → b ≡ rule.B p i
       unfolding rule.B enteredIn
       blocking-is b behind e d =
           let same = rw (overhead .slot-is) at e in
@@ -141,21 +142,15 @@ module _ (ws : List ℕ) (n m : ℕ) (over : Overheads) (fine : PlacesWithin ws 
           (λ z. same ∙ self (t .p) _ _ z ∙ ap (λ x. x - (over .lead + 1)) (d ∙ behind-is ∙ all-self (rule.lp p i) z) ∙ less-one (rule.lp p i))
           (λ h. same ∙ slotted (t .p) _ _ h)
 
-      hit-is : (x : ℕ) → x ≡ largestIn costs (m + 0) (m + (place + 1)) → x ≡ rule.hit p i
+      hit-is : (x : ℕ) → x ≡ largestIn costs m (m + place + 1) → x ≡ rule.hit p i
       unfolding rule.hit largestOf enteredIn
       hit-is x e =
-          let one : place + 1 - 0 ≡ place + 1 = omega arith in
-          let none : place - 0 ≡ place = omega arith in
-          let each : ℕ → ℕ = λ j. getD costs (m + (0 + j)) 0 in
-          let more : max (largestOf (λ z. z) (rows place each)) (each place) ≡ largestOf (λ z. z) (rows (place + 1) each) = largest-more (λ z. z) each place _ _ _ refl refl refl in
-          let both : x ≡ max (largestOf (rule.airtime t) (rule.hp p i)) (rule.airtime t i) =
-          e ∙ part-is costs c 0 (place + 1) ∙ ap (λ z. largestOf (λ y. y) (rows z each)) one ∙ sym more
-          ∙ ap₂ max (ap (λ z. largestOf (λ y. y) (rows z each)) (sym none) ∙ sym (part-is costs c 0 place) ∙ before-is) (ap (λ z. getD costs (m + z) 0) (zero-add place) ∙ own-is) in
+          let both : x ≡ max (largestOf (rule.airtime t) (rule.hp p i)) (rule.airtime t i) = e ∙ sym (largest-next costs m (m + place) (omega arith)) ∙ ap₂ max before-is own-is in
           either-is (t .p)
           (λ z. omega (arith, both, all-self (rule.hp p i) z, self (t .p) (rule.C″ t i) (t .p) z))
           (λ h. omega (arith, both, all-slotted (rule.hp p i) h, slotted (t .p) (rule.C″ t i) (t .p) h, largest-all (t .p) (rule.hp p i)))
 
-      module _ (ps : List ℕ) (cp : Priorities ws n ps) (q seat hit behind blocking period jitter last : ℕ) (eq : q ≡ urgency ws k) (es : seat ≡ lessThan ps n q)
+      module _ (seat hit behind blocking period jitter last : ℕ) (seat-is : seat ≡ place)
           (eh : hit ≡ largestIn costs m (m + seat + 1)) (eb : behind ≡ largestIn costs (m + seat + 1) (m + n))
           (ek : blocking ≡ rule.selfOrSlotted (over .slot) (behind - (over .lead + 1)) (over .slot - 1)) (et : (period ≡ i .period) × (period < 2 ^ 32))
           (ej : (jitter ≡ i .jitter) × (jitter < 2 ^ 32)) (el : last ≡ rule.C″ t i) where
@@ -165,17 +160,14 @@ module _ (ws : List ℕ) (n m : ℕ) (over : Overheads) (fine : PlacesWithin ws 
         abbrev row : Gathered
         row = record { blocking = blocking; cost = own; period = period; jitter = jitter; urgent = seat; sources = m; hit = hit; late = over .late; last = last }
 
-        seat-is : seat ≡ place
-        seat-is = es ∙ place-is ws n k q ps cp eq
-
         cost-is : own ≡ rule.airtime t i
         cost-is = ap (λ z. getD costs (m + z) 0) seat-is ∙ own-is
 
-        front : hit ≡ largestIn costs (m + 0) (m + (place + 1))
-        front = eh ∙ ap₂ (largestIn costs) (omega arith) (omega (arith, seat-is))
+        front : hit ≡ largestIn costs m (m + place + 1)
+        front = eh ∙ ap (λ a. largestIn costs m (m + a + 1)) seat-is
 
-        back : behind ≡ largestIn costs (m + (place + 1)) (m + n)
-        back = eb ∙ ap (λ a. largestIn costs a (m + n)) (omega (arith, seat-is))
+        back : behind ≡ largestIn costs (m + place + 1) (m + n)
+        back = eb ∙ ap (λ a. largestIn costs (m + a + 1) (m + n)) seat-is
 
         sound : Sound (rule.terms p i)
         unfolding enteredIn
@@ -185,8 +177,8 @@ module _ (ws : List ℕ) (n m : ℕ) (over : Overheads) (fine : PlacesWithin ws 
         unfolding rowFits rule.terms enteredIn
         row-fits =
             let slot : over .slot ≤ cost = omega (arith, overhead .slot-is, fine .timing .p) in
-            let h : hit ≤ cost = omega (arith, front, largest-within costs c 0 (place + 1) (omega (arith, here))) in
-            let l : behind ≤ cost = omega (arith, back, largest-within costs c (place + 1) n (omega arith)) in
+            let h : hit ≤ cost = omega (arith, front, largest-within costs c m (m + place + 1) (omega arith) (omega (arith, here))) in
+            let l : behind ≤ cost = omega (arith, back, largest-within costs c (m + place + 1) (m + n) (omega arith) (omega arith)) in
             let b : blocking ≤ cost = rw ek (either-within (over .slot) (omega (arith, l)) (omega (arith, slot))) in
             simp (
               le-leb blocking cost b,

@@ -2,16 +2,16 @@
 ghost use mathlib.Core.Path.{_≡_};
 ghost use Prim.Native.Nat.{ℕ, _+_, _-_, _≤_, _<_, max};
 ghost use lib.ListN.{length, getD};
+ghost use Rattle.laws.specs.Ranks.{rank};
 ghost use Rattle.terms.specs.Gathered.{cost};
 ghost use Rattle.plan.specs.Rules.{selfOrSlotted, airtime};
 ghost use Rattle.costs.specs.Costs.{Overhead};
 ghost use Rattle.carried.specs.Carried.{timingIn};
-ghost use Rattle.answers.specs.private.Gather.{PlacesWithin, Priorities, largestIn, Ordered, RowOf};
-use crate::order::JITTER;
-use crate::order::PERIOD;
-use crate::order::place_of;
-use crate::order::whole_of;
-use crate::order::word_of;
+ghost use Rattle.answers.specs.private.Gather.{urgency, PlacesWithin, largestIn, Ordered, RowOf};
+use crate::read::JITTER;
+use crate::read::PERIOD;
+use crate::read::whole_of;
+use crate::read::word_of;
 use carried::CARRIED;
 use costs::Overheads;
 use names::Row;
@@ -60,18 +60,17 @@ pub(crate) fn gathered(
     m: usize,
     over: Overheads,
     row: Row,
-    priorities: &[u32],
+    place: usize,
     costs: &[u64],
 ) -> Gathered
     requires { ⌜ PlacesWithin (now words) n m ⌝ }
     requires { ⌜ Overhead (timingIn (now words)) over ⌝ }
     requires { ⌜ row .0 < n ⌝ }
-    requires { ⌜ Priorities (now words) n (now priorities) ⌝ }
+    requires { ⌜ place ≡ rank (urgency (now words)) n (row .0) ⌝ }
     requires { ⌜ Ordered (airtime (timingIn (now words))) (now words) n m n (now costs) ⌝ }
     ensures { λ r. ⌜ RowOf (now (words .entry)) n m (row .0) r ⌝ }
 {
     let k = row.0;
-    let place = place_of(priorities, n, priorities[k]);
     let here = m + place;
     let hit = dearest(costs, m, here + 1);
     let behind = dearest(costs, here + 1, m + n);

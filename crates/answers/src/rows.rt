@@ -4,22 +4,24 @@ ghost use mathlib.Core.Bool.{true};
 ghost use mathlib.Core.List.{_++_};
 ghost use Prim.Native.Nat.{ℕ, _*_, _≤_, _<_};
 ghost use lib.ListN.{length, getD, drop};
+ghost use Rattle.laws.specs.Ranks.{rank};
 ghost use Rattle.bound.specs.Bound.{answer};
 ghost use Rattle.row_words.specs.RowWords.{wordsPerRow};
 ghost use Rattle.costs.specs.Costs.{Overhead};
 ghost use Rattle.carried.specs.Carried.{timingIn, planIn};
 ghost use Rattle.terms.specs.Gathered.{lent, termsOf, fits};
 ghost use Rattle.answers.specs.Answers.{answerWords};
-ghost use Rattle.answers.specs.private.Gather.{few, PlacesWithin, Priorities, Long, InOrder};
+ghost use Rattle.answers.specs.private.Gather.{few, urgency, PlacesWithin, Column, Long, InOrder};
 ghost use Rattle.carried.specs.Layout as layout;
-use crate::order::DEADLINE;
-use crate::order::FIRST;
 use crate::order::put_gaps;
 use crate::order::put_hits;
 use crate::order::put_in_order;
+use crate::order::put_places;
 use crate::order::put_priorities;
-use crate::order::word_of;
 use crate::own::gathered;
+use crate::read::DEADLINE;
+use crate::read::FIRST;
+use crate::read::word_of;
 use analysis::Answered;
 use bound::Answer;
 use bound::Verdict;
@@ -64,7 +66,7 @@ fn put_answers<'a>(
     n: usize,
     m: usize,
     over: Overheads,
-    priorities: &[u32],
+    places: &[usize],
     costs: &mut [u64],
     periods: &'a [u64],
     jitters: &'a [u64],
@@ -72,7 +74,7 @@ fn put_answers<'a>(
 )
     requires { ⌜ PlacesWithin (now words) n m ⌝ }
     requires { ⌜ Overhead (timingIn (now words)) over ⌝ }
-    requires { ⌜ Priorities (now words) n (now priorities) ⌝ }
+    requires { ⌜ Column (rank (urgency (now words)) n) n (now places) ⌝ }
     requires { ⌜ InOrder (now words) n m n (now costs) (now periods) (now jitters) ⌝ }
     requires { ⌜ ((k : ℕ) → k < m → getD (now periods) k 0 ≡ getD (now words) (layout.gapAt n k) 0) ⌝ }
     requires { ⌜ wordsPerRow * n ≤ length (now out) ⌝ }
@@ -80,7 +82,7 @@ fn put_answers<'a>(
 {
     let mut k: usize = 0;
     while k < n {
-        let g = gathered(words, n, m, over, Row(k), priorities, &costs[..]);
+        let g = gathered(words, n, m, over, Row(k), places[k], &costs[..]);
         put_hits(g.hit, m, costs);
         let deadline = word_of(words, k, DEADLINE);
         let a = row_answer(g, &costs[..], periods, jitters, deadline);
@@ -95,7 +97,7 @@ fn put_sorted(
     n: usize,
     m: usize,
     over: Overheads,
-    priorities: &[u32],
+    places: &[usize],
     costs: &mut [u64],
     periods: &mut [u64],
     jitters: &mut [u64],
@@ -103,19 +105,19 @@ fn put_sorted(
 )
     requires { ⌜ PlacesWithin (now words) n m ⌝ }
     requires { ⌜ Overhead (timingIn (now words)) over ⌝ }
-    requires { ⌜ Priorities (now words) n (now priorities) ⌝ }
+    requires { ⌜ Column (rank (urgency (now words)) n) n (now places) ⌝ }
     requires { ⌜ Long n m (now costs) (now periods) (now jitters) ⌝ }
     requires { ⌜ wordsPerRow * n ≤ length (now out) ⌝ }
     ensures { λ _. ⌜ now (out .exit) ≡ answerWords (planIn n m (now (words .entry))) ++ drop (wordsPerRow * n) (now (out .entry)) ⌝ }
 {
-    put_in_order(words, n, m, over, priorities, costs, periods, jitters);
+    put_in_order(words, n, m, over, places, costs, periods, jitters);
     put_gaps(words, FIRST + STREAM * n, m, periods);
     put_answers(
         words,
         n,
         m,
         over,
-        priorities,
+        places,
         costs,
         &periods[..],
         &jitters[..],
@@ -133,6 +135,8 @@ fn put_few(words: &[u32; CARRIED], n: usize, m: usize, over: Overheads, out: &mu
 {
     let mut priorities = [0; FEW];
     put_priorities(words, n, &mut priorities);
+    let mut places = [0; FEW];
+    put_places(&priorities, n, &mut places);
     let mut costs = [0; SOURCES + FEW];
     let mut periods = [0; SOURCES + FEW];
     let mut jitters = [0; FEW];
@@ -141,7 +145,7 @@ fn put_few(words: &[u32; CARRIED], n: usize, m: usize, over: Overheads, out: &mu
         n,
         m,
         over,
-        &priorities,
+        &places,
         &mut costs,
         &mut periods,
         &mut jitters,
@@ -158,6 +162,8 @@ fn put_many(words: &[u32; CARRIED], n: usize, m: usize, over: Overheads, out: &m
 {
     let mut priorities = [0; STREAMS];
     put_priorities(words, n, &mut priorities);
+    let mut places = [0; STREAMS];
+    put_places(&priorities, n, &mut places);
     let mut costs = [0; STAIRS];
     let mut periods = [0; STAIRS];
     let mut jitters = [0; STREAMS];
@@ -166,7 +172,7 @@ fn put_many(words: &[u32; CARRIED], n: usize, m: usize, over: Overheads, out: &m
         n,
         m,
         over,
-        &priorities,
+        &places,
         &mut costs,
         &mut periods,
         &mut jitters,

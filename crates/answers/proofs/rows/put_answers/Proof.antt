@@ -22,12 +22,12 @@ use Rattle.answers.proofs.rows.put_answers.Statement.{statement}
 use Rattle.answers.proofs.rows.put_answers.Tie as tie
 
 abbrev Inv-loop : tie.InvT-loop
-Inv-loop ws n m over priorities costs₀ periods jitters out₀ k₀ costs out k =
+Inv-loop ws n m over places costs₀ periods jitters out₀ k₀ costs out k =
     (k ≤ n) × (out ≡ flatMap rowWords (rows k (λ j. rowAnswer (planIn n m ws) (rowStream ws j))) ++ drop (wordsPerRow * k) out₀) × (length out ≡ length out₀)
     × InOrder ws n m n costs periods jitters × (length costs ≡ length costs₀)
 
 abbrev μ-loop : tie.MeasureT-loop
-μ-loop ws n m over priorities costs₀ periods jitters out₀ k₀ costs out k = n - k
+μ-loop ws n m over places costs₀ periods jitters out₀ k₀ costs out k = n - k
 
 loop-holds : tie.Need-loop-holds Inv-loop μ-loop
 unfolding rows flatMap
@@ -37,21 +37,28 @@ loop-holds c = (omega arith, refl, refl, c .before .before .before .before .befo
 abbrev entry : tie.At-loop Inv-loop μ-loop → tie.Start Inv-loop μ-loop
 entry a = a .before .before .before .before .before .before
 
+few : (d : tie.In-loop Inv-loop μ-loop) → d .before .loop .k < streams
+few d = omega (arith, d .loop-test .taken, entry (d .before) .pre .0 .few)
+
+mul-gathered : tie.Need-mul-gathered Inv-loop μ-loop
+mul-gathered c = omega (arith, few c)
+
+shared-slice-read-gathered : tie.Need-shared-slice-read-gathered Inv-loop μ-loop
+shared-slice-read-gathered c = let d = c .before in omega (arith, d .loop-test .taken, entry (d .before) .pre .1 .1 .0 .long)
+
 gathered-requires : tie.Need-gathered-requires Inv-loop μ-loop
 gathered-requires c κs =
-    let d = c .before in
+    let d = c .before .before in
     let p = entry (d .before) .pre in
-    (p .0, (p .1 .0, (d .loop-test .taken, (p .1 .1 .0, d .before .loop .inv .3 .cost))))
+    let h = d .loop-test .taken in
+    (p .0, (p .1 .0, (h, (p .1 .1 .0 .is _ h, d .before .loop .inv .3 .cost))))
 
 put-hits-requires : tie.Need-put-hits-requires Inv-loop μ-loop
-put-hits-requires c κs = omega (arith, c .before .before .before .before .loop .inv .3 .cost .long)
+put-hits-requires c κs = omega (arith, c .before .before .before .before .before .loop .inv .3 .cost .long)
 
 -- the turn, seen from the hits
 abbrev turn : tie.After-put-hits Inv-loop μ-loop → tie.In-loop Inv-loop μ-loop
-turn c = c .before .before .before .before
-
-few : (d : tie.In-loop Inv-loop μ-loop) → d .before .loop .k < streams
-few d = omega (arith, d .loop-test .taken, entry (d .before) .pre .0 .few)
+turn c = c .before .before .before .before .before
 
 word-of-requires : tie.Need-word-of-requires Inv-loop μ-loop
 word-of-requires c κs = (few (turn (c .before .before)), omega arith)
@@ -121,5 +128,5 @@ returns c =
 pub put-answers-spec : {M : Type 1} → statement M
 put-answers-spec =
     tie.close
-    (tie.spec Inv-loop μ-loop loop-holds gathered-requires put-hits-requires word-of-requires row-answer-requires (λ c κs. search needs) add-k (λ c. search needs)
+    (tie.spec Inv-loop μ-loop loop-holds mul-gathered shared-slice-read-gathered gathered-requires put-hits-requires word-of-requires row-answer-requires (λ c κs. search needs) add-k (λ c. search needs)
     loop-again (λ c. c .before .loop .inv .4) (λ c. c .before .loop .inv .2) returns)
