@@ -23,8 +23,8 @@ fn larger(a: u32, b: u32) -> u32
     if a < b { b } else { a }
 }
 
-// The largest cost from one place on and before another, or 0 if there is none between. Costs are small, and of words of 32 bits several are
-// compared at once.
+// The largest cost from one place on and before another, or 0 if there is none between: as words of 32 bits, of which several are compared at
+// once.
 fn dearest(costs: &[u64], from: usize, to: usize) -> u64
     requires { ⌜ from ≤ to ⌝ }
     requires { ⌜ to ≤ length (now costs) ⌝ }
@@ -40,7 +40,7 @@ fn dearest(costs: &[u64], from: usize, to: usize) -> u64
     most as u64
 }
 
-// B, by the largest C'' behind: a tick less than its C', or 0 if there is none; and in slots a tick less than a slot.
+// B, by the largest C'' behind: a tick less than that stream's C', or 0 if there is none; and in slots a tick less than a slot.
 fn blocking(over: Overheads, behind: u64) -> u64
     ensures { λ r. ⌜ r ≡ selfOrSlotted (over .slot) (behind - (over .lead + 1)) (over .slot - 1) ⌝ }
 {
@@ -53,7 +53,7 @@ fn blocking(over: Overheads, behind: u64) -> u64
     behind - over.lead - 1
 }
 
-// The own terms of a row, whose streams stand in order after m noise sources.
+// The own terms of a row, where the costs of all streams stand in order after m noise sources.
 pub(crate) fn gathered(
     words: &[u32; CARRIED],
     n: usize,
