@@ -231,8 +231,3 @@ pub rows-map : {A B : Type 0} (g : A → B) (n : ℕ) (f : ℕ → A) → map g 
 unfolding rows
 rows-map g zero f = refl
 rows-map g (suc n) f = map-append g (rows n f) (f n ∷ []) ∙ ap (λ l. l ++ (g (f n) ∷ [])) (rows-map g n f)
-
-pub largest-map : {A B : Type 0} (g : B → ℕ) (f : A → B) (l : List A) → largestOf g (map f l) ≡ largestOf (λ a. g (f a)) l
-unfolding largestOf
-largest-map g f [] = refl
-largest-map g f (x ∷ l) = ap (max (g (f x))) (largest-map g f l)
