@@ -5,3 +5,5 @@ pub mod Alone
 pub mod AboveZero
 pub mod Answers
 pub mod Same
+pub mod Evaluations
+pub mod Limit

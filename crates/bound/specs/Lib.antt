@@ -1,3 +1,4 @@
 pub mod Terms
 pub mod Bound
 pub mod Claims
+pub mod Evaluations

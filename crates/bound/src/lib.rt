@@ -16,3 +16,16 @@ pub struct Answer {
     pub bound: u64,
     pub instance: u64,
 }
+
+// A row's answer, how many evaluations the search for its L took, and X: L, or 4,294,967,295 where there is none.
+pub struct Searched {
+    pub answer: Answer,
+    pub evaluations: u64,
+    pub x: u64,
+}
+
+// How long a row's search may take: its evaluations, and the most that there can be.
+pub struct Wait {
+    pub evaluations: u64,
+    pub limit: u64,
+}

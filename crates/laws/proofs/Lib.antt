@@ -7,5 +7,6 @@ pub mod Search
 pub mod Rows
 pub mod Ranks
 pub mod Chain
+pub mod Steps
 pub mod Signed
 pub mod Unique

@@ -1,7 +1,7 @@
--- Rounding up, sums, largest values and choices over a list, and a list in a number of places.
+-- Rounding up, sums, largest and smallest values and choices over a list, and a list in a number of places.
 use mathlib.Core.Bool.{Bool, true, cond, _&&_}
 use mathlib.Core.List.{List, [], _∷_, _++_}
-use Prim.Native.Nat.{ℕ, zero, suc, _+_, _-_, _/_, max}
+use Prim.Native.Nat.{ℕ, zero, suc, _+_, _-_, _/_, max, min}
 use lib.ListN.{length, take, replicate}
 
 -- ceil(x / n)
@@ -17,6 +17,11 @@ sumOf f (x ∷ xs) = f x + sumOf f xs
 unfoldable pub largestOf : {A : Type 0} → (A → ℕ) → List A → ℕ
 largestOf f [] = 0
 largestOf f (x ∷ xs) = max (f x) (largestOf f xs)
+
+-- the smallest f over a list that begins with x
+unfoldable pub smallestOf : {A : Type 0} → (A → ℕ) → A → List A → ℕ
+smallestOf f x [] = f x
+smallestOf f x (y ∷ ys) = min (f x) (smallestOf f y ys)
 
 -- those of a list that pass a test, in order
 unfoldable pub those : {A : Type 0} → (A → Bool) → List A → List A
