@@ -1,21 +1,23 @@
 -- What a chain keeps from turn to turn: sums that, with the edges, give a right side from the present x on; and the chain for L. Assumes nothing.
-use mathlib.Core.Path.{_≡_, sym}
+use mathlib.Core.Path.{_≡_, sym, ap, _∙_}
 use mathlib.Core.List.{List}
 use Prim.Native.Nat.{ℕ, _+_, _-_, _*_, _≤_, _<_}
 use native.Mathlib.Nat.{le-refl}
 use native.Mathlib.Omega.{arith}
 use Rattle.names.specs.Limits.{ticks}
 use Rattle.laws.specs.Lists.{ceil}
-use Rattle.laws.specs.declared.Found.the-variants.{At, Nothing}
-use Rattle.laws.proofs.Chain.{Climb, climb-start, climb-more, climb-found, climb-none}
+use Rattle.laws.specs.declared.Found.the-variants.{At}
 use Rattle.bound.specs.Terms.{Terms}
 use Rattle.bound.specs.Bound.{sideL, busy}
+use Rattle.bound.specs.Evaluations.{chain, searched}
 use Rattle.bound.specs.Claims.{Sound}
-use Rattle.bound.proofs.Sides.{sideL-mono, sideL-pos}
+use Rattle.bound.proofs.Evaluations.{Counted, counted-start, counted-none, counted-fits, counted-found, counted-more, next-value, ends-at-l, ends-beyond}
+use Rattle.bound.proofs.Answers.{searched-none}
 use Rattle.terms.specs.declared.Gathered.{Gathered}
+use Rattle.analysis.specs.declared.searches.Ended.{Ended}
 use Rattle.analysis.specs.declared.searches.Own.{Own}
 use Rattle.analysis.specs.private.Stairs.{height, start, Moved}
-use Rattle.analysis.specs.private.Chains.{ownL, MakesUp, RestKept, OwnKept}
+use Rattle.analysis.specs.private.Chains.{ownL, EndsAs, noBound, MakesUp, RestKept, OwnKept}
 use Rattle.terms.specs.Fit.{FitRow}
 use Rattle.analysis.proofs.Climbing.{onward-below, onward-later}
 
@@ -61,27 +63,38 @@ module _ (g : Gathered) where
   own-up : (own : Own) (x y : ℕ) → x ≤ y → OwnKept g own x → OwnKept g own y
   own-up own x y h o = record { below = o .below; later = λ z l. o .later z (omega arith) }
 
--- ---- the chain for L, whoever else is on the channel: x is reached, and i's own stair has come there
-pub record BusyChain (g : Gathered) (r : Terms) (own : Own) (x : ℕ) : Type 0 where
-  pub climb : Climb (sideL r) 1 x
+-- ---- the chain for L, whoever else is on the channel: x is reached after k evaluations, and i's own stair has come there
+pub record BusyChain (g : Gathered) (r : Terms) (own : Own) (k x : ℕ) : Type 0 where
+  pub counted : Counted r k x
   pub mine : OwnKept g own x
 
 module _ {g : Gathered} {r : Terms} {own : Own} where
-  pub busy-start : Sound r → OwnKept g own 0 → BusyChain g r own 1
-  busy-start s o = record { climb = climb-start _ 1 (sideL-pos r s); mine = own-up g own 0 1 (omega arith) o }
+  pub busy-start : Sound r → OwnKept g own 0 → BusyChain g r own 0 1
+  busy-start s o = record { counted = counted-start s; mine = own-up g own 0 1 (omega arith) o }
 
-  pub busy-none : {x : ℕ} → BusyChain g r own x → ticks < x → Nothing ≡ busy r
-  unfolding busy
-  busy-none {x} b h = sym (climb-none (sideL r) 1 ticks x (omega arith) (b .climb))
+  module _ {k x : ℕ} (b : BusyChain g r own k x) where
+    -- beyond the last tick there is none
+    pub busy-beyond : ticks < x → EndsAs r (record { last = x; evaluations = k })
+    busy-beyond h = let e = counted-none (b .counted) h in record { count = e; last = b .counted .value ∙ ap (chain r) e }
 
-  -- a turn evaluates the right side at x: there L is found, or the chain goes on
-  module _ {x y : ℕ} (b : BusyChain g r own x) (e : y ≡ sideL r x) where
-    pub busy-rises : x ≤ y
-    busy-rises = omega (arith, b .climb .rises)
+    -- a turn evaluates the right side at x: there L is found, or the chain goes on
+    module _ {y : ℕ} (e : y ≡ sideL r x) where
+      pub busy-rises : x ≤ y
+      busy-rises = omega (arith, b .counted .climb .rises)
 
-    pub busy-found : y ≡ x → x ≤ ticks → At x ≡ busy r
-    unfolding busy
-    busy-found d h = sym (climb-found (sideL r) 1 ticks x y e d (omega arith) (b .climb))
+      pub busy-fits : x ≤ ticks → k + 1 ≤ ticks
+      busy-fits = counted-fits (b .counted) e
 
-    pub busy-more : {on : Own} → OwnKept g on x → BusyChain g r on y
-    busy-more {on} o = record { climb = climb-more (sideL r) (sideL-mono r) 1 x y e (b .climb); mine = own-up g on x y busy-rises o }
+      pub busy-found : x ≤ ticks → y ≡ x → EndsAs r (record { last = y; evaluations = k + 1 })
+      busy-found h d = let q = counted-found (b .counted) e h d in record { count = q; last = next-value (b .counted) e h ∙ ap (chain r) q }
+
+      pub busy-more : {on : Own} → x ≤ ticks → (y ≡ x → ⊥) → OwnKept g on x → BusyChain g r on (k + 1) y
+      busy-more {on} h d o = record { counted = counted-more (b .counted) e h d; mine = own-up g on x y busy-rises o }
+
+-- ---- what the chain's end says
+module _ {r : Terms} (s : Sound r) {e : Ended} (a : EndsAs r e) where
+  pub ended-none : (D : ℕ) → ticks < e .last → noBound (e .evaluations) ≡ searched r D
+  ended-none D h = searched-none r D (e .evaluations) (ends-beyond r s .1 (omega (arith, a .last))) (a .count)
+
+  pub ended-busy : e .last ≤ ticks → busy r ≡ At (e .last)
+  ended-busy h = ends-at-l r s (e .last) .1 (sym (a .last), h)

@@ -1,4 +1,5 @@
-// The answer of one stream, exactly as the crate bound defines it over the terms of its row.
+// The answer of one stream, and the number of evaluations that the search for its L takes, exactly as the crate bound defines them over the
+// terms of its row.
 //
 // The public function answers for every input: terms that are not within the limits are told so. Nothing is assumed. This crate knows of
 // terms alone, and must not know of plans, labels or files. What it is lent it only reads. Its rooms: stairs (a right side, and how it goes
@@ -9,7 +10,7 @@ mod stairs;
 ghost use mathlib.Core.Path.{_≡_};
 ghost use Rattle.terms.specs.Gathered.{lent};
 ghost use Rattle.analysis.specs.Answered.{answered};
-use bound::Answer;
+use bound::Searched;
 use searches::answer_alone;
 use searches::answer_among;
 use terms::Gathered;
@@ -19,10 +20,10 @@ pub enum Answered {
     // The terms are not within the limits.
     Outside,
     // They are, and this is what the rule gives for them.
-    Exact(Answer),
+    Exact(Searched),
 }
 
-// The answer of a row's terms for a deadline.
+// The answer of a row's terms for a deadline, with the number of evaluations that it took.
 pub fn answer<'a>(
     g: Gathered,
     costs: &'a [u64],

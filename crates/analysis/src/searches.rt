@@ -1,6 +1,7 @@
 // The searches of a row: the busy period L, w(q) for each instance, and the largest term; and the answer that they give.
 //
-// The search for L is the plain chain from 1, one evaluation of the right side a turn; all searches of a row for w climb once.
+// The search for L is the plain chain from 1, one evaluation of the right side a turn, and the turns are counted; all searches of a row for
+// w climb once.
 ghost use mathlib.Core.Path.{_≡_};
 ghost use Prim.Native.Nat.{_+_, _*_, _^_, _≤_, _<_};
 ghost use lib.IntN.{pos, _-ℤ_};
@@ -8,18 +9,19 @@ ghost use Rattle.names.specs.Limits.{ticks};
 ghost use Rattle.laws.specs.Lists.{ceil};
 ghost use Rattle.laws.specs.declared.Found.the-variants.{At};
 ghost use Rattle.bound.specs.Bound as rule;
+ghost use Rattle.bound.specs.Evaluations.{searched};
 ghost use Rattle.terms.specs.Gathered.{lent, termsOf};
 ghost use Rattle.terms.specs.Fit.{FitRow, Fit};
 ghost use Rattle.analysis.specs.private.Stairs.{fewStairs, Room, Stand, Near};
-ghost use Rattle.analysis.specs.private.Chains.{OwnKept, ownL, aloneTerms, Bounded, side, Settled, largerOf};
+ghost use Rattle.analysis.specs.private.Chains.{OwnKept, ownL, aloneTerms, EndsAs, noBound, Bounded, side, Settled, largerOf};
 use crate::stairs::LOT;
 use crate::stairs::START;
 use crate::stairs::climbed;
 use crate::stairs::periods_past;
 use crate::stairs::start;
 use bound::Answer;
+use bound::Searched;
 use bound::Verdict;
-use laws::Found;
 use names::FEW;
 use names::SOURCES;
 use names::TICKS;
@@ -60,25 +62,39 @@ fn own_at(g: Gathered, own: Own, x: u64) -> Own
     Own { edge, sum }
 }
 
-// L where nobody else is on the channel: the chain from 1, with i's own stair alone.
-fn busy_alone(g: Gathered) -> Found
+// Where the chain for L ended: its last value, which is L or beyond the last tick, and how many evaluations there were.
+struct Ended {
+    last: u64,
+    evaluations: u64,
+}
+
+// The chain for L where nobody else is on the channel: from 1, with i's own stair alone.
+fn busy_alone(g: Gathered) -> Ended
     requires { ⌜ FitRow g ⌝ }
-    ensures { λ r. ⌜ r ≡ rule.busy (aloneTerms g) ⌝ }
+    ensures { λ r. ⌜ EndsAs (aloneTerms g) r ⌝ }
 {
     let mut own = own_start(g);
     let mut x = FIRST;
+    let mut evaluations: u64 = 0;
     while x <= TICKS {
         own = own_at(g, own, x);
         let y = g.blocking + own.sum;
+        evaluations += 1;
         if y == x {
-            return Found::At(x);
+            return Ended {
+                last: y,
+                evaluations,
+            };
         }
         x = y;
     }
-    Found::Nothing
+    Ended {
+        last: x,
+        evaluations,
+    }
 }
 
-// L: the chain from 1, one evaluation of the right side a turn. The stairs come before i's own: measured, that is faster.
+// The chain for L: from 1, one evaluation of the right side a turn. The stairs come before i's own: measured, that is faster.
 fn busy_period<'a>(
     g: Gathered,
     costs: &'a [u64],
@@ -86,26 +102,34 @@ fn busy_period<'a>(
     jitters: &'a [u64],
     edges: &mut [u64],
     nearest: &mut [u64],
-) -> Found
+) -> Ended
     requires { ⌜ Fit (lent g (now costs) (now periods) (now jitters)) ⌝ }
     requires { ⌜ Room (g .sources + g .urgent) (now edges) (now nearest) ⌝ }
-    ensures { λ r. ⌜ r ≡ rule.busy (termsOf (lent g (now (costs .entry)) (now (periods .entry)) (now (jitters .entry)))) ⌝ }
+    ensures { λ r. ⌜ EndsAs (termsOf (lent g (now (costs .entry)) (now (periods .entry)) (now (jitters .entry)))) r ⌝ }
 {
     let n = g.sources + g.urgent;
     start(jitters, g.sources, g.urgent, 0, 0, edges, nearest);
     let mut own = own_start(g);
     let mut rest: u64 = 0;
     let mut x = FIRST;
+    let mut evaluations: u64 = 0;
     while x <= TICKS {
         rest = climbed(x + START, n, costs, periods, edges, nearest, rest);
         own = own_at(g, own, x);
         let y = g.blocking + own.sum + rest;
+        evaluations += 1;
         if y == x {
-            return Found::At(x);
+            return Ended {
+                last: y,
+                evaluations,
+            };
         }
         x = y;
     }
-    Found::Nothing
+    Ended {
+        last: x,
+        evaluations,
+    }
 }
 
 // The least fixed point from `from` on of base + sum + what the stairs rise by: w(q), once it is known not to be below.
@@ -251,26 +275,43 @@ fn judged(bound: u64, instance: u64, deadline: u64) -> Answer
     }
 }
 
+// None: what there is to say after so many evaluations.
+fn no_bound(evaluations: u64) -> Searched
+    ensures { λ r. ⌜ r ≡ noBound evaluations ⌝ }
+{
+    let answer = Answer {
+        verdict: Verdict::None,
+        bound: 0,
+        instance: 0,
+    };
+    Searched {
+        answer,
+        evaluations,
+        x: TICKS,
+    }
+}
+
 // The answer where nobody else is on the channel. The largest term is the first: an instance then waits for B alone, or for those
 // of its own before it, and these go faster than new ones come, or there were no busy period.
-pub(crate) fn answer_alone(g: Gathered, deadline: u64) -> Answer
+pub(crate) fn answer_alone(g: Gathered, deadline: u64) -> Searched
     requires { ⌜ FitRow g ⌝ }
-    ensures { λ r. ⌜ r ≡ rule.answer (aloneTerms g) deadline ⌝ }
+    ensures { λ r. ⌜ r ≡ searched (aloneTerms g) deadline ⌝ }
 {
-    let found = busy_alone(g);
-    let Found::At(_) = found else {
-        return Answer {
-            verdict: Verdict::None,
-            bound: 0,
-            instance: 0,
-        };
-    };
+    let ended = busy_alone(g);
+    if TICKS < ended.last {
+        return no_bound(ended.evaluations);
+    }
     let first = term(g.jitter + g.blocking + g.last, 0);
-    judged(first as u64, 0, deadline)
+    let answer = judged(first as u64, 0, deadline);
+    Searched {
+        answer,
+        evaluations: ended.evaluations,
+        x: ended.last,
+    }
 }
 
 // The answer among other streams and noise sources, in rooms that are set before they are read.
-fn searched<'a>(
+fn search<'a>(
     g: Gathered,
     costs: &'a [u64],
     periods: &'a [u64],
@@ -278,21 +319,22 @@ fn searched<'a>(
     edges: &mut [u64],
     nearest: &mut [u64],
     deadline: u64,
-) -> Answer
+) -> Searched
     requires { ⌜ Fit (lent g (now costs) (now periods) (now jitters)) ⌝ }
     requires { ⌜ Room (g .sources + g .urgent) (now edges) (now nearest) ⌝ }
-    ensures { λ r. ⌜ r ≡ rule.answer (termsOf (lent g (now (costs .entry)) (now (periods .entry)) (now (jitters .entry)))) deadline ⌝ }
+    ensures { λ r. ⌜ r ≡ searched (termsOf (lent g (now (costs .entry)) (now (periods .entry)) (now (jitters .entry)))) deadline ⌝ }
 {
-    let found = busy_period(g, costs, periods, jitters, edges, nearest);
-    let Found::At(l) = found else {
-        return Answer {
-            verdict: Verdict::None,
-            bound: 0,
-            instance: 0,
-        };
-    };
-    let worst = largest_term(g, l, costs, periods, jitters, edges, nearest);
-    judged(worst.bound, worst.instance, deadline)
+    let ended = busy_period(g, costs, periods, jitters, edges, nearest);
+    if TICKS < ended.last {
+        return no_bound(ended.evaluations);
+    }
+    let worst = largest_term(g, ended.last, costs, periods, jitters, edges, nearest);
+    let answer = judged(worst.bound, worst.instance, deadline);
+    Searched {
+        answer,
+        evaluations: ended.evaluations,
+        x: ended.last,
+    }
 }
 
 // Few stairs have small rooms.
@@ -302,14 +344,14 @@ fn answer_few<'a>(
     periods: &'a [u64],
     jitters: &'a [u64],
     deadline: u64,
-) -> Answer
+) -> Searched
     requires { ⌜ Fit (lent g (now costs) (now periods) (now jitters)) ⌝ }
     requires { ⌜ g .sources + g .urgent ≤ fewStairs ⌝ }
-    ensures { λ r. ⌜ r ≡ rule.answer (termsOf (lent g (now (costs .entry)) (now (periods .entry)) (now (jitters .entry)))) deadline ⌝ }
+    ensures { λ r. ⌜ r ≡ searched (termsOf (lent g (now (costs .entry)) (now (periods .entry)) (now (jitters .entry)))) deadline ⌝ }
 {
     let mut edges = [0; FEW_STAIRS];
     let mut nearest = [0; FEW_STAIRS / LOT];
-    searched(
+    search(
         g,
         costs,
         periods,
@@ -327,16 +369,16 @@ pub(crate) fn answer_among<'a>(
     periods: &'a [u64],
     jitters: &'a [u64],
     deadline: u64,
-) -> Answer
+) -> Searched
     requires { ⌜ Fit (lent g (now costs) (now periods) (now jitters)) ⌝ }
-    ensures { λ r. ⌜ r ≡ rule.answer (termsOf (lent g (now (costs .entry)) (now (periods .entry)) (now (jitters .entry)))) deadline ⌝ }
+    ensures { λ r. ⌜ r ≡ searched (termsOf (lent g (now (costs .entry)) (now (periods .entry)) (now (jitters .entry)))) deadline ⌝ }
 {
     if g.sources + g.urgent <= FEW_STAIRS {
         return answer_few(g, costs, periods, jitters, deadline);
     }
     let mut edges = [0; STAIRS];
     let mut nearest = [0; STAIRS / LOT];
-    searched(
+    search(
         g,
         costs,
         periods,

@@ -4,7 +4,7 @@ use borrow.Author.Tests.{not-true, not-false}
 use mathlib.Core.Path.{_≡_, sym, ap, _∙_}
 use mathlib.Core.Bool.{true}
 use native.Mathlib.Omega.{arith}
-use Rattle.bound.specs.Bound.{answer}
+use Rattle.bound.specs.Evaluations.{searched}
 use Rattle.analysis.specs.declared.Answered.the-variants.{Exact}
 use Rattle.terms.specs.Gathered.{Lent, lent, fits}
 use Rattle.terms.proofs.Fit.{fit-known}
@@ -33,7 +33,7 @@ returns-2 c =
     let t = c .before in
     let e = t .before .before in
     let none = t .if2 .taken in
-    simp (known e) (ap Exact (c .answer-alone .ensures ∙ ap (λ r. answer r (e .before .before .before .before .before .args .deadline)) (sym (alone-terms (given e) (omega (arith, none)) (omega (arith, none))))))
+    simp (known e) (ap Exact (c .answer-alone .ensures ∙ ap (λ r. searched r (e .before .before .before .before .before .args .deadline)) (sym (alone-terms (given e) (omega (arith, none)) (omega (arith, none))))))
 
 answer-among-requires : tie.Need-answer-among-requires
 answer-among-requires c κs = fit-known _ (known (c .before .before))

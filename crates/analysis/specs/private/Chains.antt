@@ -8,9 +8,13 @@ use Rattle.names.specs.Limits.{ticks}
 use Rattle.laws.specs.Lists.{ceil}
 use Rattle.laws.specs.Search.{Least}
 use Rattle.bound.specs.Terms.{Terms}
+use Rattle.bound.specs.declared.Verdict.the-variants.{None}
+use Rattle.bound.specs.declared.Searched.{Searched}
+use Rattle.bound.specs.Evaluations.{chain, evaluations}
 use Rattle.bound.specs.Bound.{demand, E}
 use Rattle.terms.specs.declared.Gathered.{Gathered}
 use Rattle.terms.specs.Gathered.{termsWith}
+use Rattle.analysis.specs.declared.searches.Ended.{Ended}
 use Rattle.analysis.specs.declared.searches.Own.{Own}
 use Rattle.analysis.specs.declared.searches.Reached.{Reached}
 use Rattle.analysis.specs.private.Stairs.{height, start, far, Stairs, Edges}
@@ -41,6 +45,15 @@ pub record RestKept (costs periods edges : List ℕ) (n : ℕ) (rest : ℕ → �
 pub record OwnKept (g : Gathered) (own : Own) (x : ℕ) : Type 0 where
   pub below : own .edge < far
   pub later : (y : ℕ) → x ≤ y → own .sum + ceil (y + start - own .edge) (g .period) * g .cost ≡ ownL g y
+
+-- where the chain for L ended, and how many evaluations it took
+pub record EndsAs (r : Terms) (e : Ended) : Type 0 where
+  pub last : e .last ≡ chain r (evaluations r)
+  pub count : e .evaluations ≡ evaluations r
+
+-- what is said of a stream that is none
+abbrev pub noBound : ℕ → Searched
+noBound n = record { answer = record { verdict = None; bound = 0; instance = 0 }; evaluations = n; x = ticks }
 
 -- a right side whose rest is a sum and what the stairs rise by
 abbrev pub side : List ℕ → List ℕ → List ℕ → ℕ → ℕ → ℕ → ℕ → ℕ

@@ -1,25 +1,30 @@
--- The search finds what the rule says, and alone on the channel the first instance is the worst. From its term nothing is subtracted: it is not below zero,
+-- The chain ends where the rule says, and alone on the channel the first instance is the worst. From its term nothing is subtracted: it is not below zero,
 -- and the cast back keeps it.
 use borrow.Author.Needs.{needs}
 use mathlib.Core.Path.{_≡_, refl, sym, ap, _∙_}
 use Prim.Native.Nat.{_+_}
 use native.Mathlib.Nat.{add-zero}
+use native.Mathlib.Omega.{arith}
 use lib.IntN.{pos, natAbs}
 use mir.Syntax.{w64}
 use mir.Val.{toZ, ofZ, SFits}
 use mir.Facts.{toZ-ofZ, fits-natAbs}
 use Rattle.bound.proofs.Alone.{alone-bound, alone-is-first}
-use Rattle.bound.proofs.Answers.{answer-none, answer-bound}
+use Rattle.bound.proofs.Answers.{answer-bound, searched-bound}
 use Rattle.terms.specs.declared.Gathered.{Gathered}
 use Rattle.terms.proofs.Fit.{fit-sound}
+use Rattle.analysis.proofs.Chains.{ended-none, ended-busy}
 use Rattle.analysis.proofs.searches.answer_alone.Statement.{statement}
 use Rattle.analysis.proofs.searches.answer_alone.Tie as tie
 
-enum-told : tie.Need-enum-told
-enum-told c = search needs
+-- the chain's end, seen from where it is found to be L
+abbrev ended : tie.After-term → tie.After-busy-alone
+ended c = c .before .before .before .before .before
 
 returns : tie.Need-returns
-returns c = answer-none _ _ (sym (c .before .before .busy-alone .ensures) ∙ c .enum-told2 .given .1)
+returns c =
+    let b = c .before .before .before in
+    c .no-bound .ensures ∙ ended-none (fit-sound _ _ _ (b .before .pre)) (b .busy-alone .ensures) _ (c .before .if1 .taken)
 
 -- the first term, from which 0 is subtracted
 module _ (c : tie.After-term) where
@@ -27,7 +32,7 @@ module _ (c : tie.After-term) where
   fits = record { sfits = c .term .ok }
 
   abbrev g : Gathered
-  g = c .before .before .before .before .before .before .args .g
+  g = ended c .before .args .g
 
   first : toZ w64 (ofZ w64 (c .term .result)) ≡ pos (g .jitter + g .blocking + g .last)
   first = toZ-ofZ fits ∙ c .term .ensures ∙ ap pos (add-zero (g .jitter + g .blocking + g .last))
@@ -37,15 +42,17 @@ cast-judged c = (rw (first c) tt, rw (toZ-ofZ (fits c)) (fits-natAbs tt (fits c)
 
 returns-2 : tie.Need-returns-2
 returns-2 c =
-    let t = c .before .before .before .before in
-    let b = t .before .before in
-    let found = sym (b .busy-alone .ensures) ∙ t .enum-told .given .1 in
+    let t = c .before in
+    let b = ended t in
     let sound = fit-sound _ _ _ (b .before .pre) in
-    c .judged .ensures
-    ∙ answer-bound _ _ _ _ _ found (ap natAbs (first (c .before)) ∙ alone-bound _ sound _ found refl refl) (sym (alone-is-first _ sound _ found refl refl))
+    let found = ended-busy sound (b .busy-alone .ensures) (omega (arith, t .before .before .before .if1 .left)) in
+    searched-bound _ _ _ _ _ found
+    (c .judged .ensures
+    ∙ answer-bound _ _ _ _ _ found (ap natAbs (first t) ∙ alone-bound _ sound _ found refl refl) (sym (alone-is-first _ sound _ found refl refl)))
+    (b .busy-alone .ensures .count)
 
 pub answer-alone-spec : {M : Type 1} → statement M
 answer-alone-spec =
     tie.close
-    (tie.spec (λ c κs. search needs) enum-told (λ c. search needs) returns (λ c. search needs) (λ c. search needs) (λ c κs. search needs)
+    (tie.spec (λ c κs. search needs) (λ c κs. search needs) returns (λ c. search needs) (λ c. search needs) (λ c κs. search needs)
     cast-judged (λ c κs. search needs) returns-2)

@@ -14,12 +14,12 @@ add-if1 c = let f = entry c .pre .row in omega (arith, f .few, f .quiet)
 answer-few-requires : tie.Need-answer-few-requires
 answer-few-requires c κs = (entry (c .before) .pre, c .if1 .taken)
 
-searched-requires : tie.Need-searched-requires
-searched-requires c κs =
+search-requires : tie.Need-search-requires
+search-requires c κs =
     let f = entry (c .before .before .before) .pre in
     (f, record { each = omega (arith, f .row .few, f .row .quiet); lots = omega (arith, f .row .few, f .row .quiet) })
 
 pub answer-among-spec : {M : Type 1} → statement M
 answer-among-spec =
     tie.close
-    (tie.spec add-if1 answer-few-requires (λ c. search needs) (λ c. search needs) (λ c. search needs) searched-requires (λ c. search needs))
+    (tie.spec add-if1 answer-few-requires (λ c. search needs) (λ c. search needs) (λ c. search needs) search-requires (λ c. search needs))

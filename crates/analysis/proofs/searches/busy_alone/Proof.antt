@@ -4,7 +4,7 @@ use Prim.Native.Nat.{_+_, _-_, _^_}
 use native.Mathlib.Omega.{arith}
 use Rattle.bound.specs.Bound.{sideL}
 use Rattle.analysis.specs.private.Chains.{aloneTerms}
-use Rattle.analysis.proofs.Chains.{BusyChain, busy-start, busy-rises, busy-found, busy-more, busy-none}
+use Rattle.analysis.proofs.Chains.{BusyChain, busy-start, busy-rises, busy-fits, busy-found, busy-more, busy-beyond}
 use Rattle.terms.proofs.Fit.{fit-sound}
 use Rattle.terms.proofs.Fit.{alone-fits}
 use Rattle.analysis.proofs.Sides.{sideL-alone}
@@ -12,10 +12,10 @@ use Rattle.analysis.proofs.searches.busy_alone.Statement.{statement}
 use Rattle.analysis.proofs.searches.busy_alone.Tie as tie
 
 abbrev Inv-loop : tie.InvT-loop
-Inv-loop g own₀ x₀ own x = BusyChain g (aloneTerms g) own x
+Inv-loop g own₀ x₀ evaluations₀ own x evaluations = BusyChain g (aloneTerms g) own evaluations x
 
 abbrev μ-loop : tie.MeasureT-loop
-μ-loop g own₀ x₀ own x = 2 ^ 32 - x
+μ-loop g own₀ x₀ evaluations₀ own x evaluations = 2 ^ 32 - x
 
 own-start-requires : tie.Need-own-start-requires Inv-loop μ-loop
 own-start-requires c κs = c .pre
@@ -43,10 +43,15 @@ add-y c =
 evaluated : (c : tie.After-own-at Inv-loop μ-loop) → let g = begun (round c) .args .g in g .blocking + c .own-at .result .sum ≡ sideL (aloneTerms g) (round c .loop .x)
 evaluated c = omega (arith, c .own-at .ensures .0, sideL-alone (begun (round c) .args .g) (round c .loop .x))
 
+add-evaluations : tie.Need-add-evaluations Inv-loop μ-loop
+add-evaluations c =
+    let d = c .before .before in
+    omega (arith, busy-fits (round d .loop .inv) (evaluated d) (d .before .loop-test .taken))
+
 returns : tie.Need-returns Inv-loop μ-loop
 returns c =
     let d = c .before .before .before in
-    busy-found (round d .loop .inv) (evaluated d) (c .if1 .taken) (d .before .loop-test .taken)
+    busy-found (round d .loop .inv) (evaluated d) (d .before .loop-test .taken) (c .if1 .taken)
 
 loop-less : tie.Need-loop-less Inv-loop μ-loop
 loop-less c =
@@ -54,12 +59,14 @@ loop-less c =
     omega (arith, busy-rises (round d .loop .inv) (evaluated d), d .before .loop-test .taken, c .if1 .left)
 
 loop-again : tie.Need-loop-again Inv-loop μ-loop
-loop-again c = let d = c .before .before .before in busy-more (round d .loop .inv) (evaluated d) (d .own-at .ensures .1)
+loop-again c =
+    let d = c .before .before .before in
+    busy-more (round d .loop .inv) (evaluated d) (d .before .loop-test .taken) (c .if1 .left) (d .own-at .ensures .1)
 
 returns-2 : tie.Need-returns-2 Inv-loop μ-loop
-returns-2 c = busy-none (c .before .loop .inv) (omega arith)
+returns-2 c = busy-beyond (c .before .loop .inv) (omega arith)
 
 pub busy-alone-spec : {M : Type 1} → statement M
 busy-alone-spec =
     tie.close
-    (tie.spec Inv-loop μ-loop own-start-requires loop-holds own-at-requires add-y returns loop-less loop-again returns-2)
+    (tie.spec Inv-loop μ-loop own-start-requires loop-holds own-at-requires add-y add-evaluations returns loop-less loop-again returns-2)

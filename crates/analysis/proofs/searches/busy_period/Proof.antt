@@ -9,7 +9,7 @@ use Rattle.bound.specs.Bound.{demand, E, sideL}
 use Rattle.terms.specs.Gathered.{Lent, lent, termsOf}
 use Rattle.analysis.specs.private.Stairs.{Near}
 use Rattle.analysis.specs.private.Chains.{ownL, restL, MakesUp, RestKept}
-use Rattle.analysis.proofs.Chains.{kept-start, kept-now, kept-on, kept-up, BusyChain, busy-start, busy-rises, busy-found, busy-more, busy-none}
+use Rattle.analysis.proofs.Chains.{kept-start, kept-now, kept-on, kept-up, BusyChain, busy-start, busy-rises, busy-fits, busy-found, busy-more, busy-beyond}
 use Rattle.terms.proofs.Fit.{fit-sound, sideL-fits}
 use Rattle.analysis.proofs.Sides.{sideL-parts}
 use Rattle.analysis.proofs.Starts.{laid}
@@ -17,12 +17,12 @@ use Rattle.analysis.proofs.searches.busy_period.Statement.{statement}
 use Rattle.analysis.proofs.searches.busy_period.Tie as tie
 
 abbrev Inv-loop : tie.InvT-loop
-Inv-loop g costs periods jitters edges₀ nearest₀ n own₀ rest₀ x₀ edges nearest own rest x =
-    BusyChain g (termsOf (lent g costs periods jitters)) own x × RestKept costs periods edges n (restL (termsOf (lent g costs periods jitters))) x rest × Near edges nearest n
+Inv-loop g costs periods jitters edges₀ nearest₀ n own₀ rest₀ x₀ evaluations₀ edges nearest own rest x evaluations =
+    BusyChain g (termsOf (lent g costs periods jitters)) own evaluations x × RestKept costs periods edges n (restL (termsOf (lent g costs periods jitters))) x rest × Near edges nearest n
     × (length edges ≡ length edges₀) × (length nearest ≡ length nearest₀)
 
 abbrev μ-loop : tie.MeasureT-loop
-μ-loop g costs periods jitters edges₀ nearest₀ n own₀ rest₀ x₀ edges nearest own rest x = 2 ^ 32 - x
+μ-loop g costs periods jitters edges₀ nearest₀ n own₀ rest₀ x₀ evaluations₀ edges nearest own rest x evaluations = 2 ^ 32 - x
 
 abbrev given : tie.Start Inv-loop μ-loop → Lent
 given s = lent (s .args .g) (s .args .costs .now) (s .args .periods .now) (s .args .jitters .now)
@@ -126,11 +126,17 @@ evaluated c =
     let d = evaluation (c .before) in
     omega (arith, c .own-at .ensures .0, theirs d, sideL-parts (given (begun (round d))) (round d .loop .x))
 
+add-evaluations : tie.Need-add-evaluations Inv-loop μ-loop
+add-evaluations c =
+    let o = c .before .before in
+    let d = evaluation (o .before) in
+    omega (arith, busy-fits (round d .loop .inv .0) (evaluated o) (turn d .loop-test .taken))
+
 returns : tie.Need-returns Inv-loop μ-loop
 returns c =
     let o = c .before .before .before in
     let d = evaluation (o .before) in
-    busy-found (round d .loop .inv .0) (evaluated o) (c .if1 .taken) (turn d .loop-test .taken)
+    busy-found (round d .loop .inv .0) (evaluated o) (turn d .loop-test .taken) (c .if1 .taken)
 
 loop-less : tie.Need-loop-less Inv-loop μ-loop
 loop-less c =
@@ -143,7 +149,7 @@ loop-again c =
     let o = c .before .before .before in
     let d = evaluation (o .before) in
     let b = round d .loop .inv .0 in (
-      busy-more b (evaluated o) (o .own-at .ensures .1),
+      busy-more b (evaluated o) (turn d .loop-test .taken) (c .if1 .left) (o .own-at .ensures .1),
       kept-up _ _ _ _ _ _ _ _ (busy-rises b (evaluated o)) (came d),
       d .climbed .ensures .1 .1,
       d .climbed .kept .1 .1 .1 .1 .0 ∙ round d .loop .inv .3,
@@ -163,11 +169,11 @@ same-length-2 : tie.Need-same-length-2 Inv-loop μ-loop
 same-length-2 c = let d = evaluation (c .before .before .before .before) in d .climbed .kept .1 .1 .1 .1 .1 .0 ∙ rooms (round d) .1
 
 returns-2 : tie.Need-returns-2 Inv-loop μ-loop
-returns-2 c = busy-none (c .before .loop .inv .0) (omega arith)
+returns-2 c = busy-beyond (c .before .loop .inv .0) (omega arith)
 
 pub busy-period-spec : {M : Type 1} → statement M
 busy-period-spec =
     tie.close
     (tie.spec Inv-loop μ-loop add-n start-requires own-start-requires loop-holds (λ c. search needs) climbed-requires
-    own-at-requires add-y add-y-2 same-length same-length-2 returns loop-less loop-again (λ c. rooms (c .before) .0)
+    own-at-requires add-y add-y-2 add-evaluations same-length same-length-2 returns loop-less loop-again (λ c. rooms (c .before) .0)
     (λ c. rooms (c .before) .1) returns-2)
