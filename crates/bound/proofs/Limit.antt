@@ -1,12 +1,13 @@
 -- The number of evaluations is at most floor(X / c) + 1: where the chain rises it rises by c at least, since its right side is a sum of costs. Assumes nothing.
-use mathlib.Core.Path.{_≡_, sym, ap, _∙_}
+use mathlib.Core.Path.{_≡_, refl, sym, ap, _∙_}
 use mathlib.Core.List.{List, [], _∷_}
 use mathlib.Core.Logic.{⊎-elim}
 use Prim.Native.Nat.{ℕ, zero, suc, _+_, _-_, _*_, _/_, _≤_}
-use native.Mathlib.Nat.{le-refl, le-trans, le-div-iff-mul-le, suc-mul, zero-mul, one-mul}
+use native.Mathlib.Nat.{le-refl, le-trans, le-div-iff-mul-le, suc-mul, zero-mul, one-mul, div-le-self}
 use native.Mathlib.Omega.{arith}
 use Rattle.names.specs.Limits.{ticks}
 use Rattle.laws.specs.Lists.{sumOf, smallestOf}
+use Rattle.laws.specs.declared.Found.{Found, the-variants.At, the-variants.Nothing}
 use Rattle.laws.proofs.Round.{ceil-mono}
 use Rattle.laws.proofs.Lists.{sum-mono}
 use Rattle.laws.proofs.Steps.{Steps, steps-never, steps-add, steps-times}
@@ -14,11 +15,11 @@ use Rattle.bound.specs.Terms.{Share, Terms}
 use Rattle.bound.specs.Bound.{E, demand, sideL, busy}
 use Rattle.bound.specs.Claims.{Sound}
 use Rattle.bound.specs.Evaluations.{chain, evaluations, orTicks, X, c, limit, Paid, EvaluationsWithin}
-use Rattle.bound.proofs.Sides.{sideL-mono, sideL-pos, demand-own, own-first}
+use Rattle.bound.proofs.Sides.{sideL-mono, sideL-pos, demand-own, own-first, busy-is-least}
 use Rattle.bound.proofs.Evaluations.{Counted, End, found, beyond, ends, found-says, beyond-some, beyond-says}
 
 -- the smallest is no more than the first
-smallest-first : {A : Type 0} (f : A → ℕ) (x : A) (l : List A) → smallestOf f x l ≤ f x
+pub smallest-first : {A : Type 0} (f : A → ℕ) (x : A) (l : List A) → smallestOf f x l ≤ f x
 unfolding smallestOf
 smallest-first f x [] = omega arith
 smallest-first f x (y ∷ l) = omega arith
@@ -85,3 +86,12 @@ module _ (r : Terms) (p : Paid r) where
 pub evaluations-within : EvaluationsWithin
 unfolding limit X
 evaluations-within r s p = within r p s (ends r s)
+
+-- the limit has ten digits at most, whatever the terms are
+pub limit-fits : (r : Terms) → limit r ≤ ticks + 1
+unfolding limit X
+limit-fits r = go (busy r) refl
+  where
+    go : (f : Found) → busy r ≡ f → orTicks f / c r + 1 ≤ ticks + 1
+    go (At L) e = omega (arith, div-le-self L (c r), busy-is-least r L .0 e .0)
+    go Nothing e = omega (arith, div-le-self ticks (c r))

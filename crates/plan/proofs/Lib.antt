@@ -1,3 +1,4 @@
 pub mod Rules
 pub mod Letters
+pub mod Evaluations
 pub mod Places

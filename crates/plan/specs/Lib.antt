@@ -1,3 +1,4 @@
 pub mod Plan
 pub mod Rules
 pub mod Claims
+pub mod Evaluations
