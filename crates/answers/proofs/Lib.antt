@@ -1,5 +1,6 @@
 pub mod Gather
 pub mod Terms
+pub mod Cheapest
 pub mod Places
 pub mod Outcome
 pub mod Values

@@ -14,10 +14,11 @@ use Rattle.laws.specs.Ranks.{rank}
 use Rattle.laws.proofs.Lists.{largest-those, largest-less, largest-all, rows-same, every-all, sum-rows, sumTo-same}
 use Rattle.laws.proofs.Ranks.{rank-below, rank-less, rank-apart, rank-onto, sum-in-order, sum-front, sum-map-those, largest-le, largest-same, largest-part}
 use Rattle.bound.specs.Terms as bound
-use Rattle.bound.specs.Bound.{demand, answer}
+use Rattle.bound.specs.Bound.{demand}
+use Rattle.bound.specs.Evaluations.{searched}
 use Rattle.bound.specs.Claims.{Sound}
-use Rattle.bound.specs.declared.Answer.{Answer}
-use Rattle.bound.proofs.Same.{instead, same-answer}
+use Rattle.bound.specs.declared.Searched.{Searched}
+use Rattle.bound.proofs.Same.{instead, same-searched}
 use Rattle.terms.specs.declared.Gathered.{Gathered}
 use Rattle.analysis.specs.declared.Answered.{Answered, the-variants.Outside, the-variants.Exact}
 use Rattle.terms.specs.Gathered.{Lent, lent, termsOf, shareAt, cost, shareFits, sourceFits, rowFits, fits}
@@ -279,15 +280,15 @@ module _ (ws : List ℕ) (n m : ℕ) (over : Overheads) (fine : PlacesWithin ws 
       row-terms =
           record {
             fits = terms-fit;
-            same = λ D. ap (λ r. answer r D) terms-but ∙ same-answer (rule.terms p i) (termsOf given .urgent) same-urgent D;
+            same = λ D. ap (λ r. searched r D) terms-but ∙ same-searched (rule.terms p i) (termsOf given .urgent) same-urgent D;
           }
 
 -- ---- the analysis' answer to such terms is the rules' answer
-pub answered-is : (t : Lent) (D : ℕ) → fits t ≡ true → answered t D ≡ Exact (answer (termsOf t) D)
+pub answered-is : (t : Lent) (D : ℕ) → fits t ≡ true → answered t D ≡ Exact (searched (termsOf t) D)
 answered-is t D f = simp f
 
-pub row-is : (r : Answered) (a b : Answer) → r ≡ Exact a → r ≡ Exact b → a ≡ b
+pub row-is : (r : Answered) (a b : Searched) → r ≡ Exact a → r ≡ Exact b → a ≡ b
 row-is r a b p q = cc
 
-pub never-outside : (r : Answered) (a : Answer) → r ≡ Outside → r ≡ Exact a → ⊥
+pub never-outside : (r : Answered) (a : Searched) → r ≡ Outside → r ≡ Exact a → ⊥
 never-outside r a p q = let z : _≡_ {A = ℕ} 0 1 = cc in omega arith

@@ -1,31 +1,57 @@
 -- The outcome of a sheet, by its counts and its plan. Assumes nothing.
 use mathlib.Core.Path.{_≡_, sym, ap, _∙_}
-use mathlib.Core.List.{_++_}
-use Prim.Native.Nat.{_*_}
+use mathlib.Core.List.{List, _++_, map, map-map}
+use Prim.Native.Nat.{ℕ, _*_, _≤_}
 use lib.ListN.{length, drop, length-map}
-use Rattle.row_words.specs.RowWords.{wordsPerRow, answersIn}
-use Rattle.row_words.proofs.RowWords.{rows-read-back}
+use Rattle.bound.specs.Evaluations.{searched}
+use Rattle.row_words.specs.RowWords.{wordsPerRow, wordsPerWait, answersIn, evaluationsIn, waitsIn}
+use Rattle.row_words.proofs.RowWords.{rows-read-back, waits-read-back}
 use Rattle.plan.specs.Plan.{planOf}
-use Rattle.plan.specs.Rules.{rowAnswer, answers}
+use Rattle.plan.specs.declared.Sheet.{Sheet}
+use Rattle.plan.specs.declared.Stream.{Stream}
+use Rattle.plan.specs.Evaluations.{rowSearched, searches, rowWait, waits}
 use Rattle.carried.specs.declared.Edition.the-variants.{Three}
 use Rattle.carried.specs.Carried.{plainly}
 use Rattle.carried.proofs.Plans.{meant-plainly}
 use Rattle.checks.specs.Checks.{checkedOf}
 use Rattle.checks.proofs.Fine.{fine-within}
-use Rattle.answers.specs.Answers.{answerWords, answerWith, answerOf, RowsAnswered, SheetAnswered}
+use Rattle.judge.specs.declared.Checked.the-variants.{Fine}
+use Rattle.answers.specs.declared.Told.{Told, the-variants.Answers, the-variants.Waits}
+use Rattle.answers.specs.Answers.{answerWords, toldWords, perRow, laidIn, answerWith, answerOf, RowsAnswered, WaitsAnswered, SheetAnswered}
 use Rattle.answers.proofs.Outcome as outcome
 
+-- the words of a sheet that is fine are its plan's, and there are as many streams as it counts
+module _ (s : Sheet) (e : checkedOf s ≡ Fine) where
+  words-of : (told : Told) (out : List ℕ) → perRow told * s .count ≤ length out → answerOf told s out .1 ≡ laidIn told (planOf s) (s .count) out
+  unfolding checkedOf answerOf
+  words-of told out h =
+      ap (λ o. o .1) (outcome.words-are told Three (s .count) (s .sources) (plainly (planOf s)) out e h)
+      ∙ ap (λ p. laidIn told p (s .count) out) (meant-plainly (planOf s))
+
+  as-many : {A : Type 0} (f : Stream → A) → length (map f (planOf s .streams)) ≡ s .count
+  as-many f = length-map (planOf s .streams) f ∙ fine-within s e .1
+
 pub rows-answered : RowsAnswered
-unfolding checkedOf answerOf
+unfolding searched
 rows-answered s out e h =
-    let n : length (answers (planOf s)) ≡ s .count = length-map (planOf s .streams) (rowAnswer (planOf s)) ∙ fine-within s e .1 in
+    let p = planOf s in
     let after = drop (wordsPerRow * s .count) out in
-    ap (λ o. answersIn (s .count) (o .1)) (outcome.words-are Three (s .count) (s .sources) (plainly (planOf s)) out e h)
-    ∙ ap (λ p. answersIn (s .count) (answerWords p ++ after)) (meant-plainly (planOf s))
-    ∙ ap (λ j. answersIn j (answerWords (planOf s) ++ after)) (sym n)
-    ∙ rows-read-back (answers (planOf s)) after
+    let (a, b) = rows-read-back (searches p) after in
+    let laid = words-of s e Answers out h in
+    let many = sym (as-many s e (rowSearched p)) in (
+      ap (answersIn (s .count)) laid ∙ ap (λ j. answersIn j (answerWords p ++ after)) many ∙ a ∙ map-map (λ x. x .answer) (rowSearched p) (p .streams),
+      ap (evaluationsIn (s .count)) laid ∙ ap (λ j. evaluationsIn j (answerWords p ++ after)) many ∙ b ∙ map-map (λ x. x .evaluations) (rowSearched p) (p .streams),
+    )
+
+pub waits-answered : WaitsAnswered
+waits-answered s out e h =
+    let p = planOf s in
+    let after = drop (wordsPerWait * s .count) out in
+    ap (waitsIn (s .count)) (words-of s e Waits out h)
+    ∙ ap (λ j. waitsIn j (toldWords Waits p ++ after)) (sym (as-many s e (rowWait p)))
+    ∙ waits-read-back (waits p) after
 
 -- ---- a sheet is answered by its counts and its plan
 pub sheet-answered : SheetAnswered
 unfolding answerOf
-sheet-answered p s e out = λ i. answerWith Three (e .count i) (e .sources i) (plainly (e .plan i)) out
+sheet-answered told p s e out = λ i. answerWith told Three (e .count i) (e .sources i) (plainly (e .plan i)) out

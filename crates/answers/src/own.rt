@@ -1,13 +1,13 @@
 // A row's own terms: what it is itself, and what those before it and behind it are to it.
 ghost use mathlib.Core.Path.{_≡_};
-ghost use Prim.Native.Nat.{ℕ, _+_, _-_, _≤_, _<_, max};
+ghost use Prim.Native.Nat.{ℕ, _+_, _-_, _≤_, _<_, max, min};
 ghost use lib.ListN.{length, getD};
 ghost use Rattle.laws.specs.Ranks.{rank};
 ghost use Rattle.terms.specs.Gathered.{cost};
 ghost use Rattle.plan.specs.Rules.{selfOrSlotted, airtime};
 ghost use Rattle.costs.specs.Costs.{Overhead};
 ghost use Rattle.carried.specs.Carried.{timingIn};
-ghost use Rattle.answers.specs.private.Gather.{urgency, PlacesWithin, largestIn, Ordered, RowOf};
+ghost use Rattle.answers.specs.private.Gather.{urgency, PlacesWithin, largestIn, Cheapest, Ordered, RowOf};
 use crate::read::JITTER;
 use crate::read::PERIOD;
 use crate::read::whole_of;
@@ -38,6 +38,27 @@ fn dearest(costs: &[u64], from: usize, to: usize) -> u64
         k += 1;
     }
     most as u64
+}
+
+fn smaller(a: u64, b: u64) -> u64
+    ensures { λ r. ⌜ r ≡ min a b ⌝ }
+{
+    if a < b { a } else { b }
+}
+
+// The smallest cost from one place on and up to another, that one too.
+pub(crate) fn cheapest(costs: &[u64], from: usize, to: usize) -> u64
+    requires { ⌜ from ≤ to ⌝ }
+    requires { ⌜ to < length (now costs) ⌝ }
+    ensures { λ r. ⌜ Cheapest (now (costs .entry)) from to r ⌝ }
+{
+    let mut least = costs[to];
+    let mut k = from;
+    while k < to {
+        least = smaller(least, costs[k]);
+        k += 1;
+    }
+    least
 }
 
 // B, by the largest C'' behind: a tick less than that stream's C', or 0 if there is none; and in slots a tick less than a slot.

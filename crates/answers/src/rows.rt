@@ -1,30 +1,35 @@
-// The answers of all rows, in file order.
+// What is told of all rows, in file order.
 ghost use mathlib.Core.Path.{_≡_};
 ghost use mathlib.Core.Bool.{true};
-ghost use mathlib.Core.List.{_++_};
-ghost use Prim.Native.Nat.{ℕ, _*_, _≤_, _<_};
-ghost use lib.ListN.{length, getD, drop};
+ghost use Prim.Native.Nat.{ℕ, _+_, _*_, _/_, _≤_, _<_};
+ghost use lib.ListN.{length, getD};
+ghost use Rattle.names.specs.Limits.{ticks};
 ghost use Rattle.laws.specs.Ranks.{rank};
-ghost use Rattle.bound.specs.Bound.{answer};
-ghost use Rattle.row_words.specs.RowWords.{wordsPerRow};
+ghost use Rattle.bound.specs.Evaluations.{searched};
+ghost use Rattle.plan.specs.Evaluations.{rowSearched};
 ghost use Rattle.costs.specs.Costs.{Overhead};
 ghost use Rattle.carried.specs.Carried.{timingIn, planIn};
 ghost use Rattle.terms.specs.Gathered.{lent, termsOf, fits};
-ghost use Rattle.answers.specs.Answers.{answerWords};
-ghost use Rattle.answers.specs.private.Gather.{few, urgency, PlacesWithin, Column, Long, InOrder};
+ghost use Rattle.answers.specs.declared.Told.the-variants.{Answers, Waits};
+ghost use Rattle.answers.specs.Answers.{perRow, laidIn};
+ghost use Rattle.answers.specs.private.Gather.{few, rowStream, urgency, PlacesWithin, Column, Long, InOrder};
 ghost use Rattle.carried.specs.Layout as layout;
+use crate::Told;
 use crate::order::put_gaps;
 use crate::order::put_hits;
 use crate::order::put_in_order;
 use crate::order::put_places;
 use crate::order::put_priorities;
+use crate::own::cheapest;
 use crate::own::gathered;
 use crate::read::DEADLINE;
 use crate::read::FIRST;
 use crate::read::word_of;
 use analysis::Answered;
 use bound::Answer;
+use bound::Searched;
 use bound::Verdict;
+use bound::Wait;
 use carried::CARRIED;
 use carried::STREAM;
 use carried::timing_in;
@@ -35,6 +40,7 @@ use names::Row;
 use names::SOURCES;
 use names::STREAMS;
 use row_words::put_answer;
+use row_words::put_wait;
 use terms::Gathered;
 use terms::STAIRS;
 
@@ -45,19 +51,53 @@ fn row_answer<'a>(
     periods: &'a [u64],
     jitters: &'a [u64],
     deadline: u64,
-) -> Answer
+) -> Searched
     requires { ⌜ fits (lent g (now costs) (now periods) (now jitters)) ≡ true ⌝ }
-    ensures { λ r. ⌜ r ≡ answer (termsOf (lent g (now (costs .entry)) (now (periods .entry)) (now (jitters .entry)))) deadline ⌝ }
+    ensures { λ r. ⌜ r ≡ searched (termsOf (lent g (now (costs .entry)) (now (periods .entry)) (now (jitters .entry)))) deadline ⌝ }
 {
     match analysis::answer(g, costs, periods, jitters, deadline) {
-        Answered::Exact(a) => a,
+        Answered::Exact(s) => s,
         // Never got to.
-        Answered::Outside => Answer {
-            verdict: Verdict::None,
-            bound: 0,
-            instance: 0,
-        },
+        Answered::Outside => {
+            let answer = Answer {
+                verdict: Verdict::None,
+                bound: 0,
+                instance: 0,
+            };
+            Searched {
+                answer,
+                evaluations: 0,
+                x: 0,
+            }
+        }
     }
+}
+
+// The answer of row k, from streams that stand in order; its hits are put before them.
+fn searched_row<'a>(
+    words: &[u32; CARRIED],
+    n: usize,
+    m: usize,
+    over: Overheads,
+    row: Row,
+    place: usize,
+    costs: &mut [u64],
+    periods: &'a [u64],
+    jitters: &'a [u64],
+) -> Searched
+    requires { ⌜ PlacesWithin (now words) n m ⌝ }
+    requires { ⌜ Overhead (timingIn (now words)) over ⌝ }
+    requires { ⌜ row .0 < n ⌝ }
+    requires { ⌜ place ≡ rank (urgency (now words)) n (row .0) ⌝ }
+    requires { ⌜ InOrder (now words) n m n (now costs) (now periods) (now jitters) ⌝ }
+    requires { ⌜ ((k : ℕ) → k < m → getD (now periods) k 0 ≡ getD (now words) (layout.gapAt n k) 0) ⌝ }
+    ensures { λ r. ⌜ r ≡ rowSearched (planIn n m (now (words .entry))) (rowStream (now (words .entry)) (row .0)) ⌝ }
+    ensures { λ _. ⌜ InOrder (now (words .entry)) n m n (now (costs .exit)) (now (periods .entry)) (now (jitters .entry)) ⌝ }
+{
+    let g = gathered(words, n, m, over, row, place, &costs[..]);
+    put_hits(g.hit, m, costs);
+    let deadline = word_of(words, row.0, DEADLINE);
+    row_answer(g, &costs[..], periods, jitters, deadline)
 }
 
 // Each row's answer words in file order, at the start of what is lent, from streams that stand in order.
@@ -77,22 +117,99 @@ fn put_answers<'a>(
     requires { ⌜ Column (rank (urgency (now words)) n) n (now places) ⌝ }
     requires { ⌜ InOrder (now words) n m n (now costs) (now periods) (now jitters) ⌝ }
     requires { ⌜ ((k : ℕ) → k < m → getD (now periods) k 0 ≡ getD (now words) (layout.gapAt n k) 0) ⌝ }
-    requires { ⌜ wordsPerRow * n ≤ length (now out) ⌝ }
-    ensures { λ _. ⌜ now (out .exit) ≡ answerWords (planIn n m (now (words .entry))) ++ drop (wordsPerRow * n) (now (out .entry)) ⌝ }
+    requires { ⌜ perRow Answers * n ≤ length (now out) ⌝ }
+    ensures { λ _. ⌜ now (out .exit) ≡ laidIn Answers (planIn n m (now (words .entry))) n (now (out .entry)) ⌝ }
 {
     let mut k: usize = 0;
     while k < n {
-        let g = gathered(words, n, m, over, Row(k), places[k], &costs[..]);
-        put_hits(g.hit, m, costs);
-        let deadline = word_of(words, k, DEADLINE);
-        let a = row_answer(g, &costs[..], periods, jitters, deadline);
-        put_answer(out, Row(k), a);
+        let s = searched_row(
+            words,
+            n,
+            m,
+            over,
+            Row(k),
+            places[k],
+            costs,
+            periods,
+            jitters,
+        );
+        put_answer(out, Row(k), s);
         k += 1;
+    }
+}
+
+// X / c + 1 beside the number of evaluations.
+fn wait_of(s: Searched, c: u64) -> Wait
+    requires { ⌜ 1 ≤ c ⌝ }
+    requires { ⌜ s .x ≤ ticks ⌝ }
+    ensures { λ r. ⌜ r ≡ record { evaluations = s .evaluations; limit = s .x / c + 1 } ⌝ }
+{
+    Wait {
+        evaluations: s.evaluations,
+        limit: s.x / c + 1,
+    }
+}
+
+// Each row's wait in file order, at the start of what is lent, from streams that stand in order.
+fn put_waits<'a>(
+    words: &[u32; CARRIED],
+    n: usize,
+    m: usize,
+    over: Overheads,
+    places: &[usize],
+    costs: &mut [u64],
+    periods: &'a [u64],
+    jitters: &'a [u64],
+    out: &mut [u64],
+)
+    requires { ⌜ PlacesWithin (now words) n m ⌝ }
+    requires { ⌜ Overhead (timingIn (now words)) over ⌝ }
+    requires { ⌜ Column (rank (urgency (now words)) n) n (now places) ⌝ }
+    requires { ⌜ InOrder (now words) n m n (now costs) (now periods) (now jitters) ⌝ }
+    requires { ⌜ ((k : ℕ) → k < m → getD (now periods) k 0 ≡ getD (now words) (layout.gapAt n k) 0) ⌝ }
+    requires { ⌜ perRow Waits * n ≤ length (now out) ⌝ }
+    ensures { λ _. ⌜ now (out .exit) ≡ laidIn Waits (planIn n m (now (words .entry))) n (now (out .entry)) ⌝ }
+{
+    let mut k: usize = 0;
+    while k < n {
+        let place = places[k];
+        let s = searched_row(words, n, m, over, Row(k), place, costs, periods, jitters);
+        let c = cheapest(&costs[..], m, m + place);
+        put_wait(out, Row(k), wait_of(s, c));
+        k += 1;
+    }
+}
+
+// What is told of each row, from streams that stand in order.
+fn put_told<'a>(
+    told: Told,
+    words: &[u32; CARRIED],
+    n: usize,
+    m: usize,
+    over: Overheads,
+    places: &[usize],
+    costs: &mut [u64],
+    periods: &'a [u64],
+    jitters: &'a [u64],
+    out: &mut [u64],
+)
+    requires { ⌜ PlacesWithin (now words) n m ⌝ }
+    requires { ⌜ Overhead (timingIn (now words)) over ⌝ }
+    requires { ⌜ Column (rank (urgency (now words)) n) n (now places) ⌝ }
+    requires { ⌜ InOrder (now words) n m n (now costs) (now periods) (now jitters) ⌝ }
+    requires { ⌜ ((k : ℕ) → k < m → getD (now periods) k 0 ≡ getD (now words) (layout.gapAt n k) 0) ⌝ }
+    requires { ⌜ perRow told * n ≤ length (now out) ⌝ }
+    ensures { λ _. ⌜ now (out .exit) ≡ laidIn told (planIn n m (now (words .entry))) n (now (out .entry)) ⌝ }
+{
+    match told {
+        Told::Answers => put_answers(words, n, m, over, places, costs, periods, jitters, out),
+        Told::Waits => put_waits(words, n, m, over, places, costs, periods, jitters, out),
     }
 }
 
 // The same from the words: the streams are put in order once, in rooms that are large enough.
 fn put_sorted(
+    told: Told,
     words: &[u32; CARRIED],
     n: usize,
     m: usize,
@@ -107,12 +224,13 @@ fn put_sorted(
     requires { ⌜ Overhead (timingIn (now words)) over ⌝ }
     requires { ⌜ Column (rank (urgency (now words)) n) n (now places) ⌝ }
     requires { ⌜ Long n m (now costs) (now periods) (now jitters) ⌝ }
-    requires { ⌜ wordsPerRow * n ≤ length (now out) ⌝ }
-    ensures { λ _. ⌜ now (out .exit) ≡ answerWords (planIn n m (now (words .entry))) ++ drop (wordsPerRow * n) (now (out .entry)) ⌝ }
+    requires { ⌜ perRow told * n ≤ length (now out) ⌝ }
+    ensures { λ _. ⌜ now (out .exit) ≡ laidIn told (planIn n m (now (words .entry))) n (now (out .entry)) ⌝ }
 {
     put_in_order(words, n, m, over, places, costs, periods, jitters);
     put_gaps(words, FIRST + STREAM * n, m, periods);
-    put_answers(
+    put_told(
+        told,
         words,
         n,
         m,
@@ -126,12 +244,12 @@ fn put_sorted(
 }
 
 // Few streams have small rooms.
-fn put_few(words: &[u32; CARRIED], n: usize, m: usize, over: Overheads, out: &mut [u64])
+fn put_few(told: Told, words: &[u32; CARRIED], n: usize, m: usize, over: Overheads, out: &mut [u64])
     requires { ⌜ PlacesWithin (now words) n m ⌝ }
     requires { ⌜ Overhead (timingIn (now words)) over ⌝ }
     requires { ⌜ n ≤ few ⌝ }
-    requires { ⌜ wordsPerRow * n ≤ length (now out) ⌝ }
-    ensures { λ _. ⌜ now (out .exit) ≡ answerWords (planIn n m (now (words .entry))) ++ drop (wordsPerRow * n) (now (out .entry)) ⌝ }
+    requires { ⌜ perRow told * n ≤ length (now out) ⌝ }
+    ensures { λ _. ⌜ now (out .exit) ≡ laidIn told (planIn n m (now (words .entry))) n (now (out .entry)) ⌝ }
 {
     let mut priorities = [0; FEW];
     put_priorities(words, n, &mut priorities);
@@ -141,6 +259,7 @@ fn put_few(words: &[u32; CARRIED], n: usize, m: usize, over: Overheads, out: &mu
     let mut periods = [0; SOURCES + FEW];
     let mut jitters = [0; FEW];
     put_sorted(
+        told,
         words,
         n,
         m,
@@ -154,11 +273,18 @@ fn put_few(words: &[u32; CARRIED], n: usize, m: usize, over: Overheads, out: &mu
 }
 
 // All others have rooms for the most streams.
-fn put_many(words: &[u32; CARRIED], n: usize, m: usize, over: Overheads, out: &mut [u64])
+fn put_many(
+    told: Told,
+    words: &[u32; CARRIED],
+    n: usize,
+    m: usize,
+    over: Overheads,
+    out: &mut [u64],
+)
     requires { ⌜ PlacesWithin (now words) n m ⌝ }
     requires { ⌜ Overhead (timingIn (now words)) over ⌝ }
-    requires { ⌜ wordsPerRow * n ≤ length (now out) ⌝ }
-    ensures { λ _. ⌜ now (out .exit) ≡ answerWords (planIn n m (now (words .entry))) ++ drop (wordsPerRow * n) (now (out .entry)) ⌝ }
+    requires { ⌜ perRow told * n ≤ length (now out) ⌝ }
+    ensures { λ _. ⌜ now (out .exit) ≡ laidIn told (planIn n m (now (words .entry))) n (now (out .entry)) ⌝ }
 {
     let mut priorities = [0; STREAMS];
     put_priorities(words, n, &mut priorities);
@@ -168,6 +294,7 @@ fn put_many(words: &[u32; CARRIED], n: usize, m: usize, over: Overheads, out: &m
     let mut periods = [0; STAIRS];
     let mut jitters = [0; STREAMS];
     put_sorted(
+        told,
         words,
         n,
         m,
@@ -180,15 +307,15 @@ fn put_many(words: &[u32; CARRIED], n: usize, m: usize, over: Overheads, out: &m
     );
 }
 
-// Each row's answer words in file order, at the start of what is lent.
-pub(crate) fn put_rows(words: &[u32; CARRIED], n: usize, m: usize, out: &mut [u64])
+// What is told of each row in file order, at the start of what is lent.
+pub(crate) fn put_rows(told: Told, words: &[u32; CARRIED], n: usize, m: usize, out: &mut [u64])
     requires { ⌜ PlacesWithin (now words) n m ⌝ }
-    requires { ⌜ wordsPerRow * n ≤ length (now out) ⌝ }
-    ensures { λ _. ⌜ now (out .exit) ≡ answerWords (planIn n m (now (words .entry))) ++ drop (wordsPerRow * n) (now (out .entry)) ⌝ }
+    requires { ⌜ perRow told * n ≤ length (now out) ⌝ }
+    ensures { λ _. ⌜ now (out .exit) ≡ laidIn told (planIn n m (now (words .entry))) n (now (out .entry)) ⌝ }
 {
     let over = overheads_of(timing_in(words));
     if n <= FEW {
-        return put_few(words, n, m, over, out);
+        return put_few(told, words, n, m, over, out);
     }
-    put_many(words, n, m, over, out)
+    put_many(told, words, n, m, over, out)
 }

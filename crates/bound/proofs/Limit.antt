@@ -10,6 +10,7 @@ use Rattle.laws.specs.Lists.{sumOf, smallestOf}
 use Rattle.laws.specs.declared.Found.{Found, the-variants.At, the-variants.Nothing}
 use Rattle.laws.proofs.Round.{ceil-mono}
 use Rattle.laws.proofs.Lists.{sum-mono}
+use Rattle.laws.proofs.Smallest.{smallest-first}
 use Rattle.laws.proofs.Steps.{Steps, steps-never, steps-add, steps-times}
 use Rattle.bound.specs.Terms.{Share, Terms}
 use Rattle.bound.specs.Bound.{E, demand, sideL, busy}
@@ -17,12 +18,6 @@ use Rattle.bound.specs.Claims.{Sound}
 use Rattle.bound.specs.Evaluations.{chain, evaluations, orTicks, X, c, limit, Paid, EvaluationsWithin}
 use Rattle.bound.proofs.Sides.{sideL-mono, sideL-pos, demand-own, own-first, busy-is-least}
 use Rattle.bound.proofs.Evaluations.{Counted, End, found, beyond, ends, found-says, beyond-some, beyond-says}
-
--- the smallest is no more than the first
-pub smallest-first : {A : Type 0} (f : A → ℕ) (x : A) (l : List A) → smallestOf f x l ≤ f x
-unfolding smallestOf
-smallest-first f x [] = omega arith
-smallest-first f x (y ∷ l) = omega arith
 
 -- what streams ask for rises by the smallest C'' at least
 demand-steps : (d : ℕ) (i : Share) (js : List Share) → d ≤ smallestOf (λ j. j .C″) i js → Steps d (demand (i ∷ js))
@@ -87,11 +82,15 @@ pub evaluations-within : EvaluationsWithin
 unfolding limit X
 evaluations-within r s p = within r p s (ends r s)
 
--- the limit has ten digits at most, whatever the terms are
-pub limit-fits : (r : Terms) → limit r ≤ ticks + 1
-unfolding limit X
-limit-fits r = go (busy r) refl
+-- X and the limit have ten digits at most, whatever the terms are
+pub x-fits : (r : Terms) → X r ≤ ticks
+unfolding X
+x-fits r = go (busy r) refl
   where
-    go : (f : Found) → busy r ≡ f → orTicks f / c r + 1 ≤ ticks + 1
-    go (At L) e = omega (arith, div-le-self L (c r), busy-is-least r L .0 e .0)
-    go Nothing e = omega (arith, div-le-self ticks (c r))
+    go : (f : Found) → busy r ≡ f → orTicks f ≤ ticks
+    go (At L) e = busy-is-least r L .0 e .0
+    go Nothing e = omega arith
+
+pub limit-fits : (r : Terms) → limit r ≤ ticks + 1
+unfolding limit
+limit-fits r = omega (arith, div-le-self (X r) (c r), x-fits r)

@@ -1,6 +1,7 @@
 pub mod Tests
 pub mod Round
 pub mod Lists
+pub mod Smallest
 pub mod Pieces
 pub mod Placed
 pub mod Search

@@ -17,8 +17,8 @@ returns c =
     let b = w .before .before in
     let s = b .args .s in
     let out = now (b .args .out) in
-    let e = ap (λ ws. answerWith Three (s .count) (s .sources) (enteredIn (s .count) (s .sources) ws) out) (w .words-of .ensures)
-    ∙ same-answer s (_, b .good .0 .1 .1) out in
+    let e = ap (λ ws. answerWith (b .args .told) Three (s .count) (s .sources) (enteredIn (s .count) (s .sources) ws) out) (w .words-of .ensures)
+    ∙ same-answer (b .args .told) s (_, b .good .1 .0 .1 .1) out in
     (a .answer-words .ensures .0 ∙ ap (λ o. o .0) e, a .answer-words .ensures .1 ∙ ap (λ o. o .1) e)
 
 pub answer-values-spec : {M : Type 1} → statement M

@@ -26,32 +26,32 @@ places c = let a = entry c .args in fine-places (a .edition) (now (a .words)) (a
 returns : tie.Need-returns
 returns c =
     let k = c .before .before .before in
-    let e = refused-is _ _ _ _ (now (k .before .before .args .out)) _ (sym (k .check-words .ensures) ∙ c .before .r .given .1) in
+    let e = refused-is _ _ _ _ _ (now (k .before .before .args .out)) _ (sym (k .check-words .ensures) ∙ c .before .r .given .1) in
     (sym (ap (λ o. o .0) e), sym (ap (λ o. o .1) e))
 
-mul-if1 : tie.Need-mul-if1
-mul-if1 c = omega (arith, places c .few)
+room-requires : tie.Need-room-requires
+room-requires c κs = places c .few
 
 returns-2 : tie.Need-returns-2
 returns-2 c =
-    let d = c .before in
+    let d = c .before .before in
     let a = entry d .args in
-    let e = too-few-is (a .edition) (a .n) (a .m) _ (now (a .out)) (fine d) (c .if1 .taken) in
+    let e = too-few-is (a .told) (a .edition) (a .n) (a .m) _ (now (a .out)) (fine d) (omega (arith, c .before .room .ensures, c .if1 .taken)) in
     (sym (ap (λ o. o .0) e), sym (ap (λ o. o .1) e))
 
 put-rows-requires : tie.Need-put-rows-requires
-put-rows-requires c κs = let d = c .before in (places (d .before), omega (arith, d .if1 .left))
+put-rows-requires c κs = let d = c .before in (places (d .before .before), omega (arith, d .before .room .ensures, d .if1 .left))
 
 returns-3 : tie.Need-returns-3
 returns-3 c =
     let w = c .before .before in
     let d = w .before .before in
-    let a = entry (d .before) .args in
-    let e = words-are (a .edition) (a .n) (a .m) _ (now (a .out)) (fine (d .before)) (omega (arith, d .if1 .left)) in
+    let a = entry (d .before .before) .args in
+    let e = words-are (a .told) (a .edition) (a .n) (a .m) _ (now (a .out)) (fine (d .before .before)) (omega (arith, d .before .room .ensures, d .if1 .left)) in
     (sym (ap (λ o. o .0) e), w .put-rows .ensures ∙ sym (ap (λ o. o .1) e))
 
 pub answer-words-spec : {M : Type 1} → statement M
 answer-words-spec =
     tie.close
-    (tie.spec (λ c κs. search needs) (λ c. search needs) returns (λ c. search needs) mul-if1 returns-2 put-rows-requires (λ c. search needs)
+    (tie.spec (λ c κs. search needs) (λ c. search needs) returns (λ c. search needs) room-requires returns-2 put-rows-requires (λ c. search needs)
     returns-3)

@@ -23,16 +23,16 @@ put-gaps-requires c κs =
     let p = first o .pre .0 in
     (omega (arith, p .few, p .quiet), omega (arith, o .put-in-order .ensures .period .long))
 
-put-answers-requires : tie.Need-put-answers-requires
-put-answers-requires c κs =
+put-told-requires : tie.Need-put-told-requires
+put-told-requires c κs =
     let g = c .before .before .before .before .before .before in
     let o = ordered g in
     let p = first o .pre in
     let r = o .put-in-order .ensures in
     (p .0, (p .1 .0, (p .1 .1 .0, (record { cost = r .cost; period = still-ordered (g .put-gaps .ensures) (r .period); jitter = r .jitter }, (g .put-gaps .ensures .put, p .1 .1 .1 .1)))))
 
--- the answers, the gaps and the order, seen from the end
-abbrev answered : tie.After-slice-known10 → tie.After-put-answers
+-- what is told, the gaps and the order, seen from the end
+abbrev answered : tie.After-slice-known10 → tie.After-put-told
 answered c = c .before .before .before .before
 
 abbrev gapped : tie.After-slice-known10 → tie.After-put-gaps
@@ -40,7 +40,7 @@ gapped c = answered c .before .before .before .before .before .before .before
 
 -- each call leaves the rooms as large as they were
 same-length : tie.Need-same-length
-same-length c = answered c .put-answers .kept .1 .1 .1 .1 .1 .0 ∙ ordered (gapped c) .put-in-order .kept .1 .1 .1 .1 .1 .0
+same-length c = answered c .put-told .kept .1 .1 .1 .1 .1 .1 .0 ∙ ordered (gapped c) .put-in-order .kept .1 .1 .1 .1 .1 .0
 
 same-length-2 : tie.Need-same-length-2
 same-length-2 c = gapped c .put-gaps .kept .1 .1 .1 .0 ∙ ordered (gapped c) .put-in-order .kept .1 .1 .1 .1 .1 .1 .0
@@ -49,10 +49,10 @@ same-length-3 : tie.Need-same-length-3
 same-length-3 c = ordered (gapped c) .put-in-order .kept .1 .1 .1 .1 .1 .1 .1 .0
 
 same-length-4 : tie.Need-same-length-4
-same-length-4 c = answered c .put-answers .kept .1 .1 .1 .1 .1 .1 .1 .1 .0
+same-length-4 c = answered c .put-told .kept .1 .1 .1 .1 .1 .1 .1 .1 .1 .0
 
 pub put-sorted-spec : {M : Type 1} → statement M
 put-sorted-spec =
     tie.close
-    (tie.spec put-in-order-requires (λ c. search needs) (λ c. search needs) put-gaps-requires put-answers-requires same-length same-length-2
-    same-length-3 same-length-4 (λ c. answered c .put-answers .ensures))
+    (tie.spec put-in-order-requires (λ c. search needs) (λ c. search needs) put-gaps-requires put-told-requires same-length same-length-2
+    same-length-3 same-length-4 (λ c. answered c .put-told .ensures))
