@@ -9,6 +9,7 @@ use Rattle.carried.specs.Carried.{meant, sheetOf}
 use Rattle.carried.proofs.Plans.{one-sheet}
 use Rattle.file.specs.File.{readAs}
 use Rattle.file.proofs.RoundTrip.{reads-as-its-values}
+use Rattle.answers.specs.declared.Told.the-variants.{Answers}
 use Rattle.answers.specs.Answers.{answerWith}
 use Rattle.answers.proofs.Outcome.{refused-is, answered-alike}
 use Rattle.answers.proofs.Values.{sheet-answered}
@@ -20,8 +21,8 @@ file-alike v few quiet fits out =
     ap (λ r. answerRead (r .answer) (r .sheet) out) (reads-as-its-values v few quiet fits) ∙ go (judge (lines Three (length (v .streams)) (length (v .gaps)) v)) refl
   where
     go : (c : Checked) → judge (lines Three (length (v .streams)) (length (v .gaps)) v) ≡ c
-        → answerRead (readAs c (meant v) .answer) (readAs c (meant v) .sheet) out ≡ answerWith Three (length (v .streams)) (length (v .gaps)) v out
+        → answerRead (readAs c (meant v) .answer) (readAs c (meant v) .sheet) out ≡ answerWith Answers Three (length (v .streams)) (length (v .gaps)) v out
     go Fine d =
-        sheet-answered (meant v) (sheetOf (meant v)) (record { plan = one-sheet (meant v) few quiet; count = refl; sources = refl }) out
-        ∙ answered-alike out Three (length (v .streams)) (length (v .gaps)) v d
-    go (Refused r) d = sym (refused-is Three (length (v .streams)) (length (v .gaps)) v out r d)
+        sheet-answered Answers (meant v) (sheetOf (meant v)) (record { plan = one-sheet (meant v) few quiet; count = refl; sources = refl }) out
+        ∙ answered-alike Answers out Three (length (v .streams)) (length (v .gaps)) v d
+    go (Refused r) d = sym (refused-is Answers Three (length (v .streams)) (length (v .gaps)) v out r d)

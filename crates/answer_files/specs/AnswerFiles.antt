@@ -10,11 +10,12 @@ use Rattle.plan.specs.declared.Sheet.{Sheet}
 use Rattle.carried.specs.declared.Edition.the-variants.{Three}
 use Rattle.carried.specs.Carried.{Entered}
 use Rattle.file.specs.File.{readOf, fileWords, enteredFile}
+use Rattle.answers.specs.declared.Told.the-variants.{Answers}
 use Rattle.answers.specs.Answers.{answerWith, answerOf}
 
 -- a refused file is refused, and what was read is answered
 abbrev pub answerRead : Checked → Sheet → List ℕ → Checked × List ℕ
-answerRead Fine s out = answerOf s out
+answerRead Fine s out = answerOf Answers s out
 answerRead (Refused r) s out = (Refused r, out)
 
 unfoldable pub answerFileOf : List ℕ → List ℕ → Checked × List ℕ
@@ -26,4 +27,4 @@ answerFileOf bs out = answerRead (readOf bs .answer) (readOf bs .sheet) out
 abbrev pub FileAlike : Type 0
 FileAlike =
     (v : Entered) → length (v .streams) ≤ streams → length (v .gaps) ≤ sources → Below (2 ^ 32) (fileWords v)
-    → (out : List ℕ) → answerFileOf (enteredFile v) out ≡ answerWith Three (length (v .streams)) (length (v .gaps)) v out
+    → (out : List ℕ) → answerFileOf (enteredFile v) out ≡ answerWith Answers Three (length (v .streams)) (length (v .gaps)) v out

@@ -4,6 +4,7 @@
 // is assumed. This crate joins the reader and the answers; it must not know of text.
 ghost use mathlib.Core.Path.{_≡_};
 ghost use Rattle.answer_files.specs.AnswerFiles.{answerFileOf};
+use answers::Told;
 use answers::answer_words;
 use carried::CARRIED;
 use file::Counts;
@@ -18,6 +19,6 @@ pub fn answer_file(bytes: &[u8], out: &mut [u64]) -> Checked
     let mut words = [0; CARRIED];
     match carry(bytes, &mut words) {
         Counts::Refused(r) => Checked::Refused(r),
-        Counts::Of(edition, n, m) => answer_words(edition, &words, n, m, out),
+        Counts::Of(edition, n, m) => answer_words(Told::Answers, edition, &words, n, m, out),
     }
 }

@@ -11,9 +11,11 @@ use Rattle.laws.specs.declared.Found.{Found, the-variants.At, the-variants.Noth
 use Rattle.bound.specs.declared.Verdict.{Verdict, the-variants.Met, the-variants.Missed, the-variants.None}
 use Rattle.bound.specs.Terms.{Terms}
 use Rattle.bound.specs.Bound.{busy, bound, answerFor as answerFrom, answer, verdictNumber}
+use Rattle.bound.specs.Evaluations.{searched}
 use Rattle.plan.specs.declared.Sheet.{Sheet}
 use Rattle.plan.specs.Plan.{Plan, planOf, blank, at}
-use Rattle.plan.specs.Rules.{terms, rowAnswer, answers}
+use Rattle.plan.specs.Rules.{terms}
+use Rattle.plan.specs.Evaluations.{rowSearched, searches}
 use Rattle.judge.specs.declared.Checked.{Checked, the-variants.Fine, the-variants.Refused}
 use Rattle.judge.specs.Table.{judge}
 use Rattle.checks.specs.Checks.{lines}
@@ -28,6 +30,7 @@ use Rattle.carried.specs.Carried.{meant, plainly}
 use Rattle.carried.proofs.Plans.{meant-plainly, one-sheet}
 use Rattle.row_words.specs.RowWords.{wordsPerRow}
 use Rattle.row_words.proofs.RowWords.{RowSays, row-says}
+use Rattle.answers.specs.declared.Told.the-variants.{Answers}
 use Rattle.answers.specs.Answers.{answerWords, tooFew, answerAs, answerOf}
 use Rattle.answer_files.specs.AnswerFiles.{answerRead, answerFileOf}
 use Rattle.answers.specs.Answers.{answerWith}
@@ -57,7 +60,7 @@ said-of-files old new =
 
 -- ---- the words of a row
 -- the lent words begin with the plan's, where the answer is fine
-as-words : (c : Checked) (n : ℕ) (p : Plan) (out : List ℕ) → answerAs c n p out .0 ≡ Fine → answerAs c n p out .1 ≡ answerWords p ++ drop (wordsPerRow * n) out
+as-words : (c : Checked) (n : ℕ) (p : Plan) (out : List ℕ) → answerAs Answers c n p out .0 ≡ Fine → answerAs Answers c n p out .1 ≡ answerWords p ++ drop (wordsPerRow * n) out
 as-words Fine n p out e = refl
 as-words (Refused r) n p out e = absurd (let z : _≡_ {A = ℕ} 0 1 = cc in omega arith)
 
@@ -65,18 +68,18 @@ read-words : (c : Checked) (s : Sheet) (out : List ℕ) → answerRead c s out .
     → answerRead c s out .1 ≡ answerWords (planOf s) ++ drop (wordsPerRow * s .count) out
 unfolding answerOf answerWith
 read-words Fine s out e =
-    as-words (judge (lines Three (s .count) (s .sources) (plainly (planOf s)) ++ tooFew (s .count) out)) (s .count) (meant (plainly (planOf s))) out e
+    as-words (judge (lines Three (s .count) (s .sources) (plainly (planOf s)) ++ tooFew Answers (s .count) out)) (s .count) (meant (plainly (planOf s))) out e
     ∙ ap (λ p. answerWords p ++ drop (wordsPerRow * s .count) out) (meant-plainly (planOf s))
 read-words (Refused r) s out e = absurd (let z : _≡_ {A = ℕ} 0 1 = cc in omega arith)
 
 -- the words of row r are the answer to its stream
 answer-said : (bs out : List ℕ) (r : ℕ) → answerFileOf bs out .0 ≡ Fine → r < length (planFrom bs .streams)
-    → let p = planFrom bs in RowSays (answerFileOf bs out .1) r (rowAnswer p (at p r))
+    → let p = planFrom bs in RowSays (answerFileOf bs out .1) r (rowSearched p (at p r))
 unfolding answerFileOf
 answer-said bs out r e h =
     let p = planFrom bs in
-    rw (read-words (file.readOf bs .answer) (file.readOf bs .sheet) out e, ← List·getD-map (rowAnswer p) (p .streams) r blank)
-    (row-says (answers p) _ (rowAnswer p blank) r (omega (arith, length-map (p .streams) (rowAnswer p))))
+    rw (read-words (file.readOf bs .answer) (file.readOf bs .sheet) out e, ← List·getD-map (rowSearched p) (p .streams) r blank)
+    (row-says (searches p) _ (rowSearched p blank) r (omega (arith, length-map (p .streams) (rowSearched p))))
 
 -- ---- what the words of an answer say
 met-number : (v : Verdict) → verdictNumber v ≡ 0 → v ≡ Met
@@ -104,7 +107,8 @@ says-bound t D L e = rw e (not-none (leb (bound t L) D), refl)
 
 -- ---- a promise that is kept is kept in the words
 kept-words : (old new : Plan) (before after : List ℕ) (k r : ℕ) → Kept old new k r
-    → RowSays before r (rowAnswer old (at old r)) → RowSays after k (rowAnswer new (at new k)) → KeptWords before r after k
+    → RowSays before r (rowSearched old (at old r)) → RowSays after k (rowSearched new (at new k)) → KeptWords before r after k
+unfolding searched
 kept-words old new before after k r kept b a =
     record {
       bound = λ some.

@@ -16,13 +16,14 @@ use Rattle.carried.proofs.Plans.{own-places}
 use Rattle.judge.specs.declared.Checked.the-variants.{Refused}
 use Rattle.checks.specs.Checks.{inRange}
 use Rattle.checks.proofs.Counts.{too-few, too-many, too-noisy, by-range, out-of-range}
+use Rattle.answers.specs.declared.Told.the-variants.{Answers}
 use Rattle.answers.specs.Answers.{answerWith}
 use Rattle.answers.proofs.Outcome.{refused-is}
 use Rattle.screen.specs.Screen.{enteredFor, screenOf, WrongLists}
 use Rattle.screen.specs.private.Gathering.{takenOf, wordsTaken, takenOutcome}
 
-refused-2 : (n m : ℕ) (v : Entered) (out : List ℕ) → inRange Three n m ≡ false → answerWith Three n m v out ≡ (Refused (record { number = 2; place = 0 }), out)
-refused-2 n m v out e = refused-is Three n m v out _ (out-of-range Three n m e v [])
+refused-2 : (n m : ℕ) (v : Entered) (out : List ℕ) → inRange Three n m ≡ false → answerWith Answers Three n m v out ≡ (Refused (record { number = 2; place = 0 }), out)
+refused-2 n m v out e = refused-is Answers Three n m v out _ (out-of-range Three n m e v [])
 
 pub wrong-counts : WrongLists
 unfolding screenOf
@@ -47,5 +48,5 @@ module _ (xs : List Stream) (t : EnteredTiming) (gaps out : List ℕ) where
   pub taken-is : takenOutcome (takenOf xs) t gaps out ≡ screenOf xs t gaps out
   unfolding takenOutcome screenOf takenOf
   taken-is =
-      by-range Three (length xs) (length gaps) (λ few quiet. ap (λ v. answerWith Three (length xs) (length gaps) v out) (all-taken few quiet))
+      by-range Three (length xs) (length gaps) (λ few quiet. ap (λ v. answerWith Answers Three (length xs) (length gaps) v out) (all-taken few quiet))
       (λ e. refused-2 _ _ taken out e ∙ sym (refused-2 _ _ (enteredFor xs t gaps) out e))

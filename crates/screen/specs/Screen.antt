@@ -11,6 +11,7 @@ use Rattle.carried.specs.declared.Edition.the-variants.{Three}
 use Rattle.carried.specs.declared.EnteredTiming.{EnteredTiming}
 use Rattle.carried.specs.Carried.{Entered}
 use Rattle.file.specs.File.{fileWords, enteredFile}
+use Rattle.answers.specs.declared.Told.the-variants.{Answers}
 use Rattle.answers.specs.Answers.{answerWith}
 use Rattle.answer_files.specs.AnswerFiles.{answerFileOf}
 
@@ -20,7 +21,7 @@ enteredFor xs t gaps = record { timing = t; streams = xs; gaps = gaps }
 
 -- its answer, with the places of edition 3, and the lent words after it: the lists' own lengths are the counts, however long they are
 unfoldable pub screenOf : List Stream → EnteredTiming → List ℕ → List ℕ → Checked × List ℕ
-screenOf xs t gaps out = answerWith Three (length xs) (length gaps) (enteredFor xs t gaps) out
+screenOf xs t gaps out = answerWith Answers Three (length xs) (length gaps) (enteredFor xs t gaps) out
 
 -- so what the screen answers, and what the lent words end with
 abbrev pub Screens : List Stream → EnteredTiming → List ℕ → List ℕ → Checked → List ℕ → Type 0

@@ -12,6 +12,7 @@ ghost use Rattle.plan.specs.Plan.{blank};
 ghost use Rattle.laws.specs.Lists.{placed};
 ghost use Rattle.screen.specs.Screen.{Screens};
 ghost use Rattle.screen.specs.private.Gathering.{takenOf, TakenAnswered};
+use answers::Told;
 use answers::answer_words;
 use carried::Edition;
 use carried::EnteredTiming;
@@ -85,7 +86,14 @@ fn answered(lot: Taken, timing: EnteredTiming, gaps: &[u32], out: &mut [u64]) ->
     let rows = lot.rows;
     let copies = copied(gaps);
     let words = words_entered(timing, rows, lot.count, copies, gaps.len());
-    answer_words(Edition::Three, &words, lot.count, gaps.len(), out)
+    answer_words(
+        Told::Answers,
+        Edition::Three,
+        &words,
+        lot.count,
+        gaps.len(),
+        out,
+    )
 }
 
 // The answers of the lent streams under this timing and these noise gaps, or the first refusal of 2, 3, 11, 4, 5, 10, 6 that applies.

@@ -44,14 +44,14 @@ row-size w s a h p l i =
 rows-size : (w : ℕ) (ss : List Stream) (answers : List Answer) → 1 ≤ w
     → ((k : ℕ) → k < length ss → Printed (getD ss k blank)) → ((k : ℕ) → k < length answers → getD (map (λ a. a .bound) answers) k 0 < 10 ^ w)
     → ((k : ℕ) → k < length answers → getD (map (λ a. a .instance) answers) k 0 < 10 ^ w)
-    → length (listedRows ss answers) ≤ length ss * (beside + 2 * w)
+    → length (listedRows row ss answers) ≤ length ss * (beside + 2 * w)
 unfolding listedRows
 rows-size w [] answers h p l i = omega arith
 rows-size w (s ∷ ss) [] h p l i = omega arith
 rows-size w (s ∷ ss) (a ∷ answers) h p l i =
     omega (
       arith,
-      length-append (row s a) (listedRows ss answers),
+      length-append (row s a) (listedRows row ss answers),
       suc-mul (length ss) (beside + 2 * w),
       row-size w s a h (p 0 (omega arith)) (l 0 (omega arith)) (i 0 (omega arith)),
       rows-size w ss answers h (λ k g. p (suc k) (omega arith)) (λ k g. l (suc k) (omega arith)) (λ k g. i (suc k) (omega arith)),
@@ -63,7 +63,7 @@ unfolding listingOf
 largest-listing w p answers h l =
     omega (
       arith,
-      length-append header (listedRows (p .streams) answers),
+      length-append header (listedRows row (p .streams) answers),
       rows-size w (p .streams) answers h (l .stream) (l .bound) (l .instance),
       mul-le-mul-right (beside + 2 * w) (l .count),
     )

@@ -54,15 +54,15 @@ row s a =
     ∷ verdictText (a .verdict)
     ∷ [])
 
--- a line for each stream that has an answer, in file order
-unfoldable pub listedRows : List Stream → List Answer → List ℕ
-listedRows [] answers = []
-listedRows (s ∷ ss) [] = []
-listedRows (s ∷ ss) (a ∷ answers) = row s a ++ listedRows ss answers
+-- a line for each stream that has something to tell, in file order
+unfoldable pub listedRows : {A : Type 0} → (Stream → A → List ℕ) → List Stream → List A → List ℕ
+listedRows row [] told = []
+listedRows row (s ∷ ss) [] = []
+listedRows row (s ∷ ss) (a ∷ told) = row s a ++ listedRows row ss told
 
 -- the whole listing of a plan and its rows' answers
 unfoldable pub listingOf : Plan → List Answer → List ℕ
-listingOf p answers = header ++ listedRows (p .streams) answers
+listingOf p answers = header ++ listedRows row (p .streams) answers
 
 -- of a sheet's plan, with the answers of its rows from their words
 abbrev pub listingIn : Sheet → List ℕ → List ℕ

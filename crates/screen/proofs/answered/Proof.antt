@@ -9,6 +9,7 @@ use Rattle.laws.specs.Lists.{placed}
 use Rattle.carried.specs.declared.Edition.the-variants.{Three}
 use Rattle.carried.specs.declared.EnteredTiming.{EnteredTiming}
 use Rattle.carried.specs.Carried.{enteredIn, enteredWords, inPlaces}
+use Rattle.answers.specs.declared.Told.the-variants.{Answers}
 use Rattle.answers.specs.Answers.{answerWith}
 use Rattle.screen.specs.declared.Taken.{Taken}
 use Rattle.screen.specs.private.Gathering.{wordsTaken, takenOutcome}
@@ -31,7 +32,7 @@ returns c =
     let a = g .before .before .before .before .args in
     let l = a .lot in
     let gaps = now (a .gaps) in
-    let e = ap (λ ws. answerWith Three (l .count) (length gaps) (enteredIn (l .count) (length gaps) ws) (now (a .out)))
+    let e = ap (λ ws. answerWith Answers Three (l .count) (length gaps) (enteredIn (l .count) (length gaps) ws) (now (a .out)))
     (made l (a .timing) gaps _ _ (g .copied .ensures) (w .words-entered .ensures)) in
     (d .answer-words .ensures .0 ∙ ap (λ o. o .0) e, d .answer-words .ensures .1 ∙ ap (λ o. o .1) e)
 

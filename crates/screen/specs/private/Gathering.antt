@@ -11,6 +11,7 @@ use Rattle.judge.specs.declared.Checked.{Checked}
 use Rattle.carried.specs.declared.Edition.the-variants.{Three}
 use Rattle.carried.specs.declared.EnteredTiming.{EnteredTiming}
 use Rattle.carried.specs.Carried.{enteredIn, enteredWords, inPlaces}
+use Rattle.answers.specs.declared.Told.the-variants.{Answers}
 use Rattle.answers.specs.Answers.{answerWith}
 use Rattle.screen.specs.declared.Taken.{Taken}
 
@@ -27,7 +28,7 @@ wordsTaken l t gaps =
 -- what is answered of them, and what the lent words end with
 unfoldable pub takenOutcome : Taken → EnteredTiming → List ℕ → List ℕ → Checked × List ℕ
 takenOutcome l t gaps out =
-    answerWith Three (l .count) (length gaps) (enteredIn (l .count) (length gaps) (wordsTaken l t gaps)) out
+    answerWith Answers Three (l .count) (length gaps) (enteredIn (l .count) (length gaps) (wordsTaken l t gaps)) out
 
 abbrev pub TakenAnswered : Taken → EnteredTiming → List ℕ → List ℕ → Checked → List ℕ → Type 0
 TakenAnswered l t gaps out r left = let o = takenOutcome l t gaps out in (r ≡ o .0) × (left ≡ o .1)

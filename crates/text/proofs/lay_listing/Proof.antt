@@ -1,28 +1,24 @@
 -- The header, and then each turn lays one row's line.
-use mathlib.Core.Path.{_≡_, sym, ap, _∙_}
-use mathlib.Core.List.{_++_}
-use Prim.Native.Nat.{_-_, _≤_, _<_, min}
+use mathlib.Core.Path.{_≡_, sym, _∙_}
+use Prim.Native.Nat.{_-_, _≤_, min}
 use native.Mathlib.Omega.{arith}
 use borrow.Author.Needs.{needs}
-use lib.ListN.{length, take, getD, length-map}
+use lib.ListN.{length, take, length-map}
 use denote.Ref.{now}
 use Rattle.names.specs.Limits.{streams}
-use Rattle.laws.proofs.Lists.{take-min, rows-at, length-rows}
-use Rattle.bound.specs.declared.Answer.{Answer}
-use Rattle.bound.specs.declared.Verdict.the-variants.{None}
 use Rattle.row_words.specs.RowWords.{answerAt, answersIn}
 use Rattle.plan.specs.Plan.{blank}
 use Rattle.plan.proofs.Stream as stream
 use Rattle.text.specs.Listing.{header, row, listedRows, listingOf}
 use Rattle.text.specs.Put.{Lays}
-use Rattle.text.proofs.Laying.{none, then, last, is, same}
-use Rattle.text.proofs.Rows.{rows-more, rows-all}
+use Rattle.text.proofs.Laying.{none, same}
+use Rattle.text.proofs.Rows.{line-more, lines-all}
 use Rattle.text.proofs.lay_listing.Statement.{statement}
 use Rattle.text.proofs.lay_listing.Tie as tie
 
 abbrev Inv-loop : tie.InvT-loop
 Inv-loop out₀ at words sheet n next₀ k₀ out next k =
-    (k ≤ n) × Lays out₀ next₀ (listedRows (take k (sheet .streams)) (take k (answersIn (sheet .count) words))) next out
+    (k ≤ n) × Lays out₀ next₀ (listedRows row (take k (sheet .streams)) (take k (answersIn (sheet .count) words))) next out
 
 abbrev μ-loop : tie.MeasureT-loop
 μ-loop out₀ at words sheet n next₀ k₀ out next k = n - k
@@ -42,16 +38,11 @@ loop-again c =
     let d = a .before .before .before in
     let l = d .before .loop in
     let n = d .before .before .before .before .before .before in
-    let s = n .before .before .before in
-    let ss = s .args .t3 .streams in
-    let answers = answersIn (s .args .t3 .count) (now (s .args .answers)) in
-    let nobody : Answer = record { verdict = None; bound = 0; instance = 0 } in
-    let few : l .k < s .args .t3 .count = omega (arith, d .loop-test .taken, n .smaller .ensures) in
-    let given : a .answer-in .result ≡ getD answers (l .k) nobody = a .answer-in .ensures ∙ sym (rows-at _ _ nobody (l .k) few) in (
+    let s = n .before .before .before in (
       omega arith,
-      is (ap (λ x. listedRows (take (l .k) ss) (take (l .k) answers) ++ row (getD ss (l .k) blank) x) given
-          ∙ rows-more (l .k) ss answers blank nobody (omega (arith, places s, d .loop-test .taken, n .smaller .ensures)) (omega (arith, few, length-rows (s .args .t3 .count) (answerAt (now (s .args .answers))))))
-          (then (l .inv .1) (last (r .lay-row .ensures)) (omega arith)),
+      line-more row (answerAt (now (s .args .answers))) (s .args .t3 .count) (l .k) (s .args .t3 .streams) (omega arith) blank _
+      (omega (arith, d .loop-test .taken, n .smaller .ensures)) (omega (arith, places s, d .loop-test .taken, n .smaller .ensures)) (a .answer-in .ensures)
+      (l .inv .1) (r .lay-row .ensures),
     )
 
 returns : tie.Need-returns Inv-loop μ-loop
@@ -61,12 +52,8 @@ returns c =
     let n = h .before .before in
     let s = n .before .before .before in
     let ss = s .args .t3 .streams in
-    let count = s .args .t3 .count in
-    let answers = answersIn count (now (s .args .answers)) in
-    let k : c .before .loop .k ≡ min count streams = omega (arith, c .before .loop .inv .0, c .loop-test .left, n .smaller .ensures) in
-    let e : take (c .before .loop .k) ss ≡ take count ss = ap (λ k. take k ss) k ∙ take-min count streams ss (omega (arith, places s)) in
-    is (ap (λ t. header ++ t) (rows-all (c .before .loop .k) ss answers ∙ ap (λ t. listedRows t answers) e))
-    (then (h .lay-header .ensures) (last (c .before .loop .inv .1)) (omega arith))
+    let k : c .before .loop .k ≡ min (s .args .t3 .count) (length ss) = omega (arith, c .before .loop .inv .0, c .loop-test .left, n .smaller .ensures, places s) in
+    lines-all row (answerAt (now (s .args .answers))) (s .args .t3 .count) _ ss (omega arith) header k (h .lay-header .ensures) (c .before .loop .inv .1)
 
 same-length : tie.Need-same-length Inv-loop μ-loop
 same-length c = same (returns c)
