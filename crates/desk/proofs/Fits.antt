@@ -20,7 +20,7 @@ use Rattle.text.proofs.Size.{largest-listing}
 use Rattle.desk.specs.Desk.{shownAs, shown, ListingFits}
 
 -- a row's value, whatever stands past the last row
-in-row : {A B : Type 0} (f : B → ℕ) (g : A → B) (l : List A) (k : ℕ) (d : A) → k < length l → getD (map f (map g l)) k 0 ≡ f (g (getD l k d))
+pub in-row : {A B : Type 0} (f : B → ℕ) (g : A → B) (l : List A) (k : ℕ) (d : A) → k < length l → getD (map f (map g l)) k 0 ≡ f (g (getD l k d))
 in-row f g [] k d h = absurd (omega arith)
 in-row f g (x ∷ l) zero d h = refl
 in-row f g (x ∷ l) (suc k) d h = in-row f g l k d (omega arith)

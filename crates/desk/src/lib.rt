@@ -1,7 +1,8 @@
-// What the desk is shown of a plan file: its listing, whether it is fine, or the file again; of a refused one the line of its refusal.
+// What the desk is shown of a plan file: its listing, how long the searches of its streams may take, whether it is fine, or the file again;
+// of a refused one the line of its refusal.
 //
 // Every public function answers for any bytes, and its contract fixes each byte of the lent buffer. Nothing is assumed.
-// This crate joins the reader, the answers, the rewriter and the text; it must not know of input and output.
+// This crate joins the reader, the answers, the rewriter and the texts; it must not know of input and output.
 ghost use mathlib.Core.Path.{_≡_};
 ghost use Prim.Native.Nat.{_+_};
 ghost use lib.ListN.{length, replicate};
@@ -9,7 +10,8 @@ ghost use Rattle.carried.specs.Layout as layout;
 ghost use Rattle.ascii.specs.Ascii.{ascii};
 ghost use Rattle.text.specs.Claims.{most};
 ghost use Rattle.text.specs.Put.{Puts};
-ghost use Rattle.desk.specs.Desk.{shown, shownRefusal, shownFile};
+ghost use Rattle.desk.specs.Desk.{shown, shownWaits, shownRefusal, shownFile};
+use answers::Told;
 use answers::answer_values;
 use carried::CARRIED;
 use carried::CONTENTS;
@@ -20,10 +22,12 @@ use names::STREAMS;
 use reader::read;
 use rewriter::rewrite;
 use row_words::WORDS_PER_ROW;
+use row_words::WORDS_PER_WAIT;
 use text::Put;
 use text::lay_text;
 use text::listing;
 use text::refused;
+use wait_lines::waits;
 
 // The number of the refusal that a file is written by where its bytes have no room.
 const NO_ROOM: u32 = 6;
@@ -47,7 +51,7 @@ pub fn file_buffer() -> [u8; FILE]
     [0; FILE]
 }
 
-// Zeros, for a program to have a listing in, however large the plan and its bounds (ListingFits, in specs/Desk.antt).
+// Zeros, for a program to have a listing in, or the waits, however large the plan and its numbers (ListingFits and WaitsFit, in specs/Desk.antt).
 pub fn listing_buffer() -> [u8; LISTED]
     ensures { λ r. ⌜ r ≡ replicate (most 10) 0 ⌝ }
     ensures { λ r. ⌜ most 10 ≡ length r ⌝ }
@@ -66,8 +70,25 @@ pub fn show(bytes: &[u8], out: &mut [u8]) -> Put
         Checked::Refused(r) => refused(r, out),
         Checked::Fine => {
             let mut answers = [0; WORDS_PER_ROW * STREAMS];
-            answer_values(sheet, &mut answers);
+            answer_values(Told::Answers, sheet, &mut answers);
             listing(sheet, &answers, out)
+        }
+    }
+}
+
+// How many evaluations the search for each stream's L takes, and how many at most, at the start of the buffer; the rest of it stays.
+pub fn show_waits(bytes: &[u8], out: &mut [u8]) -> Put
+    ensures { λ r. ⌜ Puts (now (out .entry)) 0 (shownWaits (now (bytes .entry))) r (now (out .exit)) ⌝ }
+{
+    let found = read(bytes);
+    let answer = found.answer;
+    let sheet = found.sheet;
+    match answer {
+        Checked::Refused(r) => refused(r, out),
+        Checked::Fine => {
+            let mut words = [0; WORDS_PER_WAIT * STREAMS];
+            answer_values(Told::Waits, sheet, &mut words);
+            waits(sheet, &words, out)
         }
     }
 }

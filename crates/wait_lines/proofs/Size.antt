@@ -1,5 +1,5 @@
 -- How many bytes the lines have at most. Assumes nothing.
-use mathlib.Core.List.{List, [], _∷_}
+use mathlib.Core.List.{List, [], _∷_, map}
 use Prim.Native.Nat.{ℕ, suc, _*_, _/_, _%_, _^_, _≤_, _<_}
 use native.Mathlib.Nat.{suc-mul, mul-le-mul-right}
 use native.Mathlib.Omega.{arith}
@@ -25,18 +25,19 @@ row-size s w l e i =
     ))
 
 rows-size : (ss : List Stream) (waits : List Wait) → ((k : ℕ) → k < length ss → getD ss k blank .label .0 ≤ ticks)
-    → ((k : ℕ) → k < length waits → let w = getD waits k (record { evaluations = 0; limit = 0 }) in (w .evaluations < 10 ^ 10) × (w .limit < 10 ^ 10))
+    → ((k : ℕ) → k < length waits → getD (map (λ w. w .evaluations) waits) k 0 < 10 ^ 10)
+    → ((k : ℕ) → k < length waits → getD (map (λ w. w .limit) waits) k 0 < 10 ^ 10)
     → length (listedRows waitRow ss waits) ≤ length ss * 34
 unfolding listedRows
-rows-size [] waits l s = omega arith
-rows-size (x ∷ ss) [] l s = omega arith
-rows-size (x ∷ ss) (w ∷ waits) l s =
+rows-size [] waits l e i = omega arith
+rows-size (x ∷ ss) [] l e i = omega arith
+rows-size (x ∷ ss) (w ∷ waits) l e i =
     omega (
       arith,
       length-append (waitRow x w) (listedRows waitRow ss waits),
       suc-mul (length ss) 34,
-      row-size x w (l 0 (omega arith)) (s 0 (omega arith) .0) (s 0 (omega arith) .1),
-      rows-size ss waits (λ k g. l (suc k) (omega arith)) (λ k g. s (suc k) (omega arith)),
+      row-size x w (l 0 (omega arith)) (e 0 (omega arith)) (i 0 (omega arith)),
+      rows-size ss waits (λ k g. l (suc k) (omega arith)) (λ k g. e (suc k) (omega arith)) (λ k g. i (suc k) (omega arith)),
     )
 
 pub largest-lines : LargestLines
@@ -45,6 +46,6 @@ largest-lines p waits h =
     omega (
       arith,
       length-append waitHeader (listedRows waitRow (p .streams) waits),
-      rows-size (p .streams) waits (h .label) (h .short),
+      rows-size (p .streams) waits (h .label) (h .evaluations) (h .limit),
       mul-le-mul-right 34 (h .count),
     )

@@ -1,5 +1,5 @@
 -- What the program waits prints of a plan that is not refused, byte by byte: `label evaluations limit`, and a line a stream.
-use mathlib.Core.List.{List, [], _∷_, _++_}
+use mathlib.Core.List.{List, [], _∷_, _++_, map}
 use Prim.Native.Nat.{ℕ, _+_, _*_, _≤_, _<_, _^_}
 use lib.ListN.{length, getD}
 use Rattle.names.specs.Limits.{streams, ticks}
@@ -34,8 +34,8 @@ linesIn s words = linesOf (planOf s) (waitsIn (s .count) words)
 pub record Printed (p : Plan) (waits : List Wait) : Type 0 where
   pub count : length (p .streams) ≤ streams
   pub label : (k : ℕ) → k < length (p .streams) → at p k .label .0 ≤ ticks
-  pub short : (k : ℕ) → k < length waits
-      → let w = getD waits k (record { evaluations = 0; limit = 0 }) in (w .evaluations < 10 ^ 10) × (w .limit < 10 ^ 10)
+  pub evaluations : (k : ℕ) → k < length waits → getD (map (λ w. w .evaluations) waits) k 0 < 10 ^ 10
+  pub limit : (k : ℕ) → k < length waits → getD (map (λ w. w .limit) waits) k 0 < 10 ^ 10
 
 -- the header, and 256 rows of 11 bytes of a label, 10 of each number, 2 spaces and a newline
 abbrev pub most : ℕ

@@ -41,8 +41,8 @@ loop-again c =
     let s = n .before .before .before in (
       omega arith,
       line-more row (answerAt (now (s .args .answers))) (s .args .t3 .count) (l .k) (s .args .t3 .streams) (omega arith) blank _
-      (omega (arith, d .loop-test .taken, n .smaller .ensures)) (omega (arith, places s, d .loop-test .taken, n .smaller .ensures)) (a .answer-in .ensures)
-      (l .inv .1) (r .lay-row .ensures),
+          (omega (arith, d .loop-test .taken, n .smaller .ensures)) (omega (arith, places s, d .loop-test .taken, n .smaller .ensures)) (a .answer-in .ensures)
+          (l .inv .1) (r .lay-row .ensures),
     )
 
 returns : tie.Need-returns Inv-loop μ-loop

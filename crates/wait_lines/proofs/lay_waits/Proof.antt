@@ -42,8 +42,8 @@ loop-again c =
     let s = n .before .before .before in (
       omega arith,
       line-more waitRow (waitAt (now (s .args .waits))) (s .args .t3 .count) (l .k) (s .args .t3 .streams) (omega arith) blank _
-      (omega (arith, d .loop-test .taken, n .smaller .ensures)) (omega (arith, places s, d .loop-test .taken, n .smaller .ensures)) (a .wait-in .ensures)
-      (l .inv .1) (r .lay-wait .ensures),
+          (omega (arith, d .loop-test .taken, n .smaller .ensures)) (omega (arith, places s, d .loop-test .taken, n .smaller .ensures)) (a .wait-in .ensures)
+          (l .inv .1) (r .lay-wait .ensures),
     )
 
 returns : tie.Need-returns Inv-loop μ-loop
