@@ -75,10 +75,13 @@ struct livnakesh_stepped {
     uint64_t at;
 };
 
-/* The answers of a plan file: three words a row in file order, verdict (0 met, 1 missed, 2 none), the bound (0 for none) and then
- * the instance q that gives it, counted from 0: the first of those with the largest term (0 for none). Words after 3n stay as
- * found; n is the word at byte 28 of the file, divided by 24 in editions 1 and 2 and by 28 in edition 3.
- * Refusals 1 to 6, 10 and 11; 6 if fewer than 3n words are lent. value is 0. */
+/* The answers of a plan file: four words a row in file order, verdict (0 met, 1 missed, 2 none), the bound (0 for none), the
+ * instance q that gives it, counted from 0: the first of those with the largest term (0 for none), and then the evaluations in the
+ * search for L. The evaluations are the steps from 1 on, by the right side of L, to a value that repeats or to the first beyond
+ * 4,294,967,295, the last one included, and at most floor(X / c) + 1, where c is the smallest C'' among the stream and the more urgent
+ * ones, or P with a master node, and X is L, or 4,294,967,295 for none. Words after 4n stay as found; n is the word at byte 28 of the
+ * file, divided by 24 in editions 1 and 2 and by 28 in edition 3.
+ * Refusals 1 to 6, 10 and 11; 6 if fewer than 4n words are lent. value is 0. */
 struct livnakesh_said livnakesh_answers(const uint8_t *file, size_t file_length, uint64_t *words, size_t word_count);
 
 /* Reads a plan file of any edition and writes its plan's file of edition 3 at the start of the lent buffer; the rest of the buffer is
@@ -92,9 +95,10 @@ struct livnakesh_said livnakesh_rewrite(const uint8_t *file, size_t file_length,
 struct livnakesh_said livnakesh_write(size_t streams, size_t gaps, const uint32_t *values, size_t value_count,
                                       uint8_t *buffer, size_t buffer_length);
 
-/* The answers of the screen's values, as livnakesh_answers gives them for their file. timing is ten words, F to NB and P: one that
- * is not lent is 0, so a caller who lends nine has no master node, and words after them are not looked at. The lists' own lengths
- * are n and m. Refusals 2 to 6, 10 and 11, with the places that the file would have; 6 if fewer than 3n words are lent. value is 0. */
+/* The answers of the screen's values, four words a row, as livnakesh_answers gives them for their file; the fourth is the evaluations,
+ * with the same limit. timing is ten words, F to NB and P: one that is not lent is 0, so a caller who lends nine has no master node,
+ * and words after them are not looked at. The lists' own lengths are n and m. Refusals 2 to 6, 10 and 11, with the places that the
+ * file would have; 6 if fewer than 4n words are lent. value is 0. */
 struct livnakesh_said livnakesh_screen(const struct livnakesh_stream *streams, size_t stream_count,
                                        const uint32_t *timing, size_t timing_count, const uint32_t *gaps, size_t gap_count,
                                        uint64_t *words, size_t word_count);

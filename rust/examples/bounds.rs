@@ -8,8 +8,8 @@ fn main() {
     match answers(&file) {
         Err(refused) => println!("refused {} at {}", refused.number, refused.place),
         Ok(rows) => {
-            for (row, answer) in rows.into_iter().enumerate() {
-                match answer {
+            for (row, searched) in rows.into_iter().enumerate() {
+                match searched.answer {
                     Answer::Met { bound, instance } => {
                         println!("row {row}: at most {bound} ticks, in time (instance {instance})")
                     }

@@ -34,7 +34,7 @@ pub struct Refused {
     pub place: u64,
 }
 
-/// What a row's answer words say: a bound that is at most the deadline, one that is above it, or none.
+/// What a row's first three words say: a bound that is at most the deadline, one that is above it, or none.
 ///
 /// The instance says which message of a burst, counted from 0, is the latest; the first of those that are equally late.
 #[derive(Clone, Copy, Debug, PartialEq, Eq)]
@@ -42,6 +42,17 @@ pub enum Answer {
     Met { bound: u64, instance: u64 },
     Missed { bound: u64, instance: u64 },
     None,
+}
+
+/// A row's answer, and what the search for its busy period L took.
+///
+/// The evaluations are the steps from 1 on, by the right side of L, to a value that repeats or to the first beyond 4,294,967,295, the
+/// last one included. They are at most floor(X / c) + 1: c is the smallest C'' among the stream and the more urgent ones, or P with a
+/// master node, and X is L, or 4,294,967,295 for none.
+#[derive(Clone, Copy, Debug, PartialEq, Eq)]
+pub struct Searched {
+    pub answer: Answer,
+    pub evaluations: u64,
 }
 
 /// Why a plan is not lighter: the stream by its label, a constant by its place in the file's order (0 is F, 9 is P), noise by the gap.
@@ -154,8 +165,8 @@ fn said(said: Said) -> Result<u64, Refused> {
     }
 }
 
-/// The words of a row: its verdict, its bound, and the instance that gives it.
-const ROW: usize = 3;
+/// The words of a row: its verdict, its bound, the instance that gives it, and the evaluations in the search for L.
+const ROW: usize = 4;
 
 /// The rows of the largest plan.
 const MOST_ROWS: usize = 256;
@@ -166,8 +177,8 @@ const RECORD: usize = 24;
 /// No verdict has this number, so a word that still has it was not written.
 const UNWRITTEN: u64 = u64::MAX;
 
-/// The answers of a plan file's streams, in file order.
-pub fn answers(file: &[u8]) -> Result<Vec<Answer>, Refused> {
+/// The answers of a plan file's streams, in file order, each with its evaluations.
+pub fn answers(file: &[u8]) -> Result<Vec<Searched>, Refused> {
     let mut words = room(file.len() / RECORD);
     answer_words(file, &mut words)?;
     Ok(rows(&words))
@@ -175,7 +186,7 @@ pub fn answers(file: &[u8]) -> Result<Vec<Answer>, Refused> {
 
 /// As `answers`, of records. The timing is the first ten words, F to NB and P. One that is not lent is 0, so nine words are a plan
 /// without a master node. A LAG is added to ETG; where the two are too great together it is refused 11.
-pub fn screen(streams: &[Stream], timing: &[u32], gaps: &[u32]) -> Result<Vec<Answer>, Refused> {
+pub fn screen(streams: &[Stream], timing: &[u32], gaps: &[u32]) -> Result<Vec<Searched>, Refused> {
     let mut words = room(streams.len());
     screen_words(streams, timing, gaps, &mut words)?;
     Ok(rows(&words))
@@ -187,8 +198,9 @@ fn room(rows: usize) -> Vec<u64> {
 }
 
 /// The rows that were written, which come first.
-fn rows(words: &[u64]) -> Vec<Answer> {
-    words.chunks_exact(ROW).take_while(|row| row[0] != UNWRITTEN).map(answer).collect()
+fn rows(words: &[u64]) -> Vec<Searched> {
+    let written = words.chunks_exact(ROW).take_while(|row| row[0] != UNWRITTEN);
+    written.map(|row| Searched { answer: answer(row), evaluations: row[3] }).collect()
 }
 
 fn answer(row: &[u64]) -> Answer {
@@ -200,8 +212,8 @@ fn answer(row: &[u64]) -> Answer {
     }
 }
 
-/// As `answers`, in lent memory: three words a row, the verdict (0 met, 1 missed, 2 none), the bound and the instance that gives
-/// it, both 0 for none. The words after them stay as found; with fewer words it is refused 6.
+/// As `answers`, in lent memory: four words a row, the verdict (0 met, 1 missed, 2 none), the bound and the instance that gives
+/// it, both 0 for none, and the evaluations. The words after them stay as found; with fewer words it is refused 6.
 pub fn answer_words(file: &[u8], words: &mut [u64]) -> Result<(), Refused> {
     // SAFETY: both slices outlive the call, and the library stays within them.
     said(unsafe { livnakesh_answers(file.as_ptr(), file.len(), words.as_mut_ptr(), words.len()) }).map(|_| ())
@@ -224,7 +236,7 @@ pub fn write(streams: usize, gaps: usize, values: &[u32], buffer: &mut [u8]) -> 
         .map(|n| n as usize)
 }
 
-/// As `screen`, in lent memory.
+/// As `screen`, in lent memory: four words a row, as in `answer_words`.
 pub fn screen_words(streams: &[Stream], timing: &[u32], gaps: &[u32], words: &mut [u64]) -> Result<(), Refused> {
     // SAFETY: the slices outlive the call, the library stays within them, and a stream is in C's layout.
     let answered = unsafe {

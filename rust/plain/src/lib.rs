@@ -29,8 +29,8 @@ const MOST_GAPS: usize = 8;
 const LARGEST: usize = WRITTEN.size(WRITTEN.most_streams(), MOST_GAPS);
 const LONGEST_SLOT: u32 = 5_000_000;
 
-/// The words of a row's answer: its verdict, its bound, and the instance that gives it.
-pub const ROW: usize = 3;
+/// The words of a row's answer: its verdict, its bound, the instance that gives it, and the evaluations in the search for L.
+pub const ROW: usize = 4;
 
 /// The longest busy period that counts.
 const HORIZON: u64 = u32::MAX as u64;
@@ -415,6 +415,15 @@ pub struct Worst {
     pub instance: u64,
 }
 
+/// What the search for L came to.
+#[derive(Clone, Copy, Debug, PartialEq, Eq)]
+pub struct Search {
+    /// L, if it is within the horizon.
+    pub busy_period: Option<u64>,
+    /// How often the right side was evaluated, the last time included.
+    pub evaluations: u64,
+}
+
 /// A stream with all that bears on it.
 pub struct Level<'a> {
     pub row: usize,
@@ -449,19 +458,31 @@ impl Level<'_> {
         self.blocking + q * self.own.cost + urgent + self.noise(wait + self.own.cost)
     }
 
-    /// L, if it is within the horizon. From 1, since 0 may solve the equation too.
-    pub fn busy_period(&self) -> Option<u64> {
-        let mut length = 1;
+    /// Looks for L. From 1, since 0 may solve the equation too.
+    pub fn search(&self) -> Search {
+        let (mut length, mut evaluations) = (1, 0);
         loop {
             let next = self.busy_step(length);
+            evaluations += 1;
             if next > HORIZON {
-                return None;
+                return Search { busy_period: None, evaluations };
             }
             if next == length {
-                return Some(length);
+                return Search { busy_period: Some(length), evaluations };
             }
             length = next;
         }
+    }
+
+    /// L, if it is within the horizon.
+    pub fn busy_period(&self) -> Option<u64> {
+        self.search().busy_period
+    }
+
+    /// The most evaluations of a search that finds this. Each but the last raises the chain by the cheapest message or more.
+    pub fn limit(&self, busy_period: Option<u64>) -> u64 {
+        let cheapest = self.urgent.iter().fold(self.own.cost, |cheapest, load| cheapest.min(load.cost));
+        busy_period.unwrap_or(HORIZON) / cheapest + 1
     }
 
     /// Q, the instances in a busy period.
@@ -487,7 +508,11 @@ impl Level<'_> {
     }
 
     pub fn worst(&self) -> Option<Worst> {
-        let instances = self.instances(self.busy_period()?);
+        self.busy_period().map(|length| self.worst_within(length))
+    }
+
+    fn worst_within(&self, busy_period: u64) -> Worst {
+        let instances = self.instances(busy_period);
         let mut wait = self.wait(0, 0);
         let (mut largest, mut instance) = (self.term(0, wait), 0);
         for q in 1..instances {
@@ -499,7 +524,7 @@ impl Level<'_> {
                 (largest, instance) = (term, q);
             }
         }
-        Some(Worst { bound: largest as u64, instance })
+        Worst { bound: largest as u64, instance }
     }
 }
 
@@ -559,10 +584,11 @@ fn extremes(loads: &[Load], before: u64) -> Vec<(u64, u64)> {
     both
 }
 
-fn answer(worst: Option<Worst>, deadline: u32) -> [u64; ROW] {
-    match worst {
-        None => [2, 0, 0],
-        Some(Worst { bound, instance }) => [u64::from(bound > u64::from(deadline)), bound, instance],
+fn answer(level: &Level, deadline: u32) -> [u64; ROW] {
+    let Search { busy_period, evaluations } = level.search();
+    match busy_period.map(|length| level.worst_within(length)) {
+        None => [2, 0, 0, evaluations],
+        Some(Worst { bound, instance }) => [u64::from(bound > u64::from(deadline)), bound, instance, evaluations],
     }
 }
 
@@ -573,7 +599,7 @@ fn answer_checked(plan: &Plan, words: &mut [u64]) -> Result<(), Refused> {
     };
     for level in Analysis::new(plan).levels() {
         let row = level.row;
-        rows[ROW * row..][..ROW].copy_from_slice(&answer(level.worst(), plan.streams[row].deadline));
+        rows[ROW * row..][..ROW].copy_from_slice(&answer(&level, plan.streams[row].deadline));
     }
     Ok(())
 }

@@ -6,12 +6,12 @@ mod common;
 use common::{
     any_file_of, as_read, bytes, drawn, edge_plan, editions_of, etg_and_lag, etg_and_lag_of, file_in, file_of, hex, in_slots,
     is_short, lag_case, lent, lent_words, many, many_streams, most_streams, need_all, need_lag_cases, oldest, other_slot, plan,
-    plan_in, plan_of, repeat, shortest_slot, stream, tally_acknowledgements, tally_instance, tally_lag, tally_no_room,
-    tally_refusal, tally_rows, tally_slot, tally_streams, tally_tie, terms, values_of, words, written_of, ByEdition, Counts,
-    LagCase, Rng, Tally, BASE, EDITIONS, GREATEST, H, LARGEST, LONGEST_SLOT, MANY, MOST_STREAMS,
+    plan_in, plan_of, repeat, shortest_slot, stream, tally_acknowledgements, tally_instance, tally_lag, tally_limit,
+    tally_no_room, tally_refusal, tally_rows, tally_slot, tally_streams, tally_tie, terms, values_of, words, written_of,
+    ByEdition, Counts, LagCase, Rng, Tally, BASE, EDITIONS, GREATEST, H, LARGEST, LONGEST_SLOT, MANY, MOST_STREAMS,
 };
 use livnakesh::{Compared, Label, Priority, Reason, Refused, Stream};
-use plain::{self, Analysis, Edition, Plan, Worst, ETG, LAG, P, ROW};
+use plain::{self, Analysis, Edition, Level, Plan, Worst, ETG, LAG, P, ROW};
 
 type Answers = fn(&[u8], &mut [u64]) -> Result<(), Refused>;
 
@@ -130,7 +130,7 @@ fn drawn_plans() {
     }
     tallies.print("drawn plans");
     tallies.need_all(&["row: met", "row: missed", "row: none", "refusal 6"], 10_000);
-    tallies.need_all(&["refusal 6: room but for the instances"], 5_000);
+    tallies.need_all(&["refusal 6: room but for the evaluations"], 5_000);
     tallies.need_all(&["worst: the first instance", "worst: the second instance", "worst: a later instance"], 1_000);
     tallies.need_all(&["lent: too short", "lent: exact", "lent: longer", "streams: 1"], 5_000);
     tallies.need_all(&["streams: 64"], 3_000);
@@ -476,31 +476,130 @@ fn ceil(ticks: u64, by: u32) -> u64 {
     ticks.div_ceil(u64::from(by))
 }
 
-/// The terms of a row's instances as documents 01 and 02 say it: each least number is looked for by counting up. Nothing if L is
-/// more than `most`.
-fn terms_by_counting(plan: &Plan, row: usize, most: u64) -> Option<Vec<i64>> {
-    let slots = plan.timing[P] > 0;
-    let [f, e, tfcs, swx, h, g, etg, lag, nb, p] = plan.timing.map(u64::from);
-    let v = if slots { 0 } else { f + e + tfcs.max(swx) + h };
-    let u = g + (h + g) * nb + (etg + lag);
-    let sent = |s: &Stream| u64::from(s.payload) + u64::from(s.acknowledgement) + u;
-    let cost = |s: &Stream| if slots { p } else { v + sent(s) };
-    let own = &plan.streams[row];
-    let last = if slots { sent(own) + h } else { v + sent(own) };
-    let urgent: Vec<&Stream> = plan.streams.iter().filter(|s| s.priority < own.priority).collect();
-    let less_urgent = plan.streams.iter().filter(|s| s.priority > own.priority);
-    let blocking = if slots { p - 1 } else { less_urgent.map(|s| sent(s) - 1).max().unwrap_or(0) };
-    let dearest = urgent.iter().map(|s| cost(s)).chain([cost(own)]).max().unwrap_or(0);
-    let noise = |t: u64| plan.gaps.iter().map(|&gap| ceil(t, gap)).sum::<u64>() * dearest;
-    let sum = |t: u64| urgent.iter().map(|s| ceil(t + u64::from(s.jitter), s.period) * cost(s)).sum::<u64>();
-    let instances = |l: u64| ceil(l + u64::from(own.jitter), own.period);
-    let busy = (1..=most).find(|&l| l == blocking + sum(l) + instances(l) * cost(own) + noise(l))?;
-    let terms = (0..instances(busy)).map(|q| {
-        let right = |w: u64| blocking + q * cost(own) + sum(w + v + 1) + noise(w + cost(own));
-        let wait = (0..=busy - cost(own)).find(|&w| w == right(w)).expect("w(q) is never more than L - C''");
-        (u64::from(own.jitter) + wait + last) as i64 - (q * u64::from(own.period)) as i64
+/// The longest busy period that counts.
+const HORIZON: u64 = 4_294_967_295;
+
+/// A row of a plan as documents 01 and 02 say it.
+struct Stated<'a> {
+    own: &'a Stream,
+    urgent: Vec<&'a Stream>,
+    gaps: &'a [u32],
+    /// V, or 0 in slots.
+    v: u64,
+    u: u64,
+    h: u64,
+    p: u64,
+    blocking: u64,
+    /// The largest and the smallest cost among the stream and the more urgent ones.
+    dearest: u64,
+    cheapest: u64,
+}
+
+impl<'a> Stated<'a> {
+    fn of(plan: &'a Plan, row: usize) -> Stated<'a> {
+        let [f, e, tfcs, swx, h, g, etg, lag, nb, p] = plan.timing.map(u64::from);
+        let v = if p > 0 { 0 } else { f + e + tfcs.max(swx) + h };
+        let u = g + (h + g) * nb + (etg + lag);
+        let own = &plan.streams[row];
+        let urgent = plan.streams.iter().filter(|s| s.priority < own.priority).collect();
+        let mut stated = Stated { own, urgent, gaps: &plan.gaps, v, u, h, p, blocking: 0, dearest: 0, cheapest: 0 };
+        let less_urgent = plan.streams.iter().filter(|s| s.priority > own.priority);
+        stated.blocking = if p > 0 { p - 1 } else { less_urgent.map(|s| stated.sent(s) - 1).max().unwrap_or(0) };
+        let costs: Vec<u64> = stated.urgent.iter().chain([&own]).map(|s| stated.cost(s)).collect();
+        stated.dearest = costs.iter().copied().max().unwrap_or(0);
+        stated.cheapest = costs.iter().copied().min().unwrap_or(0);
+        stated
+    }
+
+    /// C'.
+    fn sent(&self, s: &Stream) -> u64 {
+        u64::from(s.payload) + u64::from(s.acknowledgement) + self.u
+    }
+
+    fn cost(&self, s: &Stream) -> u64 {
+        if self.p > 0 {
+            self.p
+        } else {
+            self.v + self.sent(s)
+        }
+    }
+
+    /// The last term of the bound.
+    fn last(&self) -> u64 {
+        self.sent(self.own) + if self.p > 0 { self.h } else { self.v }
+    }
+
+    fn noise(&self, t: u64) -> u64 {
+        self.gaps.iter().map(|&gap| ceil(t, gap)).sum::<u64>() * self.dearest
+    }
+
+    fn sum(&self, t: u64) -> u64 {
+        self.urgent.iter().map(|s| ceil(t + u64::from(s.jitter), s.period) * self.cost(s)).sum()
+    }
+
+    fn instances(&self, l: u64) -> u64 {
+        ceil(l + u64::from(self.own.jitter), self.own.period)
+    }
+
+    /// The right side of L.
+    fn busy(&self, l: u64) -> u64 {
+        self.blocking + self.sum(l) + self.instances(l) * self.cost(self.own) + self.noise(l)
+    }
+
+    /// The right side of w(q).
+    fn wait(&self, q: u64, w: u64) -> u64 {
+        let cost = self.cost(self.own);
+        self.blocking + q * cost + self.sum(w + self.v + 1) + self.noise(w + cost)
+    }
+
+    /// The most evaluations of a search that finds this L, or none.
+    fn limit(&self, busy_period: Option<u64>) -> u64 {
+        busy_period.unwrap_or(HORIZON) / self.cheapest + 1
+    }
+}
+
+/// The terms of a row's instances: each least number is looked for by counting up. Nothing if L is more than `most`.
+fn terms_by_counting(stated: &Stated, most: u64) -> Option<Vec<i64>> {
+    let own = stated.own;
+    let busy = (1..=most).find(|&l| l == stated.busy(l))?;
+    let terms = (0..stated.instances(busy)).map(|q| {
+        let longest = busy - stated.cost(own);
+        let wait = (0..=longest).find(|&w| w == stated.wait(q, w)).expect("w(q) is never more than L - C''");
+        (u64::from(own.jitter) + wait + stated.last()) as i64 - (q * u64::from(own.period)) as i64
     });
     Some(terms.collect())
+}
+
+/// The values after 1, each the right side of the one before it, to one that stood there before or the first beyond the horizon: one for
+/// each evaluation. Nothing if they are more than `most`.
+fn chain(right: impl Fn(u64) -> u64, most: usize) -> Option<Vec<u64>> {
+    let mut values = vec![1];
+    while values.len() <= most {
+        let next = right(values[values.len() - 1]);
+        let ends = next > HORIZON || values.contains(&next);
+        values.push(next);
+        if ends {
+            return Some(values.split_off(1));
+        }
+    }
+    None
+}
+
+/// The evaluations of a row of the plain planner, against a list of them of up to `most`, by the rule and by its own right side.
+fn listed_alike(level: &Level, stated: &Stated, most: usize, tally: &mut Tally) {
+    let search = level.search();
+    let Some(values) = chain(|l| stated.busy(l), most) else {
+        return tally.count("evaluations too many to list");
+    };
+    assert_eq!(chain(|l| level.busy_step(l), most).as_ref(), Some(&values));
+    assert_eq!(search.evaluations, values.len() as u64, "{values:?}");
+    assert_eq!(search.busy_period, values.last().copied().filter(|&last| last <= HORIZON), "{values:?}");
+    tally.count(match values.len() {
+        1 => "evaluations: 1",
+        2 => "evaluations: 2",
+        3..=9 => "evaluations: 3 to 9",
+        _ => "evaluations: 10 and more",
+    });
 }
 
 /// The largest term, and the first instance that has it.
@@ -562,8 +661,9 @@ fn evened(rng: &mut Rng, mut plan: Plan) -> Plan {
 /// The plain planner on every row of a plan, against the rule with busy periods of up to `most`.
 fn counted_alike(plan: &Plan, most: u64, tally: &mut Tally) {
     for level in Analysis::new(plan).levels() {
-        let busy_period = level.busy_period();
-        let counted = terms_by_counting(plan, level.row, most);
+        let (busy_period, stated) = (level.busy_period(), Stated::of(plan, level.row));
+        listed_alike(&level, &stated, most as usize, tally);
+        let counted = terms_by_counting(&stated, most);
         if counted.is_none() && busy_period.is_some_and(|length| length > most) {
             tally.count("busy period too long to count");
             continue;
@@ -587,6 +687,7 @@ fn plain_planner_by_counting() {
         counted_alike(&plan, 4_000, tallies.of(&plan));
     }
     tallies.print("plain planner against the rule by counting up");
+    tallies.need_all(&["evaluations: 2", "evaluations: 3 to 9", "evaluations: 10 and more"], 1_000);
     tallies.need_all(&["bound", "none", "worst: the first instance"], 1_000);
     tallies.need_all(&["worst: the second instance", "tie: the first instance and a later one"], 300);
     tallies.need_all(&["worst: a later instance"], 100);
@@ -605,6 +706,7 @@ fn many_streams_by_counting() {
     need_all(&tally, &MANY, 5);
     need_all(&tally, &["bound", "worst: the first instance"], 1_000);
     need_all(&tally, &["none", "slot: none", "slot: just long enough"], 5);
+    need_all(&tally, &["evaluations: 2", "evaluations: 3 to 9", "evaluations: 10 and more"], 100);
 }
 
 /// Of instances that are equally late both planners tell the first.
@@ -622,6 +724,110 @@ fn equally_late_instances() {
     tallies.need_all(&["tie: the first instance and a later one"], 500);
     tallies.need_all(&["tie: two later instances"], 50);
     tallies.need_all(&["worst: the second instance", "worst: a later instance"], 150);
+}
+
+// ---- evaluations and their limit ----
+
+/// The evaluations of a plan's rows, as the library has them, against the limit: the plain planner's and that of the rule.
+fn limits_kept(plan: &Plan, words: &[u64], tally: &mut Tally) {
+    for level in Analysis::new(plan).levels() {
+        let (evaluations, busy_period) = (words[ROW * level.row + 3], level.busy_period());
+        let (stated, limit) = (Stated::of(plan, level.row), level.limit(busy_period));
+        let case = || format!("row {} of {}", level.row, hex(&file_of(plan)));
+        assert_eq!(limit, stated.limit(busy_period), "{}", case());
+        assert!(evaluations <= limit, "{evaluations} evaluations and at most {limit}: {}", case());
+        // A more urgent stream and a hit each stand in the first value, beside the stream's own message.
+        let alone = stated.urgent.is_empty() && plan.gaps.is_empty();
+        assert!(alone || evaluations < limit, "{evaluations} evaluations and below {limit}: {}", case());
+        tally_limit(tally, busy_period, evaluations, limit);
+    }
+}
+
+/// The number is that of the values which a plain list has after 1.
+#[test]
+fn evaluations_by_listing_them() {
+    let (mut rng, mut tallies) = (Rng(0x1157), ByEdition::default());
+    for k in 0..30_000 {
+        let plan = drawn(&mut rng, [plan, edge_plan, even_plan][k % 3], &mut tallies);
+        let tally = tallies.of(&plan);
+        for level in Analysis::new(&plan).levels() {
+            listed_alike(&level, &Stated::of(&plan, level.row), 2_000, tally);
+        }
+    }
+    tallies.print("evaluations by listing them");
+    tallies.need_all(&["evaluations: 1", "evaluations: 2", "evaluations: 3 to 9", "evaluations: 10 and more"], 1_000);
+    need_all(&tallies.many, &["evaluations: 1", "evaluations: 2", "evaluations: 3 to 9", "evaluations: 10 and more"], 100);
+}
+
+#[test]
+fn evaluations_within_their_limit() {
+    let (mut rng, mut tallies) = (Rng(0x11317), ByEdition::default());
+    for k in 0..80_000 {
+        let plan = drawn(&mut rng, [plan, edge_plan, small_plan, even_plan][k % 4], &mut tallies);
+        let (file, tally) = (any_file_of(&mut rng, &plan), tallies.of(&plan));
+        tally_plan(tally, &plan);
+        if let Some(words) = answers_alike(&mut rng, &file, tally) {
+            limits_kept(&plan, &words, tally);
+        }
+    }
+    tallies.print("evaluations within their limit");
+    tallies.need_all(&["L: at the limit", "L: one below", "L: further below", "none: further below"], 500);
+    tallies.need_all(&["row: met", "row: missed", "row: none", "gaps: 0", "gaps: 1", "gaps: 8"], 500);
+    tallies.need_slotted(&["slot: just long enough", "slot: longer"], 500);
+    tallies.three.need("slot: none", 500);
+    need_all(&tallies.many, &["L: at the limit", "L: further below", "none: further below"], 10);
+}
+
+/// A stream with no jitter and a period of just what it costs, and often a less urgent one; and then that cost and B.
+fn filled(rng: &mut Rng, edition: Edition) -> (Plan, u64, u64) {
+    let acknowledgement = if edition == Edition::Three { rng.within(1, 9_000) as u32 } else { 0 };
+    let mut timing = BASE;
+    // Beside F there are 4 ticks in V and 12 in U.
+    timing[0] = rng.within(0, 65_535) as u32;
+    let slots = edition == Edition::Two || edition == Edition::Three && rng.one_in(2);
+    let (payload, cost) = if slots {
+        let any = rng.within(65_536, u64::from(LONGEST_SLOT)) as u32;
+        timing[P] = rng.pick(&[1 << 16, 1 << 18, 1 << 22, any, any]);
+        (1, timing[P])
+    } else {
+        (65_535, 65_535 + acknowledgement + timing[0] + 16)
+    };
+    let mut streams = vec![Stream { acknowledgement, ..stream(1, 0, cost, 0, payload, u32::MAX) }];
+    let mut blocking = if slots { cost - 1 } else { 0 };
+    if !rng.one_in(4) {
+        // Next to what is left of the horizon after the last whole cost, and anywhere.
+        let left = u32::MAX % cost;
+        let any = rng.within(12, 65_546) as u32;
+        let held = rng.pick(&[12, left.saturating_sub(1), left, left + 1, any, any]).clamp(12, 65_546);
+        streams.push(stream(2, 1, u32::MAX, 0, if slots { 1 } else { held - 11 }, 1));
+        blocking = if slots { blocking } else { held };
+    }
+    (Plan { timing, streams, gaps: vec![] }, u64::from(cost), u64::from(blocking))
+}
+
+/// Value k is B and k times the cost. With a B of 0 the second evaluation gives the first one's value again. Else the chain goes on to
+/// the horizon, and as far as it may if B is at most what whole costs leave of it.
+#[test]
+fn a_stream_that_fills_the_channel() {
+    let (mut rng, mut tallies) = (Rng(0xF111), ByEdition::default());
+    for _ in 0..1_200 {
+        let edition = rng.pick(&EDITIONS);
+        let (plan, cost, blocking) = filled(&mut rng, edition);
+        let (file, tally) = (any_file_of(&mut rng, &plan), tallies.of(&plan));
+        let Some(words) = answers_alike(&mut rng, &file, tally) else { continue };
+        limits_kept(&plan, &words, tally);
+        let wanted = match blocking {
+            0 => [0, cost, 0, 2],
+            _ => [2, 0, 0, HORIZON / cost + u64::from(blocking <= HORIZON % cost)],
+        };
+        assert_eq!(words[..ROW], wanted, "C'' {cost}, B {blocking}: {}", hex(&file));
+        let limit = if blocking == 0 { 2 } else { HORIZON / cost + 1 };
+        tally.count(if wanted[3] == limit { "as many as there may be" } else { "one fewer" });
+    }
+    tallies.print("a stream that fills the channel");
+    tallies.need_all(&["none: at the limit", "none: one below", "as many as there may be", "one fewer"], 30);
+    tallies.one.need("L: at the limit", 30);
+    tallies.three.need("L: at the limit", 30);
 }
 
 // ---- files that are not right ----

@@ -23,7 +23,7 @@ fn answers(plan: &Plan) -> Vec<Answer> {
     assert_eq!(livnakesh::answer_words(&file, &mut proved), Ok(()));
     assert_eq!(plain::answers(&file, &mut ours), Ok(()));
     assert_eq!(proved, ours);
-    livnakesh::answers(&file).expect("a plan that is not refused")
+    livnakesh::answers(&file).expect("a plan that is not refused").into_iter().map(|searched| searched.answer).collect()
 }
 
 /// The bounds of a plan in which all is met, each by its first instance.

@@ -7,7 +7,7 @@ use common::{
     editions_of, file_in, file_of, met, met_at, missed, missed_at, oldest, stream, terms, values_of, written_of, BASE, EDITIONS,
     LARGEST, LONGEST_SLOT, MOST_STREAMS,
 };
-use livnakesh::{Answer, Compared, Label, Outcome, Phase, Priority, Reason, Refused, Row, Stream};
+use livnakesh::{Answer, Compared, Label, Outcome, Phase, Priority, Reason, Refused, Row, Searched, Stream};
 use plain::{self, Analysis, Edition, Level, Plan, Tournament, ETG, LAG, NB, P, ROW};
 
 /// 10.1, 10.10 and 11.2.
@@ -111,16 +111,16 @@ fn p7_with(second: u32, last: u32) -> Plan {
     plan
 }
 
-/// A row's three words.
-fn as_words(answer: Answer) -> [u64; ROW] {
+/// A row's four words.
+fn as_words(Searched { answer, evaluations }: Searched) -> [u64; ROW] {
     match answer {
-        Answer::Met { bound, instance } => [0, bound, instance],
-        Answer::Missed { bound, instance } => [1, bound, instance],
-        Answer::None => [2, 0, 0],
+        Answer::Met { bound, instance } => [0, bound, instance, evaluations],
+        Answer::Missed { bound, instance } => [1, bound, instance, evaluations],
+        Answer::None => [2, 0, 0, evaluations],
     }
 }
 
-fn answers(file: &[u8]) -> Result<Vec<Answer>, Refused> {
+fn answers(file: &[u8]) -> Result<Vec<Searched>, Refused> {
     let mut words = [77; ROW * MOST_STREAMS];
     let proved = livnakesh::answer_words(file, &mut words);
     let mut plain_words = [77; ROW * MOST_STREAMS];
@@ -155,7 +155,7 @@ fn written(plan: &Plan) -> Result<Vec<u8>, Refused> {
 }
 
 /// What the screen gets for a plan's values.
-fn screened(plan: &Plan) -> Result<Vec<Answer>, Refused> {
+fn screened(plan: &Plan) -> Result<Vec<Searched>, Refused> {
     let mut words = [77; ROW * MOST_STREAMS];
     livnakesh::screen_words(&plan.streams, &plan.timing, &plan.gaps, &mut words)?;
     let n = plan.streams.len();
@@ -166,14 +166,30 @@ fn screened(plan: &Plan) -> Result<Vec<Answer>, Refused> {
 }
 
 /// By the plan's values and by its file in each of its editions.
-fn gives(plan: &Plan, wanted: &[Answer]) {
-    assert_eq!(screened(plan), Ok(wanted.to_vec()));
+fn searched(plan: &Plan) -> Vec<Searched> {
+    let rows = screened(plan);
     assert_eq!(written(plan), Ok(written_of(plan)));
     for edition in editions_of(plan) {
         let file = file_in(edition, plan);
-        assert_eq!(answers(&file), Ok(wanted.to_vec()));
+        assert_eq!(answers(&file), rows);
         assert_eq!(rewritten(&file), Ok(written_of(plan)));
     }
+    rows.expect("a plan that is not refused")
+}
+
+fn gives(plan: &Plan, wanted: &[Answer]) {
+    assert_eq!(only_answers(searched(plan)), wanted);
+}
+
+fn only_answers(rows: Vec<Searched>) -> Vec<Answer> {
+    rows.into_iter().map(|row| row.answer).collect()
+}
+
+/// The evaluations of each row, and the most that they may be.
+fn takes(plan: &Plan, wanted: &[(u64, u64)]) {
+    let rows = searched(plan).into_iter().enumerate();
+    let limit = |row| at_level(plan, row, |level| level.limit(level.busy_period()));
+    assert_eq!(rows.map(|(row, searched)| (searched.evaluations, limit(row))).collect::<Vec<_>>(), wanted);
 }
 
 fn values_are_refused(plan: &Plan, number: u64, place: u64) {
@@ -231,9 +247,11 @@ fn p4_has_none() {
     gives(&single(24, 0), &[Answer::None]);
 }
 
+/// From 1 to 50, then 25 more at every evaluation, to 4,294,967,300: one evaluation fewer than there may be.
 #[test]
 fn p5_has_none_for_its_jitter() {
-    gives(&single(25, 25), &[Answer::None]);
+    assert_eq!(searched(&single(25, 25)), [Searched { answer: Answer::None, evaluations: 171_798_691 }]);
+    assert_eq!(at_level(&single(25, 25), 0, |level| level.limit(None)), 171_798_692);
 }
 
 /// C'' was 23 with a pulse fewer, and is now above these periods.
@@ -306,6 +324,94 @@ fn p11_has_a_payload_of_0() {
     let mut plan = p1();
     plan.streams[0].payload = 0;
     values_are_refused(&plan, 3, 100);
+}
+
+// ---- evaluations ----
+
+/// 10.1 goes from 1 to 43 and stays there, 10.10 to 65, 11.2 to 74. The least costs are 25, 25 and 22. With noise 11.2 goes by 101 to 126.
+#[test]
+fn evaluations_of_p1_and_p2() {
+    takes(&p1(), &[(2, 2), (2, 3), (2, 4)]);
+    takes(&Plan { gaps: vec![1_000], ..p1() }, &[(2, 3), (2, 4), (3, 6)]);
+}
+
+/// f(1) is 25, and so is f(25).
+#[test]
+fn p3_takes_2_evaluations() {
+    takes(&single(25, 0), &[(2, 2)]);
+}
+
+/// 50, 75, 100, 125, 150, and 150 again.
+#[test]
+fn p6_takes_6_evaluations() {
+    takes(&single(30, 30), &[(6, 7)]);
+}
+
+/// 19 and 19; 29, 39, 49 and 49; 30, 40, 60, 70 and 70.
+#[test]
+fn evaluations_of_p7() {
+    takes(&p7(), &[(2, 2), (4, 5), (5, 8)]);
+}
+
+/// 59 and 59; 89 and 89; 119, 149, 179 and 179. Each message counts 30, in the limit too.
+#[test]
+fn evaluations_in_slots() {
+    takes(&in_slots(p1(), 30), &[(2, 2), (2, 3), (4, 6)]);
+}
+
+/// One evaluation is the fewest: f(1) is 1, or beyond the horizon at once.
+#[test]
+fn a_single_evaluation() {
+    let timing = [0, 0, 0, 0, 0, 0, 0, 0, 1, 0];
+    let plan = |jitter| Plan { timing, streams: vec![stream(1, 0, 1, jitter, 1, 1)], gaps: vec![] };
+    assert_eq!(searched(&plan(0)), [Searched { answer: met(1), evaluations: 1 }]);
+    takes(&plan(0), &[(1, 2)]);
+    assert_eq!(searched(&plan(u32::MAX)), [Searched { answer: Answer::None, evaluations: 1 }]);
+    takes(&in_slots(plan(0), 1), &[(1, 2)]);
+    takes(&in_slots(plan(u32::MAX), 1), &[(1, 4_294_967_296)]);
+}
+
+/// A stream with a period of 65,555, which is its C'', and no jitter, above one with a message of `payload`. Of the horizon 65,517 whole
+/// costs leave 360 ticks: up to a B of 360 the chain's value 65,517 is within it, and one more evaluation is made.
+#[test]
+fn a_stream_that_fills_the_channel() {
+    let plan = |payload| {
+        let streams = vec![stream(1, 1, 65_555, 0, 65_535, 1), stream(2, 2, u32::MAX, 0, payload, 1)];
+        Plan { timing: BASE, streams, gaps: vec![] }
+    };
+    for (payload, evaluations) in [(1, 65_518), (348, 65_518), (349, 65_518), (350, 65_517)] {
+        let rows = searched(&plan(payload));
+        assert_eq!(rows[0], Searched { answer: Answer::None, evaluations }, "a payload of {payload}");
+        assert_eq!(at_level(&plan(payload), 0, |level| level.limit(None)), 65_518);
+    }
+}
+
+/// A call that answers a plan in lent words.
+type Answering<'a> = &'a dyn Fn(&mut [u64]) -> Result<(), Refused>;
+
+/// 6 exactly when fewer than four words a row are lent. All are then as found, and otherwise those after the rows.
+#[test]
+fn four_words_a_row() {
+    for plan in [single(25, 0), p1(), in_slots(p1(), 30), acknowledged(p1(), &[3, 2, 0]), one_each(64), one_each(256)] {
+        let (n, file) = (plan.streams.len(), file_of(&plan));
+        let mut rows = vec![77; 4 * n];
+        assert_eq!(plain::screen(&plan, &mut rows), Ok(()));
+        let calls: [Answering; 4] = [
+            &|words| livnakesh::answer_words(&file, words),
+            &|words| livnakesh::screen_words(&plan.streams, &plan.timing, &plan.gaps, words),
+            &|words| plain::answers(&file, words),
+            &|words| plain::screen(&plan, words),
+        ];
+        let lengths = if n < 4 { Vec::from_iter(0..=4 * n + 5) } else { vec![0, 3 * n, 4 * n - 1, 4 * n, 4 * n + 1] };
+        for (length, call) in lengths.into_iter().flat_map(|length| calls.map(|call| (length, call))) {
+            let mut words = vec![77; length];
+            let said = call(&mut words);
+            let (wanted, kept) = if length < 4 * n { (Err(Refused { number: 6, place: 0 }), 0) } else { (Ok(()), 4 * n) };
+            assert_eq!(said, wanted, "{n} rows, {length} words");
+            assert_eq!(words[..kept], rows[..kept], "{n} rows, {length} words");
+            assert!(words[kept..].iter().all(|&word| word == 77), "{n} rows, {length} words: {words:?}");
+        }
+    }
 }
 
 // ---- slots ----
@@ -477,10 +583,10 @@ fn no_slot_is_too_short_without_a_master_node() {
 #[test]
 fn nine_timing_words_are_no_master_node() {
     let plan = in_slots(p1(), 30);
-    let (mut nine, mut none) = ([77; 9], [77; 9]);
+    let (mut nine, mut none) = ([77; 3 * ROW], [77; 3 * ROW]);
     assert_eq!(livnakesh::screen_words(&plan.streams, &plan.timing[..P], &[], &mut nine), Ok(()));
     assert_eq!(livnakesh::screen_words(&plan.streams, &p1().timing, &[], &mut none), Ok(()));
-    let wanted = [0, 43, 0, 0, 75, 0, 0, 74, 0];
+    let wanted = [0, 43, 0, 2, 0, 75, 0, 2, 0, 74, 0, 2];
     assert_eq!((nine, none), (wanted, wanted));
 }
 
@@ -669,15 +775,15 @@ fn repeats_in_256_rows() {
 fn room_for_256_rows() {
     let (plan, short) = (crowd(256), Err(Refused { number: 6, place: 0 }));
     let file = file_of(&plan);
-    let (mut words, mut bytes) = ([77; 3 * 256 - 1], [77; 7_283]);
+    let (mut words, mut bytes) = ([77; 4 * 256 - 1], [77; 7_283]);
     assert_eq!(livnakesh::answer_words(&file, &mut words), short);
     assert_eq!(livnakesh::screen_words(&plan.streams, &plan.timing, &plan.gaps, &mut words), short);
     assert_eq!(plain::answers(&file, &mut words), short);
     assert_eq!(livnakesh::rewrite(&file, &mut bytes).map(|_| ()), short);
     assert_eq!(livnakesh::write(256, 8, &values_of(&plan), &mut bytes).map(|_| ()), short);
     assert_eq!(plain::rewrite(&file, &mut bytes).map(|_| ()), short);
-    assert_eq!((words, bytes), ([77; 3 * 256 - 1], [77; 7_283]));
-    assert_eq!(livnakesh::answer_words(&file, &mut [77; 3 * 256]), Ok(()));
+    assert_eq!((words, bytes), ([77; 4 * 256 - 1], [77; 7_283]));
+    assert_eq!(livnakesh::answer_words(&file, &mut [77; 4 * 256]), Ok(()));
     assert_eq!(livnakesh::rewrite(&file, &mut [77; 7_284]), Ok(7_284));
 }
 
@@ -841,10 +947,10 @@ fn the_first_word_tells_the_records_apart() {
     let record = |k: u32| stream(6 * k + 1, 6 * k + 2, 6 * k + 3, 6 * k + 4, 6 * k + 5, 6 * k + 6);
     let seven = Plan { timing, streams: (0..7).map(record).collect(), gaps: vec![9] };
     let mut file = file_in(Edition::Two, &seven);
-    assert_eq!(answers(&file), Ok(vec![Answer::None; 7]));
+    assert_eq!(answers(&file).map(only_answers), Ok(vec![Answer::None; 7]));
     assert_eq!(rewritten(&file), Ok(file_of(&seven)));
     file[0] = 3;
-    assert_eq!(answers(&file), Ok(vec![Answer::None; 6]));
+    assert_eq!(answers(&file).map(only_answers), Ok(vec![Answer::None; 6]));
     assert_eq!(rewritten(&file), Ok(file));
 }
 

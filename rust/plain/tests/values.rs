@@ -335,7 +335,7 @@ fn screens_of_drawn_plans() {
     need_all(&tallies.many, &["row: met", "row: missed", "row: none"], 1_000);
     tallies.need_all(&["answered", "row: met", "row: missed", "row: none"], 10_000);
     tallies.need_all(&["refusal 6", "lent: too short", "lent: exact", "lent: longer"], 5_000);
-    tallies.need_all(&["refusal 6: room but for the instances"], 1_000);
+    tallies.need_all(&["refusal 6: room but for the evaluations"], 1_000);
     tallies.need_all(&["LAG: 0", "LAG: fits", "LAG: just fits", "answered as what is written"], 3_000);
     tallies.need_all(&["worst: the second instance", "worst: a later instance"], 300);
 }
@@ -350,14 +350,14 @@ fn words_one_short() {
                 break plan;
             }
         };
-        for length in [0, 2 * n, ROW * n - 1, ROW * n, ROW * n + 1] {
+        for length in [0, 3 * n, 4 * n - 1, 4 * n, 4 * n + 1] {
             let said = screen_into(&words(rng.next(), length), &plan, &plan.timing, &mut tallies);
-            let wanted = if length < ROW * n { Err(Refused { number: 6, place: 0 }) } else { Ok(()) };
+            let wanted = if length < 4 * n { Err(Refused { number: 6, place: 0 }) } else { Ok(()) };
             assert_eq!(said, wanted, "{edition:?}, {n} streams, {length} words");
         }
     }
-    tallies.print("answer words two a row, one short, exact and one more");
-    tallies.need_all(&["answered", "refusal 6: room but for the instances"], 128);
+    tallies.print("answer words three a row, one short, exact and one more");
+    tallies.need_all(&["answered", "refusal 6: room but for the evaluations"], 128);
     tallies.many.need("counts: 256 streams", 5);
 }
 

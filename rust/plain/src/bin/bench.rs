@@ -80,6 +80,11 @@ fn longest_busy_period(plan: &Plan) -> Option<u64> {
     plain::Analysis::new(plan).levels().filter_map(|level| level.busy_period()).max()
 }
 
+/// Of the stream whose search takes most.
+fn most_evaluations(plan: &Plan) -> u64 {
+    plain::Analysis::new(plan).levels().map(|level| level.search().evaluations).max().expect("a plan has streams")
+}
+
 fn file(plan: &Plan) -> Vec<u8> {
     let mut file = vec![0; LARGEST];
     let length = plain::write(plan, &mut file).expect("a plan of the benchmark is right");
@@ -113,18 +118,24 @@ fn thousands(nanoseconds: f64) -> String {
     groups.join(",")
 }
 
-fn row(name: &str, rounds: u32, proved: &mut dyn FnMut(), plain: &mut dyn FnMut()) {
+/// A row of the table, of what both take.
+fn show(name: &str, [proved, plain]: [f64; 2]) {
+    println!("| {name} | {} | {} | {:.2} |", thousands(proved), thousands(plain), proved / plain);
+}
+
+/// Hands back what both take, in nanoseconds a call.
+fn row(name: &str, rounds: u32, proved: &mut dyn FnMut(), plain: &mut dyn FnMut()) -> [f64; 2] {
     let calls = calls_for(proved).min(calls_for(plain));
     let (mut best_proved, mut best_plain) = (f64::MAX, f64::MAX);
     for _ in 0..rounds {
         best_proved = best_proved.min(time(calls, proved));
         best_plain = best_plain.min(time(calls, plain));
     }
-    let ratio = best_proved / best_plain;
-    println!("| {name} | {} | {} | {ratio:.2} |", thousands(best_proved), thousands(best_plain));
+    show(name, [best_proved, best_plain]);
+    [best_proved, best_plain]
 }
 
-fn answers_row(name: &str, rounds: u32, plan: &Plan) {
+fn answers_row(name: &str, rounds: u32, plan: &Plan) -> [f64; 2] {
     let file = file(plan);
     let (mut proved, mut ours) = ([0; ROW * MOST_STREAMS], [0; ROW * MOST_STREAMS]);
     assert_eq!(livnakesh::answer_words(&file, &mut proved), plain::answers(&file, &mut ours));
@@ -132,7 +143,7 @@ fn answers_row(name: &str, rounds: u32, plan: &Plan) {
     let file = &file[..];
     row(name, rounds, &mut || _ = black_box(livnakesh::answer_words(black_box(file), black_box(&mut proved))), &mut || {
         _ = black_box(plain::answers(black_box(file), black_box(&mut ours)))
-    });
+    })
 }
 
 /// Of a plan in which every stream has a bound, so that no chain ends early.
@@ -255,8 +266,13 @@ fn main() {
     let pair = pair();
     assert_eq!(longest_busy_period(&pair), Some(1_000_000));
     answers_row("two streams, L 1,000,000, 39,600 instances", ROUNDS, &pair);
-    answers_row("P5: 171,798,691 evaluations, none", 2, &single(25, 25));
-    answers_row("64 streams, the last of 32,757 evaluations, none", ROUNDS, &crowded());
+    let p5 = single(25, 25);
+    assert_eq!(most_evaluations(&p5), 171_798_691);
+    let both = answers_row("P5: 171,798,691 evaluations, none", 2, &p5);
+    show("P5, for each evaluation", both.map(|nanoseconds| nanoseconds / 171_798_691.0));
+    let crowded = crowded();
+    assert_eq!(most_evaluations(&crowded), 32_757);
+    answers_row("64 streams, the last of 32,757 evaluations, none", ROUNDS, &crowded);
     let noisy = [full(64, BASE_6, 9_000, &GAPS), full(256, BASE_8, 9_000, &GAPS)];
     for plan in &noisy {
         rewrite_row(&format!("read and write {} streams, 8 gaps", plan.streams.len()), &file(plan));

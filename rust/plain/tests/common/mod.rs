@@ -798,10 +798,10 @@ pub fn lent_words(rng: &mut Rng, streams: usize, tally: &mut Tally) -> Vec<u64> 
     words(rng.next(), lent(rng, (ROW * streams).max(1), tally))
 }
 
-/// A rule that asks for no room for the instances would have answered.
+/// A rule that asks for no room for the evaluations would have answered.
 pub fn tally_no_room<T>(tally: &mut Tally, streams: usize, lent: usize, said: Result<T, Refused>) {
     if matches!(said, Err(Refused { number: 6, .. })) && lent >= (ROW - 1) * streams {
-        tally.count("refusal 6: room but for the instances");
+        tally.count("refusal 6: room but for the evaluations");
     }
 }
 
@@ -811,6 +811,17 @@ pub fn words(seed: u64, count: usize) -> Vec<u64> {
 
 pub fn bytes(seed: u64, count: usize) -> Vec<u8> {
     words(seed | 1, count).iter().map(|word| (word >> 24) as u8).collect()
+}
+
+/// How near to their limit the evaluations of a row are, in a search that found L or none.
+pub fn tally_limit(tally: &mut Tally, busy_period: Option<u64>, evaluations: u64, limit: u64) {
+    let found = if busy_period.is_some() { "L" } else { "none" };
+    let near = match limit - evaluations {
+        0 => "at the limit",
+        1 => "one below",
+        _ => "further below",
+    };
+    tally.count(format!("{found}: {near}"));
 }
 
 pub fn tally_rows(tally: &mut Tally, rows: &[u64]) {
