@@ -7,11 +7,11 @@
 mod common;
 
 use common::{
-    any_file_of, drawn, etg_and_lag_of, file_in, file_of, is_short, need_all, stream, tally_streams, terms, Rng, Tally, BASE,
-    LARGEST, MANY, MOST_STREAMS,
+    any_file_of, drawn, etg_and_lag_of, file_in, file_of, is_short, need_all, stream, tally_limit, tally_streams, terms, Rng,
+    Tally, BASE, LARGEST, MANY, MOST_STREAMS,
 };
 use livnakesh::{Compared, Label, Phase, Priority, Reason, Refused};
-use plain::{self, Analysis, Edition, Plan, Tournament, ETG, LAG, NB, P, ROW};
+use plain::{self, Analysis, Edition, Level, Plan, Tournament, ETG, LAG, NB, P, ROW};
 use std::io::Write;
 use std::path::{Path, PathBuf};
 use std::process::{Command, Stdio};
@@ -20,6 +20,10 @@ use std::sync::Once;
 const ANSWERED: i32 = 0;
 const RUN_AGAIN: i32 = 1;
 const REFUSED: i32 = 2;
+
+/// Those that work on a plan file, and all.
+const ON_PLANS: [&str; 4] = ["listing", "refusals", "rewrite", "waits"];
+const PROGRAMS: [&str; 6] = ["listing", "refusals", "rewrite", "waits", "lighter", "replay"];
 
 fn top() -> PathBuf {
     Path::new(env!("CARGO_MANIFEST_DIR")).join("../..")
@@ -32,7 +36,7 @@ type Ran = (Vec<u8>, i32);
 fn build() {
     static BUILT: Once = Once::new();
     BUILT.call_once(|| {
-        for program in ["listing", "refusals", "rewrite", "lighter", "replay"] {
+        for program in PROGRAMS {
             let ran = Command::new(top().join("run")).arg(program).stdin(Stdio::null()).output().expect("./run starts");
             assert_ne!(ran.status.code(), Some(3), "{program}: {}", lines(&ran.stderr));
         }
@@ -101,6 +105,29 @@ fn listing_by(file: &[u8], answer: impl Fn(&[u8], &mut [u64]) -> Result<(), Refu
 
 fn listing(file: &[u8]) -> String {
     listing_by(file, plain::answers)
+}
+
+/// What `waits` prints of a file, with the evaluations and the limit that `count` gives for each stream.
+fn waits_by(file: &[u8], count: impl Fn(&Level) -> (u64, u64)) -> String {
+    let plan = match plain::read(file) {
+        Ok(plan) => plan,
+        Err(refused) => return refusal(refused),
+    };
+    let mut rows = vec![String::new(); plan.streams.len()];
+    for level in Analysis::new(&plan).levels() {
+        let (evaluations, limit) = count(&level);
+        rows[level.row] = format!("{} {evaluations} {limit}\n", label(plan.streams[level.row].label));
+    }
+    format!("label evaluations limit\n{}", rows.concat())
+}
+
+fn evaluations_and_limit(level: &Level) -> (u64, u64) {
+    let search = level.search();
+    (search.evaluations, level.limit(search.busy_period))
+}
+
+fn waits(file: &[u8]) -> String {
+    waits_by(file, evaluations_and_limit)
 }
 
 fn fine(file: &[u8]) -> String {
@@ -186,29 +213,47 @@ struct Case {
     shown: Vec<u8>,
 }
 
-fn cases() -> Vec<Case> {
+/// Those whose names `is_one` takes.
+fn cases_named(is_one: impl Fn(&str) -> bool) -> Vec<Case> {
     let folder = top().join("crates/cases/data");
     let mut plans: Vec<PathBuf> =
         std::fs::read_dir(folder).expect("the cases").map(|entry| entry.expect("a case").path()).collect();
     plans.retain(|path| path.extension().is_some_and(|kind| kind == "plan"));
     plans.sort();
-    assert!(plans.len() >= 577, "only {} cases", plans.len());
-    let case = |path: PathBuf| Case {
-        name: path.file_stem().expect("a name").to_string_lossy().into_owned(),
-        plan: std::fs::read(&path).expect("a plan file"),
-        shown: std::fs::read(path.with_extension("out")).expect("what must be shown of it"),
+    let case = |path: PathBuf| {
+        let name = path.file_stem().expect("a name").to_string_lossy().into_owned();
+        is_one(&name).then(|| Case {
+            name,
+            plan: std::fs::read(&path).expect("a plan file"),
+            shown: std::fs::read(path.with_extension("out")).expect("what must be shown of it"),
+        })
     };
-    plans.into_iter().map(case).collect()
+    plans.into_iter().filter_map(case).collect()
+}
+
+/// Those of `waits`; all others are of `listing`.
+const OF_WAITS: &str = "waits-";
+
+fn cases() -> Vec<Case> {
+    let cases = cases_named(|name| !name.starts_with(OF_WAITS));
+    assert!(cases.len() >= 577, "only {} cases", cases.len());
+    cases
+}
+
+fn cases_of_waits() -> Vec<Case> {
+    let cases = cases_named(|name| name.starts_with(OF_WAITS));
+    assert!(cases.len() >= 150, "only {} cases of waits", cases.len());
+    cases
 }
 
 fn lines(bytes: &[u8]) -> String {
     String::from_utf8_lossy(bytes).into_owned()
 }
 
-fn on_all_cases(program: &str, wanted: impl Fn(&Case) -> Vec<u8>) {
-    for case in cases() {
+fn on_cases(cases: &[Case], program: &str, wanted: impl Fn(&Case) -> Vec<u8>) {
+    for case in cases {
         let (printed, ended) = run(program, &[], &case.plan);
-        let wanted = wanted(&case);
+        let wanted = wanted(case);
         assert_eq!(lines(&printed), lines(&wanted), "{program} on {}", case.name);
         assert_eq!(printed, wanted, "{program} on {}", case.name);
         let refused = case.shown.starts_with(b"refused ");
@@ -216,19 +261,65 @@ fn on_all_cases(program: &str, wanted: impl Fn(&Case) -> Vec<u8>) {
     }
 }
 
+/// On all cases of the listing: what is refused there is refused here, and of any other `made` is printed.
+fn on_all_cases(program: &str, made: impl Fn(&[u8]) -> Vec<u8>) {
+    on_cases(&cases(), program, |case| match case.shown.starts_with(b"refused ") {
+        true => case.shown.clone(),
+        false => made(&case.plan),
+    });
+}
+
 #[test]
 fn listing_on_all_cases() {
-    on_all_cases("listing", |case| case.shown.clone());
+    on_cases(&cases(), "listing", |case| case.shown.clone());
 }
 
 #[test]
 fn refusals_on_all_cases() {
-    on_all_cases("refusals", |case| if case.shown.starts_with(b"refused ") { case.shown.clone() } else { b"fine\n".to_vec() });
+    on_all_cases("refusals", |_| b"fine\n".to_vec());
 }
 
 #[test]
 fn rewrite_on_all_cases() {
-    on_all_cases("rewrite", |case| if case.shown.starts_with(b"refused ") { case.shown.clone() } else { rewritten(&case.plan) });
+    on_all_cases("rewrite", rewritten);
+}
+
+#[test]
+fn waits_on_all_cases() {
+    on_cases(&cases_of_waits(), "waits", |case| case.shown.clone());
+    on_all_cases("waits", |file| waits(file).into_bytes());
+}
+
+/// The other programs on the cases of `waits`.
+#[test]
+fn cases_of_waits_on_the_others() {
+    let cases = cases_of_waits();
+    on_cases(&cases, "listing", |case| listing(&case.plan).into_bytes());
+    on_cases(&cases, "refusals", |case| fine(&case.plan).into_bytes());
+    on_cases(&cases, "rewrite", |case| rewritten(&case.plan));
+}
+
+/// What is made here of the cases of `waits` is what stands in their files, and they have all kinds. No program is run.
+#[test]
+fn cases_of_waits_by_the_plain_planner() {
+    let mut tally = Tally::default();
+    for case in cases_of_waits() {
+        assert_eq!(waits(&case.plan), lines(&case.shown), "{}", case.name);
+        let Ok(plan) = plain::read(&case.plan) else {
+            tally.count("refused");
+            continue;
+        };
+        tally.count(format!("edition {}", case.plan[0]));
+        tally.count(if plan.timing[P] > 0 { "in slots" } else { "no master node" });
+        tally.count(if plan.gaps.is_empty() { "no noise" } else { "noise" });
+        for level in Analysis::new(&plan).levels() {
+            let search = level.search();
+            tally_limit(&mut tally, search.busy_period, search.evaluations, level.limit(search.busy_period));
+        }
+    }
+    tally.print("cases of waits");
+    need_all(&tally, &["refused", "edition 1", "edition 2", "edition 3", "in slots", "no master node", "no noise", "noise"], 5);
+    need_all(&tally, &["L: at the limit", "L: one below", "L: further below", "none: further below"], 5);
 }
 
 /// Whether a file, if it is not refused, is written back byte for byte.
@@ -256,8 +347,8 @@ fn cases_that_are_written_back() {
 // ---- drawn plans, damaged plans, random bytes, pipes ----
 
 fn on_file(file: &[u8], at_once: usize) {
-    let wanted = [listing(file).into_bytes(), fine(file).into_bytes(), rewritten(file)];
-    for (program, wanted) in ["listing", "refusals", "rewrite"].into_iter().zip(wanted) {
+    let wanted = [listing(file).into_bytes(), fine(file).into_bytes(), rewritten(file), waits(file).into_bytes()];
+    for (program, wanted) in ON_PLANS.into_iter().zip(wanted) {
         let ran = run_in(&top(), program, &[], file, at_once);
         assert_eq!(ran, (wanted, status(file)), "{program}: {}", common::hex(file));
     }
@@ -311,18 +402,19 @@ fn with_lag(name: &str, etg: u32, lag: u32) -> Vec<u8> {
     file
 }
 
-/// In each edition: the listing goes by ETG and LAG together, one file is written however they are parted, and 11 tells a sum that is
-/// too great.
+/// In each edition: `listing` and `waits` go by ETG and LAG together, one file is written however they are parted, and 11 tells a sum
+/// that is too great.
 #[test]
 fn files_with_a_lag() {
     for name in ["p1.plan", "slots.plan", "acknowledged.plan"] {
         let plain = with_lag(name, 3, 0);
-        let [listed, (written, _)] = ["listing", "rewrite"].map(|program| run(program, &[], &plain));
-        assert_eq!(listed.1, ANSWERED);
+        let [listed, waited, (written, _)] = ["listing", "waits", "rewrite"].map(|program| run(program, &[], &plain));
+        assert_eq!((listed.1, waited.1), (ANSWERED, ANSWERED));
         assert_eq!(etg_and_lag_of(&written), [3, 0]);
         for (etg, lag) in [(3, 0), (2, 1), (0, 3)] {
             let file = with_lag(name, etg, lag);
             assert_eq!(run("listing", &[], &file), listed, "{name}, ETG {etg}, LAG {lag}");
+            assert_eq!(run("waits", &[], &file), waited, "{name}, ETG {etg}, LAG {lag}");
             assert_eq!(run("rewrite", &[], &file), (written.clone(), ANSWERED), "{name}, ETG {etg}, LAG {lag}");
         }
         assert_eq!(run("rewrite", &[], &written), (written, ANSWERED));
@@ -333,7 +425,7 @@ fn files_with_a_lag() {
             (65_536, 65_535, "refused 3 at 68\n"),
             (65_535, 65_536, "refused 3 at 72\n"),
         ] {
-            for program in ["listing", "refusals", "rewrite"] {
+            for program in ON_PLANS {
                 let ran = run(program, &[], &with_lag(name, etg, lag));
                 assert_eq!(ran, (line.as_bytes().to_vec(), REFUSED), "{program} on {name}, ETG {etg}, LAG {lag}");
             }
@@ -357,6 +449,19 @@ fn the_longest_rows() {
     }
 }
 
+/// A limit has as many digits as it gets. The evaluations have one, as so many that they have ten would take seconds.
+#[test]
+fn the_longest_limits() {
+    let row = |k: u32| stream(u32::MAX - k, u32::MAX - k, 1, u32::MAX, 1, 1);
+    let timing = [0, 0, 0, 0, 0, 0, 0, 0, 32, 0];
+    for streams in [1, 64, 65, 256] {
+        let file = file_of(&Plan { timing, streams: (0..streams).map(row).collect(), gaps: vec![] });
+        assert!(waits(&file).ends_with(" 1 4294967296\n"));
+        assert_eq!(waits(&file).len(), 24 + streams as usize * (11 + 2 + 11 + 1));
+        on_file(&file, usize::MAX);
+    }
+}
+
 /// So many streams that hardly ever send, and 8 gaps.
 fn crowd(streams: u32, slot: u32) -> Plan {
     let mut timing = BASE;
@@ -372,7 +477,7 @@ fn older_files_of_many_streams() {
         on_file(&file_in(edition, &crowd(64, slot)), usize::MAX);
         for streams in [65, 190, 256] {
             let file = file_in(edition, &crowd(streams, slot));
-            for program in ["listing", "refusals", "rewrite"] {
+            for program in ON_PLANS {
                 assert_eq!(run(program, &[], &file), (b"refused 2 at 0\n".to_vec(), REFUSED), "{program}, {streams} streams");
             }
         }
@@ -382,7 +487,7 @@ fn older_files_of_many_streams() {
 #[test]
 fn what_cannot_be_read_is_told_so() {
     build();
-    for program in ["listing", "refusals", "rewrite", "lighter", "replay"] {
+    for program in PROGRAMS {
         let folder = std::fs::File::open(top()).expect("a folder");
         let output =
             Command::new(top().join("run")).arg(program).stdin(folder).stderr(Stdio::null()).output().expect("./run starts");
@@ -667,4 +772,22 @@ fn sham_programs_are_seen() {
     } else {
         case.shown.clone()
     }));
+}
+
+/// The same for `waits`, all of ours.
+#[test]
+fn sham_waits_are_seen() {
+    let cases = cases_of_waits();
+    let seen = |sham: &dyn Fn(&Level) -> (u64, u64)| cases.iter().any(|case| waits_by(&case.plan, sham) != lines(&case.shown));
+    let right = evaluations_and_limit;
+    // leaves the last evaluation out, always or where there is none
+    assert!(seen(&|level| (right(level).0 - 1, right(level).1)));
+    assert!(seen(&|level| (right(level).0 - u64::from(level.busy_period().is_none()), right(level).1)));
+    // prints the limit for the evaluations
+    assert!(seen(&|level| (right(level).1, right(level).1)));
+    // a limit that is one less, that goes by the stream's own cost alone, or by the horizon where there is an L
+    assert!(seen(&|level| (right(level).0, right(level).1 - 1)));
+    assert!(seen(&|level| (right(level).0, level.busy_period().unwrap_or(u64::from(u32::MAX)) / level.own.cost + 1)));
+    assert!(seen(&|level| (right(level).0, level.limit(None))));
+    assert!(!seen(&right));
 }
