@@ -1,9 +1,9 @@
 // Runs plan files and compares what the desk is shown of each with what it must be.
 //
-// Standard input has two names a line: a plan file, and a file with its listing or with the line of its refusal. Of a plan that is not
-// refused the desk must be shown that listing, `fine`, and a file of edition 3 with no LAG: the file's own bytes again, if it is one, and else
-// one of which it is shown the same listing and the same file; of a refused one the same line three times. What differs is printed, and the
-// last line counts. This program must not know of plans.
+// Standard input has two names a line: a plan file, and a file with its listing, with its waits or with the line of its refusal. Of a plan
+// with a listing the desk must be shown that listing, `fine`, and a file of edition 3 with no LAG: the file's own bytes again, if it is one, and
+// else one of which it is shown the same listing and the same file; of one with waits, those; of a refused one the same line four times. What
+// differs is printed, and the last line counts. This program must not know of plans.
 mod list;
 
 use console::Input;
@@ -26,6 +26,14 @@ fn first_are(shown: &[u8], k: usize, expected: &[u8]) -> bool {
 fn listing_is(file: &[u8], must: &[u8]) -> bool {
     let mut out = desk::listing_buffer();
     match desk::show(file, &mut out) {
+        Put::At(k) => first_are(&out, k, must),
+        Put::Full => false,
+    }
+}
+
+fn waits_are(file: &[u8], must: &[u8]) -> bool {
+    let mut out = desk::listing_buffer();
+    match desk::show_waits(file, &mut out) {
         Put::At(k) => first_are(&out, k, must),
         Put::Full => false,
     }
@@ -91,13 +99,17 @@ fn same(holds: bool, what: &[u8], name: &[u8]) -> bool {
 fn beside(name: &[u8], file: &[u8], must: &[u8]) -> bool {
     if first_are(must, 8, b"refused ") {
         let refusal = same(refusal_is(file, must), b"refusal", name);
-        return same(file_is(file, must), b"file", name) & refusal;
+        let waits = same(waits_are(file, must), b"waits", name);
+        return same(file_is(file, must), b"file", name) & refusal & waits;
     }
     let refusal = same(refusal_is(file, b"fine\n"), b"refusal", name);
     same(file_again(file, must), b"file", name) & refusal
 }
 
 fn compared(name: &[u8], file: &[u8], must: &[u8]) -> bool {
+    if first_are(must, 18, b"label evaluations ") {
+        return same(waits_are(file, must), b"waits", name);
+    }
     let listing = same(listing_is(file, must), b"listing", name);
     beside(name, file, must) & listing
 }
