@@ -3,15 +3,16 @@
 //
 // The public function answers for every input: terms that are not within the limits are told so. Nothing is assumed. This crate knows of
 // terms alone, and must not know of plans, labels or files. What it is lent it only reads. Its rooms: stairs (a right side, and how it goes
-// on), searches (L, w and the largest term).
+// on), searches (L, w and the largest term), alone (a stream with nobody else on the channel).
+mod alone;
 mod searches;
 mod stairs;
 
 ghost use mathlib.Core.Path.{_≡_};
 ghost use Rattle.terms.specs.Gathered.{lent};
 ghost use Rattle.analysis.specs.Answered.{answered};
+use alone::answer_alone;
 use bound::Searched;
-use searches::answer_alone;
 use searches::answer_among;
 use terms::Gathered;
 use terms::terms_fit;

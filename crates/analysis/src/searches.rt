@@ -13,7 +13,7 @@ ghost use Rattle.bound.specs.Evaluations.{searched};
 ghost use Rattle.terms.specs.Gathered.{lent, termsOf};
 ghost use Rattle.terms.specs.Fit.{FitRow, Fit};
 ghost use Rattle.analysis.specs.private.Stairs.{fewStairs, Room, Stand, Near};
-ghost use Rattle.analysis.specs.private.Chains.{OwnKept, ownL, aloneTerms, EndsAs, noBound, Bounded, side, Settled, largerOf};
+ghost use Rattle.analysis.specs.private.Chains.{OwnKept, ownL, EndsAs, noBound, Bounded, side, Settled, largerOf};
 use crate::stairs::LOT;
 use crate::stairs::START;
 use crate::stairs::climbed;
@@ -32,15 +32,15 @@ use terms::STAIRS;
 const FEW_STAIRS: usize = SOURCES + FEW;
 
 // The least busy period there can be, where the chains for L start.
-const FIRST: u64 = 1;
+pub(crate) const FIRST: u64 = 1;
 
 // i's own stair: its edge, and how high it is up to there.
-struct Own {
-    edge: u64,
-    sum: u64,
+pub(crate) struct Own {
+    pub(crate) edge: u64,
+    pub(crate) sum: u64,
 }
 
-fn own_start(g: Gathered) -> Own
+pub(crate) fn own_start(g: Gathered) -> Own
     requires { ⌜ FitRow g ⌝ }
     ensures { λ r. ⌜ OwnKept g r 0 ⌝ }
 {
@@ -49,7 +49,7 @@ fn own_start(g: Gathered) -> Own
 }
 
 // i's own stair at x, with its edge gone on.
-fn own_at(g: Gathered, own: Own, x: u64) -> Own
+pub(crate) fn own_at(g: Gathered, own: Own, x: u64) -> Own
     requires { ⌜ FitRow g ⌝ }
     requires { ⌜ x ≤ ticks ⌝ }
     requires { ⌜ OwnKept g own x ⌝ }
@@ -63,35 +63,9 @@ fn own_at(g: Gathered, own: Own, x: u64) -> Own
 }
 
 // Where the chain for L ended: its last value, which is L or beyond the last tick, and how many evaluations there were.
-struct Ended {
-    last: u64,
-    evaluations: u64,
-}
-
-// The chain for L where nobody else is on the channel: from 1, with i's own stair alone.
-fn busy_alone(g: Gathered) -> Ended
-    requires { ⌜ FitRow g ⌝ }
-    ensures { λ r. ⌜ EndsAs (aloneTerms g) r ⌝ }
-{
-    let mut own = own_start(g);
-    let mut x = FIRST;
-    let mut evaluations: u64 = 0;
-    while x <= TICKS {
-        own = own_at(g, own, x);
-        let y = g.blocking + own.sum;
-        evaluations += 1;
-        if y == x {
-            return Ended {
-                last: y,
-                evaluations,
-            };
-        }
-        x = y;
-    }
-    Ended {
-        last: x,
-        evaluations,
-    }
+pub(crate) struct Ended {
+    pub(crate) last: u64,
+    pub(crate) evaluations: u64,
 }
 
 // The chain for L: from 1, one evaluation of the right side a turn. The stairs come before i's own: measured, that is faster.
@@ -161,7 +135,7 @@ fn settled(
 }
 
 // a - b, which may be below zero.
-fn term(a: u64, b: u64) -> i64
+pub(crate) fn term(a: u64, b: u64) -> i64
     requires { ⌜ a < 2 ^ 63 ⌝ }
     requires { ⌜ b < 2 ^ 63 ⌝ }
     ensures { λ r. ⌜ r ≡ pos a -ℤ pos b ⌝ }
@@ -257,7 +231,7 @@ fn largest_term<'a>(
     }
 }
 
-fn judged(bound: u64, instance: u64, deadline: u64) -> Answer
+pub(crate) fn judged(bound: u64, instance: u64, deadline: u64) -> Answer
     ensures { λ r. ⌜ r ≡ record { verdict = rule.verdict bound deadline; bound = bound; instance = instance } ⌝ }
 {
     if bound <= deadline {
@@ -276,7 +250,7 @@ fn judged(bound: u64, instance: u64, deadline: u64) -> Answer
 }
 
 // None: what there is to say after so many evaluations.
-fn no_bound(evaluations: u64) -> Searched
+pub(crate) fn no_bound(evaluations: u64) -> Searched
     ensures { λ r. ⌜ r ≡ noBound evaluations ⌝ }
 {
     let answer = Answer {
@@ -288,25 +262,6 @@ fn no_bound(evaluations: u64) -> Searched
         answer,
         evaluations,
         x: TICKS,
-    }
-}
-
-// The answer where nobody else is on the channel. The largest term is the first: an instance then waits for B alone, or for those
-// of its own before it, and these go faster than new ones come, or there were no busy period.
-pub(crate) fn answer_alone(g: Gathered, deadline: u64) -> Searched
-    requires { ⌜ FitRow g ⌝ }
-    ensures { λ r. ⌜ r ≡ searched (aloneTerms g) deadline ⌝ }
-{
-    let ended = busy_alone(g);
-    if TICKS < ended.last {
-        return no_bound(ended.evaluations);
-    }
-    let first = term(g.jitter + g.blocking + g.last, 0);
-    let answer = judged(first as u64, 0, deadline);
-    Searched {
-        answer,
-        evaluations: ended.evaluations,
-        x: ended.last,
     }
 }
 

@@ -40,7 +40,7 @@ fn rewrite(file: &[u8], lent: &mut [u8]) {
 
 // Both into a few words and bytes: enough for the answers of one stream, and for no file.
 fn both(file: &[u8]) {
-    let mut few_words = [7; 4];
+    let mut few_words = [7; 5];
     answers(file, &mut few_words);
     let mut few_bytes = [7; 10];
     rewrite(file, &mut few_bytes);
@@ -48,16 +48,16 @@ fn both(file: &[u8]) {
 
 // The answers of three streams into as many words as they are.
 fn three(file: &[u8]) {
-    let mut enough = [7; 9];
+    let mut enough = [7; 12];
     answers(file, &mut enough);
 }
 
 // P1 with words and bytes to spare, and with too few; with a LAG, written again without it.
 fn of_p1() {
     let p1 = p1_file(0);
-    let mut room = [7; 11];
+    let mut room = [7; 14];
     answers(&p1, &mut room);
-    let mut too_few = [7; 8];
+    let mut too_few = [7; 11];
     answers(&p1, &mut too_few);
     let mut enough = [7; 176];
     rewrite(&p1, &mut enough);

@@ -60,12 +60,12 @@ fn answered() {
     let folded = [4, 1, 1, 2, 1, 1, 3, 0, 4];
     let timing = [4, 1, 1, 2, 1, 1, 2, 1, 4];
     let gaps = [1000];
-    let mut long = [7; 11];
+    let mut long = [7; 14];
     screen(p1, &timing, &gaps[..0], &mut long);
     screen(p1, &folded, &gaps[..0], &mut long);
-    let mut short = [7; 8];
+    let mut short = [7; 11];
     screen(p1, &timing, &gaps[..0], &mut short);
-    let mut enough = [7; 9];
+    let mut enough = [7; 12];
     screen(p1, &timing, &gaps, &mut enough);
 }
 
@@ -74,7 +74,7 @@ fn lengths() {
     let p1 = streams(5, 655370, 2, 0);
     let timing = [4, 1, 1, 2, 1, 1, 2, 1, 4, 30, 9];
     let gaps = [1000; 9];
-    let mut out = [7; 9];
+    let mut out = [7; 12];
     screen(p1, &timing[..8], &gaps[..0], &mut out);
     screen(p1, &timing, &gaps, &mut out);
     screen(p1, &timing[..10], &gaps[..0], &mut out);
@@ -85,7 +85,7 @@ fn lengths() {
 fn waiting(acknowledgement: u32) {
     let timing = [4, 1, 1, 2, 1, 1, 2, 1, 4];
     let gaps = [1000];
-    let mut out = [7; 9];
+    let mut out = [7; 12];
     screen(
         streams(5, 655370, 2, acknowledgement),
         &timing,
@@ -98,7 +98,7 @@ fn waiting(acknowledgement: u32) {
 fn slots(slot: u32, payload: u32, acknowledgement: u32) {
     let timing = [4, 1, 1, 2, 1, 1, 2, 1, 4, slot];
     let gaps = [1000];
-    let mut out = [7; 2];
+    let mut out = [7; 3];
     screen(
         streams(payload, 655370, 2, acknowledgement),
         &timing,
@@ -111,7 +111,7 @@ fn slots(slot: u32, payload: u32, acknowledgement: u32) {
 fn wrong(payload: u32, label: u32, priority: u32) {
     let timing = [4, 1, 1, 2, 1, 1, 2, 1, 4];
     let gaps = [1000];
-    let mut out = [7; 2];
+    let mut out = [7; 3];
     screen(
         streams(payload, label, priority, 0),
         &timing,
@@ -124,7 +124,7 @@ fn wrong(payload: u32, label: u32, priority: u32) {
 fn lagging(lag: u32, priority: u32) {
     let timing = [4, 1, 1, 2, 1, 1, 2, lag, 4];
     let gaps = [1000];
-    let mut out = [7; 2];
+    let mut out = [7; 3];
     screen(
         streams(5, 655370, priority, 0),
         &timing,

@@ -8,8 +8,8 @@ use Rattle.analysis.proofs.Chains.{BusyChain, busy-start, busy-rises, b
 use Rattle.terms.proofs.Fit.{fit-sound}
 use Rattle.terms.proofs.Fit.{alone-fits}
 use Rattle.analysis.proofs.Sides.{sideL-alone}
-use Rattle.analysis.proofs.searches.busy_alone.Statement.{statement}
-use Rattle.analysis.proofs.searches.busy_alone.Tie as tie
+use Rattle.analysis.proofs.alone.busy_alone.Statement.{statement}
+use Rattle.analysis.proofs.alone.busy_alone.Tie as tie
 
 abbrev Inv-loop : tie.InvT-loop
 Inv-loop g own₀ x₀ evaluations₀ own x evaluations = BusyChain g (aloneTerms g) own evaluations x

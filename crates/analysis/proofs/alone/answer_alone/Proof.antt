@@ -14,8 +14,8 @@ use Rattle.bound.proofs.Answers.{answer-bound, searched-bound}
 use Rattle.terms.specs.declared.Gathered.{Gathered}
 use Rattle.terms.proofs.Fit.{fit-sound}
 use Rattle.analysis.proofs.Chains.{ended-none, ended-busy}
-use Rattle.analysis.proofs.searches.answer_alone.Statement.{statement}
-use Rattle.analysis.proofs.searches.answer_alone.Tie as tie
+use Rattle.analysis.proofs.alone.answer_alone.Statement.{statement}
+use Rattle.analysis.proofs.alone.answer_alone.Tie as tie
 
 -- the chain's end, seen from where it is found to be L
 abbrev ended : tie.After-term → tie.After-busy-alone
