@@ -19,24 +19,24 @@ use Rattle.bound.proofs.Sides.{demand-own, busy-is-least}
 use Rattle.bound.proofs.Instances.{w-exists}
 use Rattle.bound.proofs.Largest.{some-instance, first-term, bound-is-largest, worst-is-first}
 
+pub no-demand : (r : Terms) → r .urgent ≡ [] → (x : ℕ) → demand (r .urgent) x ≡ 0
+unfolding demand sumOf
+no-demand r nobody x = ap (λ js. demand js x) nobody
+
+pub no-noise : (r : Terms) → r .gaps ≡ [] → (x : ℕ) → E r x ≡ 0
+unfolding E sumOf
+no-noise r quiet x = ap (λ ns. sumOf (λ N. ceil x N) ns * r .hit) quiet ∙ zero-mul (r .hit)
+
 module _ (r : Terms) (s : Sound r) (L : ℕ) (b : busy r ≡ At L) (nobody : r .urgent ≡ []) (quiet : r .gaps ≡ []) where
-  no-demand : (x : ℕ) → demand (r .urgent) x ≡ 0
-  unfolding demand sumOf
-  no-demand x = ap (λ js. demand js x) nobody
-
-  no-noise : (x : ℕ) → E r x ≡ 0
-  unfolding E sumOf
-  no-noise x = ap (λ ns. sumOf (λ N. ceil x N) ns * r .hit) quiet ∙ zero-mul (r .hit)
-
   -- w(q) = B + q × C''
   alone-w : (q : ℕ) → q < Q r L → w r q ≡ r .B + q * r .own .C″
   unfolding sideW
-  alone-w q h = omega (arith, w-exists r s L q b h .0 .fixed, no-demand (w r q + r .late + 1), no-noise (w r q + r .own .C″))
+  alone-w q h = omega (arith, w-exists r s L q b h .0 .fixed, no-demand r nobody (w r q + r .late + 1), no-noise r quiet (w r q + r .own .C″))
 
   -- L = B + Q × C'', and Q periods cover L: so C'' is no more than T
   alone-L : r .B + Q r L * r .own .C″ ≡ L
   unfolding sideL
-  alone-L = omega (arith, busy-is-least r L .0 b .1 .fixed, demand-own (r .own) (r .urgent) L, no-demand L, no-noise L)
+  alone-L = omega (arith, busy-is-least r L .0 b .1 .fixed, demand-own (r .own) (r .urgent) L, no-demand r nobody L, no-noise r quiet L)
 
   some : 1 ≤ Q r L
   some = some-instance r s L (busy-is-least r L .0 b .1 .above)

@@ -7,3 +7,4 @@ pub mod Answers
 pub mod Same
 pub mod Evaluations
 pub mod Limit
+pub mod Full

@@ -1,6 +1,7 @@
 -- Document 02, request 08, over the terms r of a stream i: how many evaluations the search for L takes, and how many it takes at most.
 use mathlib.Core.Path.{_≡_}
 use mathlib.Core.Bool.{Bool, _||_}
+use mathlib.Core.List.{[]}
 use mathlib.Core.Logic.{_↔_, _⊎_}
 use Prim.Native.Nat.{ℕ, zero, suc, _+_, _-_, _/_, _≤_, _<_}
 use lib.Dec.{eqb, ltb}
@@ -51,7 +52,7 @@ searched r D = record { answer = answer r D; evaluations = evaluations r; x = X 
 abbrev pub wait : Terms → Wait
 wait r = record { evaluations = evaluations r; limit = limit r }
 
--- ---- What is proved of the chain; the proofs are in proofs/Evaluations.antt and proofs/Limit.antt.
+-- ---- What is proved of the chain; the proofs are in proofs/Evaluations.antt, proofs/Limit.antt and proofs/Full.antt.
 
 -- each value is the right side of the one before it
 abbrev pub ChainGoes : Type 0
@@ -88,3 +89,20 @@ EvaluationsWithin = (r : Terms) → Sound r → Paid r → evaluations r ≤ lim
 -- and so it is at most 4,294,967,295 whatever c is: ten digits
 abbrev pub EvaluationsFit : Type 0
 EvaluationsFit = (r : Terms) → Sound r → evaluations r ≤ ticks
+
+-- a stream alone on the channel whose messages come as fast as they are sent
+pub record Full (r : Terms) : Type 0 where
+  pub nobody : r .urgent ≡ []
+  pub quiet : r .gaps ≡ []
+  pub period : r .own .T ≡ r .own .C″
+  pub small : r .own .C″ ≤ ticks
+
+-- each evaluation adds one message, and the chain goes on beyond the last tick: its number is known without walking it, where the jitter is
+-- one period, ..
+abbrev pub FullLate : Type 0
+FullLate = (r : Terms) → Sound r → Full r → r .B ≡ 0 → r .own .J ≡ r .own .C″ → evaluations r ≡ ticks / r .own .C″
+
+-- .. and where there is none, but some blocking
+abbrev pub FullBlocked : Type 0
+FullBlocked =
+    (r : Terms) → Sound r → Full r → r .own .J ≡ 0 → 1 ≤ r .B → r .B ≤ r .own .C″ → evaluations r ≡ (ticks - r .B) / r .own .C″ + 1
