@@ -5,15 +5,16 @@ use native.Mathlib.Nat.{le-refl, le-trans, zero-mul, one-mul, suc-mul, mul-le-mu
 use native.Mathlib.Omega.{arith}
 use mathlib.Core.Logic.{inr}
 use Rattle.names.specs.Limits.{ticks}
-use Rattle.laws.specs.Lists.{ceil, sumOf}
+use Rattle.laws.specs.Lists.{ceil}
+use Rattle.laws.specs.declared.Found.the-variants.{Nothing}
 use Rattle.laws.proofs.Round.{ceil-pos, ceil-at-most}
 use Rattle.bound.specs.Terms.{Terms}
-use Rattle.bound.specs.Bound.{E, demand, sideL}
+use Rattle.bound.specs.Bound.{sideL, busy}
 use Rattle.bound.specs.Claims.{Sound}
 use Rattle.bound.specs.Evaluations.{chain, evaluations, IsLast, Full, FullLate, FullBlocked}
 use Rattle.bound.proofs.Sides.{demand-own}
 use Rattle.bound.proofs.Alone.{no-demand, no-noise}
-use Rattle.bound.proofs.Evaluations.{counts-to-last}
+use Rattle.bound.proofs.Evaluations.{counts-to-last, ends-beyond}
 
 -- k periods and a part of one, or one more, are k + 1 periods
 ceil-past : (c k d : ℕ) → 1 ≤ d → d ≤ c → ceil (k * c + d) c ≡ k + 1
@@ -57,8 +58,10 @@ module _ (r : Terms) (s : Sound r) (c e : ℕ) (some : 1 ≤ c) (one : 1 ≤ e) 
   beyond : ticks < chain r (suc last)
   beyond = omega (arith, values last, suc-mul last c, lt-div-mul-add {a = ticks - e} some)
 
-  pub steady : evaluations r ≡ last + 1
-  steady = counts-to-last r s (suc last) .1 (record { some = omega arith; ends = inr beyond; new = λ k h l. new k h; within = within }) ∙ omega arith
+  pub steady : (busy r ≡ Nothing) × (evaluations r ≡ last + 1)
+  steady =
+      let e = counts-to-last r s (suc last) .1 (record { some = omega arith; ends = inr beyond; new = λ k h l. new k h; within = within }) in
+      (ends-beyond r s .1 (rw e beyond), e ∙ omega arith)
 
 -- ---- a stream alone, whose T is its C''
 module _ (r : Terms) (s : Sound r) (f : Full r) where
@@ -85,10 +88,10 @@ full-late r s f b j =
     let c = r .own .C″ in
     let more : 1 * c + (ticks - c) ≡ ticks = omega (arith, one-mul c, f .small) in
     let less : ticks / c ≡ 1 + (ticks - c) / c = ap (λ z. z / c) (sym more) ∙ mul-add-div-right (some r s f) 1 (ticks - c) in
-    steady r s c c (some r s f) (some r s f) (f .small)
+    let (none, number) = steady r s c c (some r s f) (some r s f) (f .small)
     (side-at r s f 1 1 1 (omega (arith, j, one-mul c)) (omega arith) (some r s f) ∙ omega (arith, b, one-mul c))
-    (λ k. side-at r s f (suc k * c + c) (suc (suc k)) c (omega (arith, j, suc-mul (suc k) c)) (some r s f) (le-refl c) ∙ omega (arith, b))
-    ∙ omega (arith, less)
+    (λ k. side-at r s f (suc k * c + c) (suc (suc k)) c (omega (arith, j, suc-mul (suc k) c)) (some r s f) (le-refl c) ∙ omega (arith, b)) in
+    (none, number ∙ omega (arith, less))
 
 pub full-blocked : FullBlocked
 full-blocked r s f j h l =

@@ -97,12 +97,15 @@ pub record Full (r : Terms) : Type 0 where
   pub period : r .own .T ≡ r .own .C″
   pub small : r .own .C″ ≤ ticks
 
--- each evaluation adds one message, and the chain goes on beyond the last tick: its number is known without walking it, where the jitter is
--- one period, ..
+-- each evaluation adds one message, and the chain goes on beyond the last tick: it is none, and the number is known without walking the
+-- chain, where the jitter is one period, ..
 abbrev pub FullLate : Type 0
-FullLate = (r : Terms) → Sound r → Full r → r .B ≡ 0 → r .own .J ≡ r .own .C″ → evaluations r ≡ ticks / r .own .C″
+FullLate =
+    (r : Terms) → Sound r → Full r → r .B ≡ 0 → r .own .J ≡ r .own .C″
+    → (busy r ≡ Nothing) × (evaluations r ≡ ticks / r .own .C″)
 
 -- .. and where there is none, but some blocking
 abbrev pub FullBlocked : Type 0
 FullBlocked =
-    (r : Terms) → Sound r → Full r → r .own .J ≡ 0 → 1 ≤ r .B → r .B ≤ r .own .C″ → evaluations r ≡ (ticks - r .B) / r .own .C″ + 1
+    (r : Terms) → Sound r → Full r → r .own .J ≡ 0 → 1 ≤ r .B → r .B ≤ r .own .C″
+    → (busy r ≡ Nothing) × (evaluations r ≡ (ticks - r .B) / r .own .C″ + 1)

@@ -1,2 +1,3 @@
 pub mod Load
 pub mod Figures
+pub mod Evaluations

@@ -1,3 +1,4 @@
 pub mod Plans
 pub mod Load
 pub mod Figures
+pub mod Evaluations

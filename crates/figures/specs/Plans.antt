@@ -1,6 +1,6 @@
 -- Document 01, "Plans to run": the base constants and P1 to P12 as they are entered, with a LAG, of which document 02 has P3 to P5 reworked,
--- and for what it gives no plan two in slots, one with two instances that are equally late, one with acknowledgements and some with a greater
--- LAG. What the documents leave open is chosen here, and the comment says so.
+-- and for what it gives no plan two in slots, one with two instances that are equally late, one with acknowledgements, some with a greater
+-- LAG and two whose chains are long. What the documents leave open is chosen here, and the comment says so.
 use mathlib.Core.List.{List, [], _∷_, _++_, flatMap}
 use Prim.Native.Nat.{ℕ, _+_, _-_, _*_}
 use lib.ListN.{length, take, replicate}
@@ -135,3 +135,11 @@ equallyLate = tens 25 30 40
 -- P1 with an ETG and a LAG
 abbrev pub lagging : ℕ → ℕ → Entered
 lagging etg lag = enter (constants 4 1 1 2 1 1 etg lag 4) (P1 .streams) []
+
+-- P5 as document 01 had it, where C'' was 23: it is again with a C of 3
+abbrev pub P5Before : Entered
+P5Before = enter base (stream 10 1 1 23 23 3 1000 ∷ []) []
+
+-- P3 with a less urgent stream beside it, 10.2, which blocks it for 16 ticks
+abbrev pub blocked : Entered
+blocked = enter base (stream 10 1 1 25 0 5 1000 ∷ stream 10 2 2 1000 0 5 1000 ∷ []) []
