@@ -1,9 +1,9 @@
--- The smallest cost up to a row's place is c of its terms: the smallest C'' among i and hp(i), in slots P. Assumes nothing.
+-- The smallest cost up to a row's place is c of its terms, the smallest C'' among i and hp(i), in slots P; and so what is told of the row is the rules'. Assumes nothing.
 use mathlib.Core.Path.{_≡_, refl, sym, ap, ap₂, _∙_}
 use mathlib.Core.Bool.{true}
 use mathlib.Core.Logic.{⊎-elim}
 use mathlib.Core.List.{List}
-use Prim.Native.Nat.{ℕ, _+_, _-_, _/_, _≤_, _<_, min}
+use Prim.Native.Nat.{ℕ, _+_, _-_, _*_, _/_, _≤_, _<_, min}
 use native.Mathlib.Nat.{le-refl, le-antisymm, eq-or-lt-of-le, lt-of-not-le}
 use native.Mathlib.Decide.{decLe}
 use native.Mathlib.Omega.{arith}
@@ -27,7 +27,10 @@ use Rattle.plan.specs.Evaluations.{rowSearched, rowWait}
 use Rattle.plan.proofs.Rules.{terms-sound}
 use Rattle.plan.proofs.Evaluations.{smallest-of}
 use Rattle.carried.specs.Carried.{enteredIn, timingIn, planIn}
-use Rattle.answers.specs.private.Gather.{rowStream, urgency, PlacesWithin, Cheapest, Ordered}
+use Rattle.row_words.specs.RowWords.{rowWords, wordsPerRow, waitWords, wordsPerWait, withRow}
+use Rattle.answers.specs.declared.Told.{Told, the-variants.Answers, the-variants.Waits}
+use Rattle.answers.specs.Answers.{perRow, wordsOf}
+use Rattle.answers.specs.private.Gather.{rowStream, urgency, PlacesWithin, Cheapest, RowTold, Ordered}
 
 -- ---- place after place: v is the smallest of the last one and of those from a on and before k
 pub record SoFar (l : List ℕ) (a b k v : ℕ) : Type 0 where
@@ -123,12 +126,29 @@ module _ (ws : List ℕ) (n m k : ℕ) (fine : PlacesWithin ws n m) (among : k <
         let there : m + at j ≡ a = omega (arith, f) in
         omega (arith, e, ap (λ z. getD costs z 0) there, o .is j g, terms-sound p (rowStream ws j) (fine .stream j g) (fine .slots j g) .late)
 
--- ---- with its answer, the wait of a stream
-module _ (p : Plan) (i : Stream) (s : Searched) (e : s ≡ rowSearched p i) where
-  pub x-within : s .x ≤ ticks
-  unfolding searched
-  x-within = omega (arith, ap (λ s. s .x) e, x-fits (terms p i))
+  -- ---- with its answer, what is told of it
+  module _ (s : Searched) (e : s ≡ rowSearched p i) where
+    pub x-within : s .x ≤ ticks
+    unfolding searched
+    x-within = omega (arith, ap (λ s. s .x) e, x-fits (terms p i))
 
-  pub wait-is : (v : ℕ) → v ≡ c (terms p i) → _≡_ {A = Wait} (record { evaluations = s .evaluations; limit = s .x / v + 1 }) (rowWait p i)
-  unfolding searched limit
-  wait-is v d = ap₂ (λ s v. record { evaluations = s .evaluations; limit = s .x / v + 1 }) e d
+    wait-is : (v : ℕ) → v ≡ c (terms p i) → _≡_ {A = Wait} (record { evaluations = s .evaluations; limit = s .x / v + 1 }) (rowWait p i)
+    unfolding searched limit
+    wait-is v d = ap₂ (λ s v. record { evaluations = s .evaluations; limit = s .x / v + 1 }) e d
+
+    pub row-told : (told : Told) (out next : List ℕ) → RowTold told s costs m (m + at k) k out next → next ≡ withRow (perRow told) out k (wordsOf told p i)
+    row-told Answers out next r = r ∙ ap (λ s. withRow wordsPerRow out k (rowWords s)) e
+    row-told Waits out next (v, least, r) = r ∙ ap (λ w. withRow wordsPerWait out k (waitWords w)) (wait-is v (cheapest-is v least))
+
+-- ---- what is told of n rows has room where it is lent
+pub some-words : (told : Told) → 1 ≤ perRow told
+some-words Answers = omega arith
+some-words Waits = omega arith
+
+pub row-long : (told : Told) (p : Plan) (i : Stream) → length (wordsOf told p i) ≡ perRow told
+row-long Answers p i = refl
+row-long Waits p i = refl
+
+pub rows-fit : (told : Told) (k n : ℕ) → k < n → perRow told * k + perRow told ≤ perRow told * n
+rows-fit Answers k n h = omega arith
+rows-fit Waits k n h = omega arith

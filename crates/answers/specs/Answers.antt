@@ -11,24 +11,26 @@ use Rattle.row_words.specs.RowWords.{rowWords, wordsPerRow, waitWords, wordsPer
 use Rattle.plan.specs.declared.Sheet.{Sheet}
 use Rattle.plan.specs.Plan.{Plan, planOf}
 use Rattle.plan.specs.Rules.{terms, answers}
-use Rattle.plan.specs.Evaluations.{searches, waits}
+use Rattle.plan.specs.declared.Stream.{Stream}
+use Rattle.plan.specs.Evaluations.{rowSearched, rowWait, waits}
 use Rattle.carried.specs.declared.Edition.{Edition, the-variants.Three}
 use Rattle.carried.specs.Carried.{Entered, meant, plainly}
 use Rattle.checks.specs.Checks.{lines, checkedOf}
 use Rattle.answers.specs.declared.Told.{Told, the-variants.Answers, the-variants.Waits}
 
--- the words of a plan's rows, in file order: those of their answers, or of their waits, ..
-abbrev pub answerWords : Plan → List ℕ
-answerWords p = flatMap rowWords (searches p)
+-- the words of a stream: those of its answer, or of its wait, ..
+abbrev pub wordsOf : Told → Plan → Stream → List ℕ
+wordsOf Answers p i = rowWords (rowSearched p i)
+wordsOf Waits p i = waitWords (rowWait p i)
 
-abbrev pub toldWords : Told → Plan → List ℕ
-toldWords Answers p = answerWords p
-toldWords Waits p = flatMap waitWords (waits p)
-
--- .. and how many a row has
+-- .. and how many these are
 abbrev pub perRow : Told → ℕ
 perRow Answers = wordsPerRow
 perRow Waits = wordsPerWait
+
+-- the words of a plan's streams, in file order
+abbrev pub toldWords : Told → Plan → List ℕ
+toldWords told p = flatMap (wordsOf told p) (p .streams)
 
 -- 6: the lent memory is too small for the words of n rows
 abbrev pub tooFew : Told → ℕ → List ℕ → List Line

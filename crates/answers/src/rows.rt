@@ -10,9 +10,8 @@ ghost use Rattle.plan.specs.Evaluations.{rowSearched};
 ghost use Rattle.costs.specs.Costs.{Overhead};
 ghost use Rattle.carried.specs.Carried.{timingIn, planIn};
 ghost use Rattle.terms.specs.Gathered.{lent, termsOf, fits};
-ghost use Rattle.answers.specs.declared.Told.the-variants.{Answers, Waits};
 ghost use Rattle.answers.specs.Answers.{perRow, laidIn};
-ghost use Rattle.answers.specs.private.Gather.{few, rowStream, urgency, PlacesWithin, Column, Long, InOrder};
+ghost use Rattle.answers.specs.private.Gather.{few, rowStream, urgency, PlacesWithin, Column, Cheapest, RowTold, Long, InOrder};
 ghost use Rattle.carried.specs.Layout as layout;
 use crate::Told;
 use crate::order::put_gaps;
@@ -100,44 +99,6 @@ fn searched_row<'a>(
     row_answer(g, &costs[..], periods, jitters, deadline)
 }
 
-// Each row's answer words in file order, at the start of what is lent, from streams that stand in order.
-fn put_answers<'a>(
-    words: &[u32; CARRIED],
-    n: usize,
-    m: usize,
-    over: Overheads,
-    places: &[usize],
-    costs: &mut [u64],
-    periods: &'a [u64],
-    jitters: &'a [u64],
-    out: &mut [u64],
-)
-    requires { ⌜ PlacesWithin (now words) n m ⌝ }
-    requires { ⌜ Overhead (timingIn (now words)) over ⌝ }
-    requires { ⌜ Column (rank (urgency (now words)) n) n (now places) ⌝ }
-    requires { ⌜ InOrder (now words) n m n (now costs) (now periods) (now jitters) ⌝ }
-    requires { ⌜ ((k : ℕ) → k < m → getD (now periods) k 0 ≡ getD (now words) (layout.gapAt n k) 0) ⌝ }
-    requires { ⌜ perRow Answers * n ≤ length (now out) ⌝ }
-    ensures { λ _. ⌜ now (out .exit) ≡ laidIn Answers (planIn n m (now (words .entry))) n (now (out .entry)) ⌝ }
-{
-    let mut k: usize = 0;
-    while k < n {
-        let s = searched_row(
-            words,
-            n,
-            m,
-            over,
-            Row(k),
-            places[k],
-            costs,
-            periods,
-            jitters,
-        );
-        put_answer(out, Row(k), s);
-        k += 1;
-    }
-}
-
 // X / c + 1 beside the number of evaluations.
 fn wait_of(s: Searched, c: u64) -> Wait
     requires { ⌜ 1 ≤ c ⌝ }
@@ -150,37 +111,34 @@ fn wait_of(s: Searched, c: u64) -> Wait
     }
 }
 
-// Each row's wait in file order, at the start of what is lent, from streams that stand in order.
-fn put_waits<'a>(
-    words: &[u32; CARRIED],
-    n: usize,
-    m: usize,
-    over: Overheads,
-    places: &[usize],
-    costs: &mut [u64],
-    periods: &'a [u64],
-    jitters: &'a [u64],
+// What is told of a row, in its words: of its wait, X by the smallest cost between two places.
+fn put_row(
+    told: Told,
+    row: Row,
+    s: Searched,
+    costs: &[u64],
+    from: usize,
+    to: usize,
     out: &mut [u64],
 )
-    requires { ⌜ PlacesWithin (now words) n m ⌝ }
-    requires { ⌜ Overhead (timingIn (now words)) over ⌝ }
-    requires { ⌜ Column (rank (urgency (now words)) n) n (now places) ⌝ }
-    requires { ⌜ InOrder (now words) n m n (now costs) (now periods) (now jitters) ⌝ }
-    requires { ⌜ ((k : ℕ) → k < m → getD (now periods) k 0 ≡ getD (now words) (layout.gapAt n k) 0) ⌝ }
-    requires { ⌜ perRow Waits * n ≤ length (now out) ⌝ }
-    ensures { λ _. ⌜ now (out .exit) ≡ laidIn Waits (planIn n m (now (words .entry))) n (now (out .entry)) ⌝ }
+    requires { ⌜ from ≤ to ⌝ }
+    requires { ⌜ to < length (now costs) ⌝ }
+    requires { ⌜ s .x ≤ ticks ⌝ }
+    requires { ⌜ ((v : ℕ) → Cheapest (now costs) from to v → 1 ≤ v) ⌝ }
+    ensures { λ _. ⌜ RowTold told s (now (costs .entry)) from to (row .0) (now (out .entry)) (now (out .exit)) ⌝ }
 {
-    let mut k: usize = 0;
-    while k < n {
-        let place = places[k];
-        let s = searched_row(words, n, m, over, Row(k), place, costs, periods, jitters);
-        let c = cheapest(&costs[..], m, m + place);
-        put_wait(out, Row(k), wait_of(s, c));
-        k += 1;
+    match told {
+        Told::Answers => {
+            put_answer(out, row, s);
+        }
+        Told::Waits => {
+            let c = cheapest(costs, from, to);
+            put_wait(out, row, wait_of(s, c));
+        }
     }
 }
 
-// What is told of each row, from streams that stand in order.
+// What is told of each row in file order, at the start of what is lent, from streams that stand in order.
 fn put_told<'a>(
     told: Told,
     words: &[u32; CARRIED],
@@ -201,9 +159,12 @@ fn put_told<'a>(
     requires { ⌜ perRow told * n ≤ length (now out) ⌝ }
     ensures { λ _. ⌜ now (out .exit) ≡ laidIn told (planIn n m (now (words .entry))) n (now (out .entry)) ⌝ }
 {
-    match told {
-        Told::Answers => put_answers(words, n, m, over, places, costs, periods, jitters, out),
-        Told::Waits => put_waits(words, n, m, over, places, costs, periods, jitters, out),
+    let mut k: usize = 0;
+    while k < n {
+        let place = places[k];
+        let s = searched_row(words, n, m, over, Row(k), place, costs, periods, jitters);
+        put_row(told, Row(k), s, &costs[..], m, m + place, out);
+        k += 1;
     }
 }
 

@@ -28,12 +28,12 @@ use Rattle.file.proofs.RoundTrip.{planRead, right-read}
 use Rattle.carried.specs.declared.Edition.the-variants.{Three}
 use Rattle.carried.specs.Carried.{meant, plainly}
 use Rattle.carried.proofs.Plans.{meant-plainly, one-sheet}
-use Rattle.row_words.specs.RowWords.{wordsPerRow}
 use Rattle.row_words.proofs.RowWords.{RowSays, row-says}
 use Rattle.answers.specs.declared.Told.the-variants.{Answers}
-use Rattle.answers.specs.Answers.{answerWords, tooFew, answerAs, answerOf}
+use Rattle.answers.specs.Answers.{tooFew, laidIn, answerAs, answerOf}
 use Rattle.answer_files.specs.AnswerFiles.{answerRead, answerFileOf}
 use Rattle.answers.specs.Answers.{answerWith}
+use Rattle.answers.proofs.Values.{answer-words}
 use Rattle.compare.proofs.Exactly.{one-row}
 use Rattle.compare.proofs.Says.{said-exactly, said-kept}
 use Rattle.compare_files.specs.Files.{planFrom, comparedFiles, SaysLighterOfFiles, LabelsStand, KeptWords, WordsKept}
@@ -60,16 +60,16 @@ said-of-files old new =
 
 -- ---- the words of a row
 -- the lent words begin with the plan's, where the answer is fine
-as-words : (c : Checked) (n : ℕ) (p : Plan) (out : List ℕ) → answerAs Answers c n p out .0 ≡ Fine → answerAs Answers c n p out .1 ≡ answerWords p ++ drop (wordsPerRow * n) out
+as-words : (c : Checked) (n : ℕ) (p : Plan) (out : List ℕ) → answerAs Answers c n p out .0 ≡ Fine → answerAs Answers c n p out .1 ≡ laidIn Answers p n out
 as-words Fine n p out e = refl
 as-words (Refused r) n p out e = absurd (let z : _≡_ {A = ℕ} 0 1 = cc in omega arith)
 
 read-words : (c : Checked) (s : Sheet) (out : List ℕ) → answerRead c s out .0 ≡ Fine
-    → answerRead c s out .1 ≡ answerWords (planOf s) ++ drop (wordsPerRow * s .count) out
+    → answerRead c s out .1 ≡ laidIn Answers (planOf s) (s .count) out
 unfolding answerOf answerWith
 read-words Fine s out e =
     as-words (judge (lines Three (s .count) (s .sources) (plainly (planOf s)) ++ tooFew Answers (s .count) out)) (s .count) (meant (plainly (planOf s))) out e
-    ∙ ap (λ p. answerWords p ++ drop (wordsPerRow * s .count) out) (meant-plainly (planOf s))
+    ∙ ap (λ p. laidIn Answers p (s .count) out) (meant-plainly (planOf s))
 read-words (Refused r) s out e = absurd (let z : _≡_ {A = ℕ} 0 1 = cc in omega arith)
 
 -- the words of row r are the answer to its stream
@@ -78,7 +78,7 @@ answer-said : (bs out : List ℕ) (r : ℕ) → answerFileOf bs out .0 ≡ Fine 
 unfolding answerFileOf
 answer-said bs out r e h =
     let p = planFrom bs in
-    rw (read-words (file.readOf bs .answer) (file.readOf bs .sheet) out e, ← List·getD-map (rowSearched p) (p .streams) r blank)
+    rw (read-words (file.readOf bs .answer) (file.readOf bs .sheet) out e, answer-words p, ← List·getD-map (rowSearched p) (p .streams) r blank)
     (row-says (searches p) _ (rowSearched p blank) r (omega (arith, length-map (p .streams) (rowSearched p))))
 
 -- ---- what the words of an answer say
