@@ -1,5 +1,5 @@
 -- What a chain keeps from turn to turn: sums that, with the edges, give a right side from the present x on; and the chain for L. Assumes nothing.
-use mathlib.Core.Path.{_≡_, sym, ap, _∙_}
+use mathlib.Core.Path.{_≡_, refl, sym, ap, _∙_}
 use mathlib.Core.List.{List}
 use Prim.Native.Nat.{ℕ, _+_, _-_, _*_, _≤_, _<_}
 use native.Mathlib.Nat.{le-refl}
@@ -39,14 +39,14 @@ module _ (costs periods edges : List ℕ) (n : ℕ) (rest : ℕ → ℕ) where
 
 -- ---- i's own stair
 module _ (g : Gathered) where
-  pub own-start : FitRow g → OwnKept g (record { edge = start - g .jitter; sum = 0 }) 0
+  pub own-start : FitRow g → OwnKept g (record { edge = start - g .jitter; sum = g .blocking }) 0
   own-start f =
       record {
         below = omega arith;
-        later = λ y l. let e : y + start - (start - g .jitter) ≡ y + g .jitter = omega (arith, f .own .jitter) in rw e (omega arith);
+        later = λ y l. let e : y + start - (start - g .jitter) ≡ y + g .jitter = omega (arith, f .own .jitter) in rw e refl;
       }
 
-  -- d periods further on its sum is i's own part at x, ..
+  -- d periods further on its sum is B and i's own part at x, ..
   pub own-now : (own : Own) (x d : ℕ) → d ≡ ceil (x + start - own .edge) (g .period) → OwnKept g own x → own .sum + d * g .cost ≡ ownL g x
   own-now own x d e o = rw e (o .later x (le-refl x))
 

@@ -25,7 +25,7 @@ fn busy_alone(g: Gathered) -> Ended
     let mut evaluations: u64 = 0;
     while x <= TICKS {
         own = own_at(g, own, x);
-        let y = g.blocking + own.sum;
+        let y = own.sum;
         evaluations += 1;
         if y == x {
             return Ended {

@@ -34,7 +34,7 @@ const FEW_STAIRS: usize = SOURCES + FEW;
 // The least busy period there can be, where the chains for L start.
 pub(crate) const FIRST: u64 = 1;
 
-// i's own stair: its edge, and how high it is up to there.
+// i's own stair: its edge, and B with how high the stair is up to there.
 pub(crate) struct Own {
     pub(crate) edge: u64,
     pub(crate) sum: u64,
@@ -45,7 +45,10 @@ pub(crate) fn own_start(g: Gathered) -> Own
     ensures { λ r. ⌜ OwnKept g r 0 ⌝ }
 {
     let edge = START - g.jitter;
-    Own { edge, sum: 0 }
+    Own {
+        edge,
+        sum: g.blocking,
+    }
 }
 
 // i's own stair at x, with its edge gone on.
@@ -90,7 +93,7 @@ fn busy_period<'a>(
     while x <= TICKS {
         rest = climbed(x + START, n, costs, periods, edges, nearest, rest);
         own = own_at(g, own, x);
-        let y = g.blocking + own.sum + rest;
+        let y = own.sum + rest;
         evaluations += 1;
         if y == x {
             return Ended {

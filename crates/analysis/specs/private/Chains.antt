@@ -19,9 +19,9 @@ use Rattle.analysis.specs.declared.searches.Own.{Own}
 use Rattle.analysis.specs.declared.searches.Reached.{Reached}
 use Rattle.analysis.specs.private.Stairs.{height, start, far, Stairs, Edges}
 
--- i's own part of L's right side
+-- B and i's own part of L's right side
 abbrev pub ownL : Gathered → ℕ → ℕ
-ownL g x = ceil (x + g .jitter) (g .period) * g .cost
+ownL g x = g .blocking + ceil (x + g .jitter) (g .period) * g .cost
 
 -- what the right sides of L and of w(q) have besides B and i's own part
 abbrev pub restL : Terms → ℕ → ℕ
@@ -41,7 +41,7 @@ pub record RestKept (costs periods edges : List ℕ) (n : ℕ) (rest : ℕ → �
   pub known : Edges edges n
   pub later : (y : ℕ) → x ≤ y → sum + height costs periods edges n (y + start) ≡ rest y
 
--- what a chain keeps of i's own stair: a sum that, with the edge, gives i's own part from x on
+-- what a chain keeps of i's own stair: a sum that, with the edge, gives B and i's own part from x on
 pub record OwnKept (g : Gathered) (own : Own) (x : ℕ) : Type 0 where
   pub below : own .edge < far
   pub later : (y : ℕ) → x ≤ y → own .sum + ceil (y + start - own .edge) (g .period) * g .cost ≡ ownL g y

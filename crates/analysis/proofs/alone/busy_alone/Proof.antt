@@ -6,7 +6,6 @@ use Rattle.bound.specs.Bound.{sideL}
 use Rattle.analysis.specs.private.Chains.{aloneTerms}
 use Rattle.analysis.proofs.Chains.{BusyChain, busy-start, busy-rises, busy-fits, busy-found, busy-more, busy-beyond}
 use Rattle.terms.proofs.Fit.{fit-sound}
-use Rattle.terms.proofs.Fit.{alone-fits}
 use Rattle.analysis.proofs.Sides.{sideL-alone}
 use Rattle.analysis.proofs.alone.busy_alone.Statement.{statement}
 use Rattle.analysis.proofs.alone.busy_alone.Tie as tie
@@ -33,34 +32,27 @@ round c = c .before .before
 own-at-requires : tie.Need-own-at-requires Inv-loop μ-loop
 own-at-requires c κs = (begun (c .before) .pre, (c .loop-test .taken, c .before .loop .inv .mine))
 
-add-y : tie.Need-add-y Inv-loop μ-loop
-add-y c =
-    let d = c .before .before in
-    let s = begun (round d) in
-    omega (arith, d .own-at .ensures .0, alone-fits (s .args .g) (s .pre) (round d .loop .x) (d .before .loop-test .taken))
-
 -- the evaluation is L's right side at x
-evaluated : (c : tie.After-own-at Inv-loop μ-loop) → let g = begun (round c) .args .g in g .blocking + c .own-at .result .sum ≡ sideL (aloneTerms g) (round c .loop .x)
+evaluated : (c : tie.After-own-at Inv-loop μ-loop) → let g = begun (round c) .args .g in c .own-at .result .sum ≡ sideL (aloneTerms g) (round c .loop .x)
 evaluated c = omega (arith, c .own-at .ensures .0, sideL-alone (begun (round c) .args .g) (round c .loop .x))
 
 add-evaluations : tie.Need-add-evaluations Inv-loop μ-loop
 add-evaluations c =
-    let d = c .before .before in
-    omega (arith, busy-fits (round d .loop .inv) (evaluated d) (d .before .loop-test .taken))
+    omega (arith, busy-fits (round c .loop .inv) (evaluated c) (c .before .loop-test .taken))
 
 returns : tie.Need-returns Inv-loop μ-loop
 returns c =
-    let d = c .before .before .before in
+    let d = c .before in
     busy-found (round d .loop .inv) (evaluated d) (d .before .loop-test .taken) (c .if1 .taken)
 
 loop-less : tie.Need-loop-less Inv-loop μ-loop
 loop-less c =
-    let d = c .before .before .before in
+    let d = c .before in
     omega (arith, busy-rises (round d .loop .inv) (evaluated d), d .before .loop-test .taken, c .if1 .left)
 
 loop-again : tie.Need-loop-again Inv-loop μ-loop
 loop-again c =
-    let d = c .before .before .before in
+    let d = c .before in
     busy-more (round d .loop .inv) (evaluated d) (d .before .loop-test .taken) (c .if1 .left) (d .own-at .ensures .1)
 
 returns-2 : tie.Need-returns-2 Inv-loop μ-loop
@@ -69,4 +61,4 @@ returns-2 c = busy-beyond (c .before .loop .inv) (omega arith)
 pub busy-alone-spec : {M : Type 1} → statement M
 busy-alone-spec =
     tie.close
-    (tie.spec Inv-loop μ-loop own-start-requires loop-holds own-at-requires add-y add-evaluations returns loop-less loop-again returns-2)
+    (tie.spec Inv-loop μ-loop own-start-requires loop-holds own-at-requires add-evaluations returns loop-less loop-again returns-2)

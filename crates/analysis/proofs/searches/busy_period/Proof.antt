@@ -71,7 +71,7 @@ loop-holds c =
 -- the right side at x fits, and with it each of its parts
 room : (c : tie.In-loop Inv-loop μ-loop)
     → let t = given (begun (c .before)) in
-    t .row .blocking + ownL (t .row) (c .before .loop .x) + restL (termsOf t) (c .before .loop .x) < 2 ^ 64
+    ownL (t .row) (c .before .loop .x) + restL (termsOf t) (c .before .loop .x) < 2 ^ 64
 room c =
     let s = begun (c .before) in
     let x = c .before .loop .x in
@@ -108,12 +108,7 @@ own-at-requires c κs = let d = evaluation c in (begun (round d) .pre .0 .row, (
 
 add-y : tie.Need-add-y Inv-loop μ-loop
 add-y c =
-    let d = c .before .before in
-    omega (arith, room (turn (evaluation (d .before))), d .own-at .ensures .0)
-
-add-y-2 : tie.Need-add-y-2 Inv-loop μ-loop
-add-y-2 c =
-    let d = c .before .before in
+    let d = c .before in
     let e = evaluation (d .before) in
     omega (arith, room (turn e), d .own-at .ensures .0, theirs e)
 
@@ -121,32 +116,32 @@ add-y-2 c =
 evaluated : (c : tie.After-own-at Inv-loop μ-loop)
     → let d = evaluation (c .before) in
     let t = given (begun (round d)) in
-    t .row .blocking + c .own-at .result .sum + d .climbed .result ≡ sideL (termsOf t) (round d .loop .x)
+    c .own-at .result .sum + d .climbed .result ≡ sideL (termsOf t) (round d .loop .x)
 evaluated c =
     let d = evaluation (c .before) in
     omega (arith, c .own-at .ensures .0, theirs d, sideL-parts (given (begun (round d))) (round d .loop .x))
 
 add-evaluations : tie.Need-add-evaluations Inv-loop μ-loop
 add-evaluations c =
-    let o = c .before .before in
+    let o = c .before in
     let d = evaluation (o .before) in
     omega (arith, busy-fits (round d .loop .inv .0) (evaluated o) (turn d .loop-test .taken))
 
 returns : tie.Need-returns Inv-loop μ-loop
 returns c =
-    let o = c .before .before .before in
+    let o = c .before .before in
     let d = evaluation (o .before) in
     busy-found (round d .loop .inv .0) (evaluated o) (turn d .loop-test .taken) (c .if1 .taken)
 
 loop-less : tie.Need-loop-less Inv-loop μ-loop
 loop-less c =
-    let o = c .before .before .before in
+    let o = c .before .before in
     let d = evaluation (o .before) in
     omega (arith, busy-rises (round d .loop .inv .0) (evaluated o), turn d .loop-test .taken, c .if1 .left)
 
 loop-again : tie.Need-loop-again Inv-loop μ-loop
 loop-again c =
-    let o = c .before .before .before in
+    let o = c .before .before in
     let d = evaluation (o .before) in
     let b = round d .loop .inv .0 in (
       busy-more b (evaluated o) (turn d .loop-test .taken) (c .if1 .left) (o .own-at .ensures .1),
@@ -163,10 +158,10 @@ rooms : (c : tie.At-loop Inv-loop μ-loop)
 rooms c = let k = edged (c .before) .start .kept in (c .loop .inv .3 ∙ k .1 .1 .1 .1 .1 .0, c .loop .inv .4 ∙ k .1 .1 .1 .1 .1 .1 .0)
 
 same-length : tie.Need-same-length Inv-loop μ-loop
-same-length c = let d = evaluation (c .before .before .before .before) in d .climbed .kept .1 .1 .1 .1 .0 ∙ rooms (round d) .0
+same-length c = let d = evaluation (c .before .before .before) in d .climbed .kept .1 .1 .1 .1 .0 ∙ rooms (round d) .0
 
 same-length-2 : tie.Need-same-length-2 Inv-loop μ-loop
-same-length-2 c = let d = evaluation (c .before .before .before .before) in d .climbed .kept .1 .1 .1 .1 .1 .0 ∙ rooms (round d) .1
+same-length-2 c = let d = evaluation (c .before .before .before) in d .climbed .kept .1 .1 .1 .1 .1 .0 ∙ rooms (round d) .1
 
 returns-2 : tie.Need-returns-2 Inv-loop μ-loop
 returns-2 c = busy-beyond (c .before .loop .inv .0) (omega arith)
@@ -175,5 +170,5 @@ pub busy-period-spec : {M : Type 1} → statement M
 busy-period-spec =
     tie.close
     (tie.spec Inv-loop μ-loop add-n start-requires own-start-requires loop-holds (λ c. search needs) climbed-requires
-    own-at-requires add-y add-y-2 add-evaluations same-length same-length-2 returns loop-less loop-again (λ c. rooms (c .before) .0)
+    own-at-requires add-y add-evaluations same-length same-length-2 returns loop-less loop-again (λ c. rooms (c .before) .0)
     (λ c. rooms (c .before) .1) returns-2)

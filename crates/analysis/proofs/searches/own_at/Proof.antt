@@ -1,4 +1,4 @@
--- As many periods as x has passed, at their cost: the sum is i's own part at x, and what is kept stays so.
+-- As many periods as x has passed, at their cost: the sum is B and i's own part at x, and what is kept stays so.
 use borrow.Author.Needs.{needs}
 use mathlib.Core.Path.{_≡_}
 use Prim.Native.Nat.{_+_, _*_, _^_, _<_}
@@ -24,7 +24,7 @@ mul-edge c = omega (arith, on (c .before) .below)
 add-edge : tie.Need-add-edge
 add-edge c = omega (arith, on (c .before .before) .below)
 
--- i's own part fits, and with it each of its parts
+-- this fits, and with it each of its parts
 room : (c : tie.After-periods-past) → let a = c .before .args in a .own .sum + c .periods-past .result * a .g .cost < 2 ^ 64
 room c = let s = c .before in omega (arith, mine c, alone-fits (s .args .g) (s .pre .0) (s .args .x) (s .pre .1 .0))
 
