@@ -2,7 +2,7 @@
 use mathlib.Core.Path.{_≡_, refl, sym, ap, _∙_}
 use mathlib.Core.List.{List}
 use Prim.Native.Nat.{ℕ, _+_, _-_, _*_, _≤_, _<_}
-use native.Mathlib.Nat.{le-refl}
+use native.Mathlib.Nat.{le-refl, sub-zero}
 use native.Mathlib.Omega.{arith}
 use Rattle.names.specs.Limits.{ticks}
 use Rattle.laws.specs.Lists.{ceil}
@@ -39,25 +39,21 @@ module _ (costs periods edges : List ℕ) (n : ℕ) (rest : ℕ → ℕ) where
 
 -- ---- i's own stair
 module _ (g : Gathered) where
-  pub own-start : FitRow g → OwnKept g (record { edge = start - g .jitter; sum = g .blocking }) 0
-  own-start f =
-      record {
-        below = omega arith;
-        later = λ y l. let e : y + start - (start - g .jitter) ≡ y + g .jitter = omega (arith, f .own .jitter) in rw e refl;
-      }
+  pub own-start : OwnKept g (record { edge = 0; sum = g .blocking }) 0
+  own-start = record { below = omega arith; later = λ y l. ap (λ z. g .blocking + ceil z (g .period) * g .cost) (sub-zero (y + g .jitter)) }
 
   -- d periods further on its sum is B and i's own part at x, ..
-  pub own-now : (own : Own) (x d : ℕ) → d ≡ ceil (x + start - own .edge) (g .period) → OwnKept g own x → own .sum + d * g .cost ≡ ownL g x
+  pub own-now : (own : Own) (x d : ℕ) → d ≡ ceil (x + g .jitter - own .edge) (g .period) → OwnKept g own x → own .sum + d * g .cost ≡ ownL g x
   own-now own x d e o = rw e (o .later x (le-refl x))
 
   -- .. and it is kept
-  pub own-on : (own : Own) (x d : ℕ) → d ≡ ceil (x + start - own .edge) (g .period) → FitRow g → x ≤ ticks → OwnKept g own x
+  pub own-on : (own : Own) (x d : ℕ) → d ≡ ceil (x + g .jitter - own .edge) (g .period) → FitRow g → x ≤ ticks → OwnKept g own x
       → OwnKept g (record { edge = own .edge + d * g .period; sum = own .sum + d * g .cost }) x
   own-on own x d e f h o =
       rw e
       (record {
-        below = onward-below (own .edge) (g .period) (x + start) (o .below) (f .own .period) (omega arith);
-        later = λ y l. omega (arith, onward-later (own .edge) (g .period) (g .cost) (x + start) (y + start) (f .own .some) (omega arith), o .later y l);
+        below = onward-below (own .edge) (g .period) (x + g .jitter) (o .below) (f .own .period) (omega (arith, f .own .jitter));
+        later = λ y l. omega (arith, onward-later (own .edge) (g .period) (g .cost) (x + g .jitter) (y + g .jitter) (f .own .some) (omega arith), o .later y l);
       })
 
   own-up : (own : Own) (x y : ℕ) → x ≤ y → OwnKept g own x → OwnKept g own y

@@ -34,19 +34,17 @@ const FEW_STAIRS: usize = SOURCES + FEW;
 // The least busy period there can be, where the chains for L start.
 pub(crate) const FIRST: u64 = 1;
 
-// i's own stair: its edge, and B with how high the stair is up to there.
+// i's own stair, on which x stands at x + J: its edge, and B with how high the stair is up to there.
 pub(crate) struct Own {
     pub(crate) edge: u64,
     pub(crate) sum: u64,
 }
 
 pub(crate) fn own_start(g: Gathered) -> Own
-    requires { ⌜ FitRow g ⌝ }
     ensures { λ r. ⌜ OwnKept g r 0 ⌝ }
 {
-    let edge = START - g.jitter;
     Own {
-        edge,
+        edge: 0,
         sum: g.blocking,
     }
 }
@@ -59,7 +57,7 @@ pub(crate) fn own_at(g: Gathered, own: Own, x: u64) -> Own
     ensures { λ r. ⌜ r .sum ≡ ownL g x ⌝ }
     ensures { λ r. ⌜ OwnKept g r x ⌝ }
 {
-    let d = periods_past(x + START, own.edge, g.period);
+    let d = periods_past(x + g.jitter, own.edge, g.period);
     let edge = own.edge + d * g.period;
     let sum = own.sum + d * g.cost;
     Own { edge, sum }

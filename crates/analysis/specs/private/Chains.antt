@@ -44,7 +44,7 @@ pub record RestKept (costs periods edges : List ℕ) (n : ℕ) (rest : ℕ → �
 -- what a chain keeps of i's own stair: a sum that, with the edge, gives B and i's own part from x on
 pub record OwnKept (g : Gathered) (own : Own) (x : ℕ) : Type 0 where
   pub below : own .edge < far
-  pub later : (y : ℕ) → x ≤ y → own .sum + ceil (y + start - own .edge) (g .period) * g .cost ≡ ownL g y
+  pub later : (y : ℕ) → x ≤ y → own .sum + ceil (y + g .jitter - own .edge) (g .period) * g .cost ≡ ownL g y
 
 -- where the chain for L ended, and how many evaluations it took
 pub record EndsAs (r : Terms) (e : Ended) : Type 0 where

@@ -1,4 +1,5 @@
 -- The chain from 1: with nobody else on the channel L's right side at x is B and i's own part.
+use borrow.Author.Needs.{needs}
 use mathlib.Core.Path.{_≡_}
 use Prim.Native.Nat.{_+_, _-_, _^_}
 use native.Mathlib.Omega.{arith}
@@ -15,9 +16,6 @@ Inv-loop g own₀ x₀ evaluations₀ own x evaluations = BusyChain g (aloneTerm
 
 abbrev μ-loop : tie.MeasureT-loop
 μ-loop g own₀ x₀ evaluations₀ own x evaluations = 2 ^ 32 - x
-
-own-start-requires : tie.Need-own-start-requires Inv-loop μ-loop
-own-start-requires c κs = c .pre
 
 loop-holds : tie.Need-loop-holds Inv-loop μ-loop
 loop-holds c = busy-start (fit-sound _ _ _ (c .before .pre)) (c .own-start .ensures)
@@ -61,4 +59,4 @@ returns-2 c = busy-beyond (c .before .loop .inv) (omega arith)
 pub busy-alone-spec : {M : Type 1} → statement M
 busy-alone-spec =
     tie.close
-    (tie.spec Inv-loop μ-loop own-start-requires loop-holds own-at-requires add-evaluations returns loop-less loop-again returns-2)
+    (tie.spec Inv-loop μ-loop (λ c κs. search needs) loop-holds own-at-requires add-evaluations returns loop-less loop-again returns-2)

@@ -55,9 +55,6 @@ started c =
     let r = termsOf (given (entry c)) in
     laid (given (entry c)) (entry c .pre .0) 0 0 (omega arith) (omega arith) _ (c .start .ensures .0) (restL r) (λ x. ap (λ z. demand (r .urgent) z + E r z) (add-zero x))
 
-own-start-requires : tie.Need-own-start-requires Inv-loop μ-loop
-own-start-requires c κs = entry (c .before .before .before .before) .pre .0 .row
-
 loop-holds : tie.Need-loop-holds Inv-loop μ-loop
 loop-holds c =
     let l = edged c in (
@@ -169,6 +166,6 @@ returns-2 c = busy-beyond (c .before .loop .inv .0) (omega arith)
 pub busy-period-spec : {M : Type 1} → statement M
 busy-period-spec =
     tie.close
-    (tie.spec Inv-loop μ-loop add-n start-requires own-start-requires loop-holds (λ c. search needs) climbed-requires
+    (tie.spec Inv-loop μ-loop add-n start-requires (λ c κs. search needs) loop-holds (λ c. search needs) climbed-requires
     own-at-requires add-y add-evaluations same-length same-length-2 returns loop-less loop-again (λ c. rooms (c .before) .0)
     (λ c. rooms (c .before) .1) returns-2)

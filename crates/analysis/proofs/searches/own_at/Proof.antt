@@ -10,13 +10,13 @@ use Rattle.analysis.proofs.searches.own_at.Statement.{statement}
 use Rattle.analysis.proofs.searches.own_at.Tie as tie
 
 -- the sum and the edge after it
-mine : (c : tie.After-periods-past) → let a = c .before .args in a .own .sum + c .periods-past .result * a .g .cost ≡ ownL (a .g) (a .x)
-mine c = own-now _ _ _ _ (c .periods-past .ensures) (c .before .pre .1 .1)
+mine : (c : tie.After-periods-past) → let a = c .before .before .args in a .own .sum + c .periods-past .result * a .g .cost ≡ ownL (a .g) (a .x)
+mine c = own-now _ _ _ _ (c .periods-past .ensures) (c .before .before .pre .1 .1)
 
 on : (c : tie.After-periods-past)
-    → let a = c .before .args in
+    → let a = c .before .before .args in
     OwnKept (a .g) (record { edge = a .own .edge + c .periods-past .result * a .g .period; sum = a .own .sum + c .periods-past .result * a .g .cost }) (a .x)
-on c = let p = c .before .pre in own-on _ _ _ _ (c .periods-past .ensures) (p .0) (p .1 .0) (p .1 .1)
+on c = let p = c .before .before .pre in own-on _ _ _ _ (c .periods-past .ensures) (p .0) (p .1 .0) (p .1 .1)
 
 mul-edge : tie.Need-mul-edge
 mul-edge c = omega (arith, on (c .before) .below)
@@ -25,8 +25,8 @@ add-edge : tie.Need-add-edge
 add-edge c = omega (arith, on (c .before .before) .below)
 
 -- this fits, and with it each of its parts
-room : (c : tie.After-periods-past) → let a = c .before .args in a .own .sum + c .periods-past .result * a .g .cost < 2 ^ 64
-room c = let s = c .before in omega (arith, mine c, alone-fits (s .args .g) (s .pre .0) (s .args .x) (s .pre .1 .0))
+room : (c : tie.After-periods-past) → let a = c .before .before .args in a .own .sum + c .periods-past .result * a .g .cost < 2 ^ 64
+room c = let s = c .before .before in omega (arith, mine c, alone-fits (s .args .g) (s .pre .0) (s .args .x) (s .pre .1 .0))
 
 mul-sum : tie.Need-mul-sum
 mul-sum c = omega (arith, room (c .before .before .before))

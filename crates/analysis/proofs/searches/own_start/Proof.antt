@@ -1,11 +1,10 @@
--- The edge is the jitter before time's start, so what stands at x counts from there.
-use borrow.Author.Needs.{needs}
+-- What stands at x counts from i's jitter before time's start.
 use Rattle.analysis.proofs.Chains.{own-start}
 use Rattle.analysis.proofs.searches.own_start.Statement.{statement}
 use Rattle.analysis.proofs.searches.own_start.Tie as tie
 
 returns : tie.Need-returns
-returns c = let s = c .before in own-start (s .args .g) (s .pre)
+returns c = own-start (c .args .g)
 
 pub own-start-spec : {M : Type 1} → statement M
-own-start-spec = tie.close (tie.spec (λ c. search needs) returns)
+own-start-spec = tie.close (tie.spec returns)
