@@ -1,5 +1,5 @@
 -- What a chain keeps from turn to turn: sums that, with the edges, give a right side from the present x on; and the chain for L. Assumes nothing.
-use mathlib.Core.Path.{_≡_, refl, sym, ap, _∙_}
+use mathlib.Core.Path.{_≡_, sym, ap, _∙_}
 use mathlib.Core.List.{List}
 use Prim.Native.Nat.{ℕ, _+_, _-_, _*_, _≤_, _<_}
 use native.Mathlib.Nat.{le-refl, sub-zero}

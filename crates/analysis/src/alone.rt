@@ -41,8 +41,8 @@ fn busy_alone(g: Gathered) -> Ended
     }
 }
 
-// The largest term is the first: an instance then waits for B alone, or for those
-// of its own before it, and these go faster than new ones come, or there were no busy period.
+// The largest term is the first: an instance then waits for B alone, or for those of its own before it, and these go faster than new ones
+// come, or there were no busy period.
 pub(crate) fn answer_alone(g: Gathered, deadline: u64) -> Searched
     requires { ⌜ FitRow g ⌝ }
     ensures { λ r. ⌜ r ≡ searched (aloneTerms g) deadline ⌝ }

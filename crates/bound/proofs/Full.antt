@@ -11,7 +11,7 @@ use Rattle.laws.proofs.Round.{ceil-pos, ceil-at-most}
 use Rattle.bound.specs.Terms.{Terms}
 use Rattle.bound.specs.Bound.{sideL, busy}
 use Rattle.bound.specs.Claims.{Sound}
-use Rattle.bound.specs.Evaluations.{chain, evaluations, IsLast, Full, FullLate, FullBlocked}
+use Rattle.bound.specs.Evaluations.{chain, evaluations, Full, FullLate, FullBlocked}
 use Rattle.bound.proofs.Sides.{demand-own}
 use Rattle.bound.proofs.Alone.{no-demand, no-noise}
 use Rattle.bound.proofs.Evaluations.{counts-to-last, ends-beyond}

@@ -36,7 +36,7 @@ orTicks Nothing = ticks
 unfoldable pub X : Terms → ℕ
 X r = orTicks (busy r)
 
--- c: the smallest C'' among i and hp(i)
+-- c: the smallest C'' among i and hp(i), each of which is P in slots
 unfoldable pub c : Terms → ℕ
 c r = smallestOf (λ j. j .C″) (r .own) (r .urgent)
 
@@ -86,7 +86,7 @@ pub record Paid (r : Terms) : Type 0 where
 abbrev pub EvaluationsWithin : Type 0
 EvaluationsWithin = (r : Terms) → Sound r → Paid r → evaluations r ≤ limit r
 
--- and so it is at most 4,294,967,295 whatever c is: ten digits
+-- whatever the costs are, it has ten digits at most: each evaluation before the last adds a tick
 abbrev pub EvaluationsFit : Type 0
 EvaluationsFit = (r : Terms) → Sound r → evaluations r ≤ ticks
 
@@ -104,7 +104,7 @@ FullLate =
     (r : Terms) → Sound r → Full r → r .B ≡ 0 → r .own .J ≡ r .own .C″
     → (busy r ≡ Nothing) × (evaluations r ≡ ticks / r .own .C″)
 
--- .. and where there is none, but some blocking
+-- .. and where there is no jitter, but some blocking
 abbrev pub FullBlocked : Type 0
 FullBlocked =
     (r : Terms) → Sound r → Full r → r .own .J ≡ 0 → 1 ≤ r .B → r .B ≤ r .own .C″

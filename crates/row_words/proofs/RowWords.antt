@@ -12,7 +12,6 @@ use lib.Seq.{sets-eq, take-at, take-all, drop-append-add, drop-drop, length-take
 use Rattle.laws.specs.Lists.{rows}
 use Rattle.laws.proofs.Lists.{rows-more, rows-same, rows-take, length-rows}
 use Rattle.laws.proofs.Pieces.{flat-append, length-flat, in-piece}
-use Rattle.bound.specs.declared.Answer.{Answer}
 use Rattle.bound.specs.declared.Searched.{Searched}
 use Rattle.bound.specs.declared.Wait.{Wait}
 use Rattle.bound.specs.declared.Verdict.{Verdict, the-variants.Met, the-variants.Missed, the-variants.None}

@@ -2,7 +2,6 @@
 //
 // The public function answers for every input, and its contract fixes each byte of the buffer: the lines are there whole, or it answers
 // `Full` and leaves the buffer as it was. Nothing is assumed. This crate must not know of files, of checks, or of how a wait comes about.
-ghost use mathlib.Core.Path.{_≡_};
 ghost use Rattle.text.specs.Put.{Lays, Puts};
 ghost use Rattle.wait_lines.specs.Lines.{waitRow, waitHeader, linesIn};
 use bound::Wait;

@@ -9,6 +9,8 @@ use lib.IntN.{pos, natAbs}
 use mir.Syntax.{w64}
 use mir.Val.{toZ, ofZ, SFits}
 use mir.Facts.{toZ-ofZ, fits-natAbs}
+use Rattle.bound.specs.declared.Answer.{Answer}
+use Rattle.bound.specs.Bound.{verdict}
 use Rattle.bound.proofs.Alone.{alone-bound, alone-is-first}
 use Rattle.bound.proofs.Answers.{answer-bound, searched-bound}
 use Rattle.terms.specs.declared.Gathered.{Gathered}
@@ -46,10 +48,11 @@ returns-2 c =
     let b = ended t in
     let sound = fit-sound _ _ _ (b .before .pre) in
     let found = ended-busy sound (b .busy-alone .ensures) (omega (arith, t .before .before .before .if1 .left)) in
-    searched-bound _ _ _ _ _ found
-    (c .judged .ensures
-    ∙ answer-bound _ _ _ _ _ found (ap natAbs (first t) ∙ alone-bound _ sound _ found refl refl) (sym (alone-is-first _ sound _ found refl refl)))
-    (b .busy-alone .ensures .count)
+    let D = b .before .args .deadline in
+    let x = natAbs (toZ w64 (ofZ w64 (t .term .result))) in
+    let told : _≡_ {A = Answer} (c .judged .result) (record { verdict = verdict x D; bound = x; instance = 0 }) = c .judged .ensures in
+    let is = answer-bound _ D _ _ _ found (ap natAbs (first t) ∙ alone-bound _ sound _ found refl refl) (sym (alone-is-first _ sound _ found refl refl)) in
+    searched-bound _ _ _ _ _ found (told ∙ is) (b .busy-alone .ensures .count)
 
 pub answer-alone-spec : {M : Type 1} → statement M
 answer-alone-spec =

@@ -1,7 +1,7 @@
 -- The chain from 1: with nobody else on the channel L's right side at x is B and i's own part.
 use borrow.Author.Needs.{needs}
 use mathlib.Core.Path.{_≡_}
-use Prim.Native.Nat.{_+_, _-_, _^_}
+use Prim.Native.Nat.{_-_, _^_}
 use native.Mathlib.Omega.{arith}
 use Rattle.bound.specs.Bound.{sideL}
 use Rattle.analysis.specs.private.Chains.{aloneTerms}

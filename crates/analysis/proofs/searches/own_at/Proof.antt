@@ -11,12 +11,12 @@ use Rattle.analysis.proofs.searches.own_at.Tie as tie
 
 -- the sum and the edge after it
 mine : (c : tie.After-periods-past) → let a = c .before .before .args in a .own .sum + c .periods-past .result * a .g .cost ≡ ownL (a .g) (a .x)
-mine c = own-now _ _ _ _ (c .periods-past .ensures) (c .before .before .pre .1 .1)
+mine c = let s = c .before .before in own-now (s .args .g) (s .args .own) (s .args .x) _ (c .periods-past .ensures) (s .pre .1 .1)
 
 on : (c : tie.After-periods-past)
     → let a = c .before .before .args in
     OwnKept (a .g) (record { edge = a .own .edge + c .periods-past .result * a .g .period; sum = a .own .sum + c .periods-past .result * a .g .cost }) (a .x)
-on c = let p = c .before .before .pre in own-on _ _ _ _ (c .periods-past .ensures) (p .0) (p .1 .0) (p .1 .1)
+on c = let s = c .before .before in own-on (s .args .g) (s .args .own) (s .args .x) _ (c .periods-past .ensures) (s .pre .0) (s .pre .1 .0) (s .pre .1 .1)
 
 mul-edge : tie.Need-mul-edge
 mul-edge c = omega (arith, on (c .before) .below)

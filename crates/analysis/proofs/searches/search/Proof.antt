@@ -1,6 +1,6 @@
 -- The chain ends where the rule says, and the second search finds the largest term.
 use borrow.Author.Needs.{needs}
-use mathlib.Core.Path.{_≡_, sym, _∙_}
+use mathlib.Core.Path.{_≡_, _∙_}
 use native.Mathlib.Omega.{arith}
 use Rattle.laws.specs.declared.Found.the-variants.{At}
 use Rattle.bound.specs.Bound.{busy}

@@ -1,7 +1,6 @@
 -- The row's own terms, with its hits before the streams in order, are the rules', and so is the answer to them.
 use borrow.Author.Needs.{needs}
-use native.Mathlib.Omega.{arith}
-use mathlib.Core.Path.{_≡_, ap, _∙_}
+use mathlib.Core.Path.{ap, _∙_}
 use denote.Ref.{now}
 use Rattle.bound.specs.Evaluations.{searched}
 use Rattle.terms.specs.Gathered.{lent}
