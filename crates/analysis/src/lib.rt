@@ -4,6 +4,8 @@
 // The public function answers for every input: terms that are not within the limits are told so. Nothing is assumed. This crate knows of
 // terms alone, and must not know of plans, labels or files. What it is lent it only reads. Its rooms: stairs (a right side, and how it goes
 // on), searches (L, w and the largest term), alone (a stream with nobody else on the channel).
+#![tactic(auto)]
+
 mod alone;
 mod searches;
 mod stairs;
@@ -17,7 +19,7 @@ use bound::Searched;
 use searches::answer_among;
 use terms::{Gathered, terms_fit};
 
-#[derive(Drop)]
+#[derive(Clone, Copy)]
 pub enum Answered {
     // The terms are not within the limits.
     Outside,

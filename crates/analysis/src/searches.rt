@@ -25,7 +25,7 @@ const FEW_STAIRS: usize = SOURCES + FEW;
 pub(crate) const FIRST: u64 = 1;
 
 // i's own stair, on which x stands at x + J: its edge, and B with how high the stair is up to there.
-#[derive(Drop)]
+#[derive(Clone, Copy)]
 pub(crate) struct Own {
     pub(crate) edge: u64,
     pub(crate) sum: u64,
@@ -55,7 +55,7 @@ pub(crate) fn own_at(g: Gathered, own: Own, x: u64) -> Own
 }
 
 // Where the chain for L ended: its last value, which is L or beyond the last tick, and how many evaluations there were.
-#[derive(Drop)]
+#[derive(Clone, Copy)]
 pub(crate) struct Ended {
     pub(crate) last: u64,
     pub(crate) evaluations: u64,
@@ -137,7 +137,7 @@ pub(crate) fn term(a: u64, b: u64) -> i64
 }
 
 // A term and its instance.
-#[derive(Drop)]
+#[derive(Clone, Copy)]
 struct Reached {
     term: i64,
     instance: u64,
@@ -162,7 +162,7 @@ fn instances(l: u64, jitter: u64, period: u64) -> u64
 }
 
 // The bound, and the instance that gives it.
-#[derive(Drop)]
+#[derive(Clone, Copy)]
 struct Worst {
     bound: u64,
     instance: u64,

@@ -54,7 +54,7 @@ fn rises(x: u64, edge: u64, period: u64) -> u64
 }
 
 // What is left when a lot was gone through: the sum, and an edge that none of its own is before.
-#[derive(Drop)]
+#[derive(Clone, Copy)]
 struct Lot {
     total: u64,
     nearest: u64,

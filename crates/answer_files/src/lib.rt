@@ -2,6 +2,8 @@
 //
 // The one public function answers for any bytes. On a refusal the lent words are as they were, and else those after the rows' are. Nothing
 // is assumed. This crate joins the reader and the answers; it must not know of text.
+#![tactic(auto)]
+
 ghost use Rattle.std.specs.Prelude.{◌≡◌};
 ghost use Rattle.answer_files.specs.AnswerFiles.{answer_file_of};
 

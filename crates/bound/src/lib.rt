@@ -2,9 +2,10 @@
 //
 // The terms know no file, no label, no timing constant and no edition; a plan becomes terms in the crate
 // above. There is no function here and nothing is assumed. This crate knows of names and laws alone.
+#![tactic(auto)]
 
 // How a row fares: its bound is at most its deadline, or above it, or there is none.
-#[derive(Drop)]
+#[derive(Clone, Copy)]
 pub enum Verdict {
     Met,
     Missed,
@@ -12,7 +13,7 @@ pub enum Verdict {
 }
 
 // A row's answer: its verdict, its bound, and the instance that gives it. Where there is no bound, both numbers are 0.
-#[derive(Drop)]
+#[derive(Clone, Copy)]
 pub struct Answer {
     pub verdict: Verdict,
     pub bound: u64,
@@ -20,7 +21,7 @@ pub struct Answer {
 }
 
 // A row's answer, how many evaluations the search for its L took, and X: L, or 4,294,967,295 where there is none.
-#[derive(Drop)]
+#[derive(Clone, Copy)]
 pub struct Searched {
     pub answer: Answer,
     pub evaluations: u64,
@@ -28,7 +29,7 @@ pub struct Searched {
 }
 
 // How long a row's search may take: its evaluations, and the most that there can be.
-#[derive(Drop)]
+#[derive(Clone, Copy)]
 pub struct Wait {
     pub evaluations: u64,
     pub limit: u64,

@@ -5,6 +5,8 @@
 // Records are made of words and words of records here and nowhere else. Every public function answers for every input, and its
 // contract determines the answer; nothing is checked. Nothing is assumed. This crate knows of a plan's values; it must not know of
 // bytes or refusals.
+#![tactic(auto)]
+
 ghost use Rattle.std.specs.Prelude.{◌≡◌, ◌+◌, ◌≤◌, min, length, replicate, take};
 ghost use Rattle.std.proofs.Math.Seq.{paste};
 ghost use Rattle.names.specs.Limits as limit;
@@ -22,7 +24,7 @@ use plan::{Sheet, Stream, Timing};
 
 // A file of edition 1 has a plan without a master node, and no word for P; one of edition 2 has a plan with one; neither has a word for K.
 // One of edition 3 has either, with both words. It is the one that is written, and the one whose places lent values have.
-#[derive(Drop)]
+#[derive(Clone, Copy)]
 pub enum Edition {
     One,
     Two,
@@ -30,7 +32,7 @@ pub enum Edition {
 }
 
 // A timing as it is entered: the ten words in the file's order, LAG among them.
-#[derive(Drop)]
+#[derive(Clone, Copy)]
 pub struct EnteredTiming {
     pub f: u32,
     pub e: u32,

@@ -4,7 +4,7 @@ use console::{print, print_number};
 use pairs::{Named, line_at, name_in, next_line};
 
 // How many cases are the same, and how many are not.
-#[derive(Drop)]
+#[derive(Clone, Copy)]
 pub(crate) struct Tally {
     pub(crate) same: u64,
     pub(crate) different: u64,

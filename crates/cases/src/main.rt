@@ -4,6 +4,8 @@
 // with a listing the desk must be shown that listing, `fine`, and a file of edition 3 with no LAG: the file's own bytes again, if it is one, and
 // else one of which it is shown the same listing and the same file; of one with waits, those; of a refused one the same line four times. What
 // differs is printed, and the last line counts. This program must not know of plans.
+#![tactic(auto)]
+
 mod list;
 
 use console::{Input, first, print, print_number, print_unreadable, read};

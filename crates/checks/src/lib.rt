@@ -4,6 +4,8 @@
 // Every public function answers for every input, and the plan that `check` and `check_words` call fine is within document 01's limits, with
 // distinct priorities and distinct labels, and fits its slots. Nothing is assumed. This crate knows of no bytes but where a field stands in
 // them.
+#![tactic(auto)]
+
 ghost use Rattle.std.specs.Prelude.{◌≡◌, ◌+◌, ◌≤◌, ◌<◌, min, ltb, length, get_or, take};
 ghost use Rattle.names.specs.Limits as limit;
 ghost use Rattle.laws.specs.Lists.{rows};

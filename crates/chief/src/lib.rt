@@ -2,6 +2,8 @@
 //
 // The one public function answers for any bytes, and its contract fixes each byte of the lent buffer. Nothing is assumed. This
 // crate puts into words what the crate compare_files says; it must not know the rule of the lighter plan, nor input and output.
+#![tactic(auto)]
+
 ghost use Rattle.std.specs.Prelude.{◌++◌};
 ghost use Rattle.text.specs.Put.{Lays, Puts};
 ghost use Rattle.text.specs.Listing.{label_text, refused_of};

@@ -2,6 +2,8 @@
 //
 // `lighter` answers for every two sheets, and its contract says when it answers what, both ways, and what follows for the bounds.
 // Nothing is assumed. This crate knows of plans' values; it must not know of bytes or of text, and it runs no analysis.
+#![tactic(auto)]
+
 ghost use Rattle.std.specs.Prelude.{◌≡◌, ◌≤◌, length, take};
 ghost use Rattle.names.specs.Limits as limit;
 ghost use Rattle.laws.specs.Rows.{some};
@@ -19,7 +21,7 @@ use plan::{Sheet, Stream, Timing};
 
 // Why a plan is to be run again: the condition that is broken first, and the constant (from 0: F, E, TFCS, SWX, H, G, ETG, NB, P), label or gap
 // that breaks it.
-#[derive(Drop)]
+#[derive(Clone, Copy)]
 pub enum Reason {
     // One plan has a master node and the other has none.
     MasterNode,
@@ -35,13 +37,13 @@ pub enum Reason {
 }
 
 // A reason, or that there is none.
-#[derive(Drop)]
+#[derive(Clone, Copy)]
 pub enum Change {
     Of(Reason),
     Nothing,
 }
 
-#[derive(Drop)]
+#[derive(Clone, Copy)]
 pub enum Compared {
     FirstRefused(Refusal),
     SecondRefused(Refusal),
@@ -133,7 +135,7 @@ fn eased(old: Stream, new: Stream) -> Change
 
 // The streams of the second plan beside those that they stand in: the first change and, where there is none, the numbers of the priorities
 // that the rows had and have.
-#[derive(Drop)]
+#[derive(Clone, Copy)]
 struct Matched {
     change: Change,
     was: [u32; STREAMS],

@@ -2,6 +2,8 @@
 //
 // `lighter_files` answers for any bytes at all, as the crate compare does for values. Nothing is assumed. This crate knows of files; it
 // must not know of text, and it runs no analysis: that the answers of the two files agree with what it says is proved, not computed.
+#![tactic(auto)]
+
 ghost use Rattle.compare_files.specs.Files.{SaysLighterOfFiles};
 
 use compare::{Compared, outcome};

@@ -2,6 +2,8 @@
 //
 // Every function answers for every input. What is read, and what reaches the terminal, is outside what is proved: that is
 // libc's and io's to say. This crate knows of the names alone.
+#![tactic(auto)]
+
 ghost use Rattle.std.specs.Prelude.{◌≡◌, take};
 ghost use Rattle.console.specs.Input.{InBuffer};
 
@@ -9,7 +11,7 @@ use libc::STDOUT_FILENO;
 use names::Refusal;
 
 // What was read: so many bytes, at the buffer's start; or that reading failed, as of a directory.
-#[derive(Drop)]
+#[derive(Clone, Copy)]
 pub enum Input {
     Bytes(usize),
     Failed,

@@ -2,6 +2,8 @@
 //
 // The one public function answers for every timing, and its contract determines the answer; within the limits these are the letters
 // of the rules. Nothing is assumed. This crate knows of a plan's timing; it must not know of checks or refusals.
+#![tactic(auto)]
+
 ghost use Rattle.std.specs.Prelude.{◌≡◌, ◌+◌, ◌*◌, ◌^◌, ◌≤◌, ◌<◌, max, min};
 ghost use Rattle.names.specs.Limits as limit;
 ghost use Rattle.plan.specs.Rules.{«V», U};
@@ -11,7 +13,7 @@ use names::BITS;
 use plan::Timing;
 
 // What goes before C' in C'', U, how late a release still joins a cycle, and P.
-#[derive(Drop)]
+#[derive(Clone, Copy)]
 pub struct Overheads {
     pub lead: u64,
     pub u: u64,

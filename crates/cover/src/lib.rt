@@ -2,3 +2,4 @@
 //
 // There is no function here and nothing is assumed. This crate knows of terms alone, so that it serves however a
 // plan's costs come about; it must not know of plans, labels or files.
+#![tactic(auto)]

@@ -2,3 +2,4 @@
 //
 // A number has one text and a text is one number's: reading the digits back gives the number, and writing what was read gives
 // the text. There is no function here and nothing is assumed. This crate knows of no other.
+#![tactic(auto)]

@@ -3,6 +3,8 @@
 //
 // Every public function answers for any bytes, and its contract fixes each byte of the lent buffer. Nothing is assumed.
 // This crate joins the reader, the answers, the rewriter and the texts; it must not know of input and output.
+#![tactic(auto)]
+
 ghost use Rattle.std.specs.Prelude.{◌≡◌, ◌+◌, length, replicate};
 ghost use Rattle.carried.specs.Layout as layout;
 ghost use Rattle.ascii.specs.Ascii.{ascii};

@@ -2,6 +2,8 @@
 //
 // The one public function answers for all words and every two counts, and its contract determines the answer. Nothing is assumed. A
 // field is known by where it stands among the words that are carried; this crate must not know of bytes or of refusals.
+#![tactic(auto)]
+
 ghost use Rattle.std.specs.Prelude.{◌≡◌, ◌+◌, ◌-◌, ◌^◌, ◌*◌, min, ◌≤◌, length};
 ghost use mathlib.Core.List.{map, flat_map};
 ghost use Rattle.names.specs.Limits as limit;
@@ -38,7 +40,7 @@ fn words_outside<'a>(words: &'a [u32], least: &'a [u32], most: &'a [u32], k: usi
 }
 
 // The least and the most that P may be: edition 1 has none, and edition 3 a plan with none.
-#[derive(Drop)]
+#[derive(Clone, Copy)]
 struct Band {
     least: u32,
     most: u32,

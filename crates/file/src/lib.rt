@@ -2,6 +2,8 @@
 //
 // specs/ goes from bytes to raw words, from raw words to a plan, and back; proofs/ has the two round trips. The reader and
 // the writer are crates above, which promise what is defined here. Nothing is assumed. The two functions are lent nothing.
+#![tactic(auto)]
+
 ghost use Rattle.std.specs.Prelude.{◌≡◌};
 ghost use Rattle.carried.specs.Layout as layout;
 ghost use Rattle.file.specs.File as spec;
@@ -12,21 +14,21 @@ use names::Refusal;
 use plan::Sheet;
 
 // What a reader hands back. The sheet of a refused file is all zero.
-#[derive(Drop)]
+#[derive(Clone, Copy)]
 pub struct ReadPlan {
     pub answer: Checked,
     pub sheet: Sheet,
 }
 
 // What the contents of a file say: its edition, n streams and m noise gaps, or why they say nothing.
-#[derive(Drop)]
+#[derive(Clone, Copy)]
 pub enum Counts {
     Of(Edition, usize, usize),
     Refused(Refusal),
 }
 
 // What a writer hands back: how many bytes it wrote, or why none.
-#[derive(Drop)]
+#[derive(Clone, Copy)]
 pub enum Written {
     Bytes(usize),
     Refused(Refusal),

@@ -2,12 +2,14 @@
 //
 // The one function answers for every input. Nothing is assumed. This crate knows of no plan, file or tournament: whoever
 // refuses anything has its own lines, and has them judged by the definition that stands here.
+#![tactic(auto)]
+
 ghost use Rattle.std.specs.Prelude.{◌≡◌};
 
 use names::Refusal;
 
 // Whether what was offered is fine, or why not.
-#[derive(Drop)]
+#[derive(Clone, Copy)]
 pub enum Checked {
     Fine,
     Refused(Refusal),

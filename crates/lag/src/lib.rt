@@ -3,3 +3,4 @@
 //
 // There is no function here and nothing is assumed. The older rule is written out in the documents' letters, so that it can be held against
 // today's line by line. This crate must not know of lent memory.
+#![tactic(auto)]

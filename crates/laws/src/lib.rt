@@ -3,10 +3,12 @@
 // differences, and what it is for a contract to determine its outcome.
 //
 // The one function answers for every input. Nothing is assumed. This crate knows of no other.
+#![tactic(auto)]
+
 ghost use Rattle.std.specs.Prelude.{◌≡◌, min};
 
 // What a search found: the number, or that there is none.
-#[derive(Drop)]
+#[derive(Clone, Copy)]
 pub enum Found {
     At(u64),
     Nothing,

@@ -3,6 +3,8 @@
 // Called as `lighter OLD NEW`. With no arguments it reads such pairs of names from standard input, one pair a line. The crate chief
 // fixes each byte that is said of two files, and the crate pairs which names a line has: this program opens, reads and prints, and
 // says in one line what it cannot open or read. It must not know the rule of the lighter plan.
+#![tactic(auto)]
+
 mod list;
 
 ghost use Rattle.std.specs.Prelude.{◌<◌, length};

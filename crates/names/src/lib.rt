@@ -3,18 +3,19 @@
 // A priority decides a tournament, a row is a place in the plan (from 0), a label is what is painted on
 // the node. Each is a struct of one number, so the build refuses one where another is wanted.
 // There is no function here, nothing is assumed, and this crate knows of no other.
+#![tactic(auto)]
 
 // A smaller priority is the more urgent one: bit 0 is dominant.
 #[repr(C)]
-#[derive(Drop)]
+#[derive(Clone, Copy)]
 pub struct Priority(pub u32);
 
 // A place in a plan or a tournament, counted from 0.
-#[derive(Drop)]
+#[derive(Clone, Copy)]
 pub struct Row(pub usize);
 
 // A row that was looked for, the lowest of its kind, or that there is none.
-#[derive(Drop)]
+#[derive(Clone, Copy)]
 pub enum FoundRow {
     At(Row),
     Nothing,
@@ -22,11 +23,11 @@ pub enum FoundRow {
 
 // group * 65,536 + number, painted on the node as group.number.
 #[repr(C)]
-#[derive(Drop)]
+#[derive(Clone, Copy)]
 pub struct Label(pub u32);
 
 // Why the answer is no: the number of document 01's table, and the place that its last column names.
-#[derive(Drop)]
+#[derive(Clone, Copy)]
 pub struct Refusal {
     pub number: u32,
     pub place: usize,

@@ -3,3 +3,4 @@
 // There is no function here and nothing is assumed. The plans are small enough to be checked by hand, and antt computes
 // every figure of them. This crate knows of plans, of the test of compare and of the base constants of figures; it must not know of
 // lent memory.
+#![tactic(auto)]

@@ -3,6 +3,8 @@
 // Each answers for every input, as the function that it calls does; nothing is computed here, and nothing checked but that a
 // tournament has a mark for each contender. A slice is a pointer and then a length. Nothing is assumed of the caller but that
 // what it lends is its own to lend.
+#![tactic(auto)]
+
 ghost use Rattle.std.specs.Prelude.{◌≡◌};
 ghost use Rattle.answer_files.specs.AnswerFiles.{answer_file_of};
 ghost use Rattle.compare_files.specs.Files.{compared_files};
@@ -28,7 +30,7 @@ use writer::write_words;
 
 // 0 and what was asked for, or the number of a refusal and its place.
 #[repr(C)]
-#[derive(Drop)]
+#[derive(Clone, Copy)]
 pub struct Said {
     pub refusal: u64,
     pub value: u64,
@@ -36,7 +38,7 @@ pub struct Said {
 
 // 0 lighter, 1 first refused, 2 second refused (both with number and place), 3 run again (with the condition and what breaks it).
 #[repr(C)]
-#[derive(Drop)]
+#[derive(Clone, Copy)]
 pub struct Weighed {
     pub answer: u64,
     pub number: u64,
@@ -46,7 +48,7 @@ pub struct Weighed {
 // A tournament after a call: the refusal and its place, or 0 and 0; then the phase of the state that is handed back, 0 at a bit (with its
 // number), 1 finished (with the winner's row), 2 no winner (with 0).
 #[repr(C)]
-#[derive(Drop)]
+#[derive(Clone, Copy)]
 pub struct Stepped {
     pub refusal: u64,
     pub place: u64,

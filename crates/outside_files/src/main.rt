@@ -2,6 +2,8 @@
 // what comes back and, after a bar, what all the lent memory ends with. Lent bytes and words are 7 before the call.
 //
 // The answers are proved in the crate outside; here they are run and compared. This program must not know any rule.
+#![tactic(auto)]
+
 mod files;
 
 use crate::files::{one_file, p1_file, p2_file, p7_file, with_byte};

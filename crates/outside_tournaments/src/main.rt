@@ -2,6 +2,8 @@
 // what comes back and, after a bar, what all the lent marks end with. Lent marks are 7 before the call, where nothing else is said.
 //
 // The answers are proved in the crate outside; here they are run and compared. This program must not know any rule.
+#![tactic(auto)]
+
 use console::print;
 use outside::{livnakesh_parting, livnakesh_start, livnakesh_step};
 use shown::{answer, bytes, number};

@@ -2,6 +2,8 @@
 // what is lent, what comes back and, after a bar, what all the lent bytes end with. Lent bytes are 7 before the call.
 //
 // The answers are proved in the crate outside; here they are run and compared. This program must not know any rule.
+#![tactic(auto)]
+
 use console::print;
 use outside::livnakesh_write;
 use shown::{P2, answer, bytes, number};

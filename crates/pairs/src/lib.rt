@@ -3,20 +3,22 @@
 // The public functions answer for every text, every place and every part. A line is where its names stand, so no name is copied and
 // none is cut; a line that is not two names is said to be wrong, and no line is passed over. Nothing is assumed. This crate
 // must not know of files.
+#![tactic(auto)]
+
 ghost use Rattle.std.specs.Prelude.{◌≡◌, ◌+◌, ◌≤◌, length, drop};
 ghost use Rattle.pairs.specs.Pairs.{before, name_in, next_line, line_as, line_of};
 
 use laws::smaller;
 
 // The bytes of a text from a place up to another.
-#[derive(Drop)]
+#[derive(Clone, Copy)]
 pub struct Part {
     pub from: usize,
     pub to: usize,
 }
 
 // What a line is: two names, or not two names, each with the place where the next line starts; or the text is over.
-#[derive(Drop)]
+#[derive(Clone, Copy)]
 pub enum Named {
     Names(Part, Part, usize),
     Wrong(usize),

@@ -2,11 +2,13 @@
 //
 // This crate knows of the names, the laws and the bound over terms; it must not know of files, lent memory
 // or text. Nothing is assumed.
+#![tactic(auto)]
+
 use names::{Label, Priority, SOURCES, STREAMS};
 
 // The timing constants of a plan, in the file's order and under the documents' letters. P is how often a master node pulses, 0 where there
 // is none. A file has a LAG beside ETG, and a plan has none: reading adds it to ETG.
-#[derive(Drop)]
+#[derive(Clone, Copy)]
 pub struct Timing {
     pub f: u32,
     pub e: u32,
@@ -21,7 +23,7 @@ pub struct Timing {
 
 // A stream's seven words, in the file's order: label, priority, T, J, C, D, K. In C's layout, since other languages lend lists of it.
 #[repr(C)]
-#[derive(Drop)]
+#[derive(Clone, Copy)]
 pub struct Stream {
     pub label: Label,
     pub priority: Priority,
@@ -33,7 +35,7 @@ pub struct Stream {
 }
 
 // A plan's values in places of fixed number: the first `count` streams and the first `sources` gaps are the plan.
-#[derive(Drop)]
+#[derive(Clone, Copy)]
 pub struct Sheet {
     pub timing: Timing,
     pub streams: [Stream; STREAMS],

@@ -3,6 +3,8 @@
 // `carry` is the one way from bytes to what is carried: reading, answering, writing again and comparing a file all go by it. Both
 // public functions answer for bytes of any length, exactly as the definition of the file has it; a refused file has the sheet that is
 // all zero. Nothing is assumed. This crate only goes from bytes to words: the values' own refusals are the crate checks'.
+#![tactic(auto)]
+
 ghost use Rattle.std.specs.Prelude.{◌≡◌, cond, ◌+◌, ◌≤◌, ◌<◌, length, get_or, take};
 ghost use Rattle.names.specs.Limits as limit;
 ghost use Rattle.words.specs.Words.{words_of, laid_onto};

@@ -2,6 +2,8 @@
 //
 // A thin program: the crate desk fixes each byte that is printed. What is read and written is console's to say. A file longer
 // than the buffer is longer than any plan file, and so is the part of it that is shown to the desk.
+#![tactic(auto)]
+
 ghost use Rattle.std.specs.Prelude.{◌<◌, length};
 ghost use Rattle.carried.specs.Layout.{largest_file};
 

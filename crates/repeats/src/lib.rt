@@ -2,6 +2,8 @@
 //
 // `first_repeat` answers for a slice of any length, and its contract determines the answer. Nothing is
 // assumed. This crate must not know what the values stand for: refusals 4, 5 and 9 all ask it.
+#![tactic(auto)]
+
 ghost use Rattle.std.specs.Prelude.{◌≡◌, false, ◌<◌, length};
 ghost use Rattle.repeats.specs.Repeats.{repeats_at, first_repeat};
 ghost use Rattle.repeats.specs.private.Buckets.{bucket_of};

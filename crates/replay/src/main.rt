@@ -3,6 +3,8 @@
 // Called as `replay BITS PRIORITY..`. With no arguments it reads the same numbers from standard input, where a
 // blank line parts two tournaments. Which bytes are shown of a text, and where a tournament's text ends, is said and proved in
 // replay_words; this program reads, calls and prints.
+#![tactic(auto)]
+
 use console::{Input, first, print, print_first, print_unreadable, read};
 use libc::STDIN_FILENO;
 use replay_screen::SHOWN;

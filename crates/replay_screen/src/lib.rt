@@ -3,6 +3,8 @@
 //
 // The one public function answers for every input, and its contract fixes each byte of the lent buffer. Nothing is assumed.
 // This crate must not know the rule of the tournament, nor of input and output.
+#![tactic(auto)]
+
 ghost use Rattle.std.specs.Prelude.{◌≡◌, ◌||◌, cond, [], ◌++◌, ◌≤◌, get_or};
 ghost use Rattle.names.specs.Limits.{contenders as Limits·contenders};
 ghost use Rattle.text.specs.Put.{Lays};

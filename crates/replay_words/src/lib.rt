@@ -2,6 +2,8 @@
 //
 // Every public function answers for every text, and its contract fixes its result and each byte of the lent buffer. Nothing
 // is assumed. This crate must not know how a tournament is played, nor of input and output.
+#![tactic(auto)]
+
 ghost use Rattle.std.specs.Prelude.{◌≡◌, not, ◌&&◌, ◌||◌, [], ◌<◌, leb};
 ghost use Rattle.text.specs.Put.{last_place, Lays, Puts};
 ghost use Rattle.replay_words.specs.Handwritten.{separates, text_words, wrong_line, replay_of};
@@ -15,7 +17,7 @@ use text::{Put, lay_number, lay_text};
 
 // What is read of a text: so many words, the first as the bit count, the others as priorities, and the place of the first that
 // is no number, from 1 on, or 0. Then whether a word has begun, and its value; more than TICKS stands for no number.
-#[derive(Drop)]
+#[derive(Clone, Copy)]
 struct Reader {
     words: usize,
     bits: u32,

@@ -4,6 +4,8 @@
 // edition 3 (SameFile, in desk's claims), means the same if it is older (SameMeaning), or is a line of 43 bytes at most, which is never taken
 // for a plan file, since that has 44 at least (LineIsNoPlan).
 // A file longer than the buffer is longer than any plan file, and so is the part of it that is shown to the desk.
+#![tactic(auto)]
+
 ghost use Rattle.std.specs.Prelude.{◌<◌, length};
 ghost use Rattle.carried.specs.Layout.{largest_file};
 

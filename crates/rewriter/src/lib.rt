@@ -2,6 +2,8 @@
 //
 // The one public function answers for any bytes, and its contract fixes each byte of the lent ones. Nothing is assumed. This crate
 // joins the reader and the writer, which know nothing of each other; it makes no check of its own, and must not know of text.
+#![tactic(auto)]
+
 ghost use Rattle.std.specs.Prelude.{◌≡◌};
 ghost use Rattle.rewriter.specs.Rewriter.{rewrite_of};
 

@@ -2,6 +2,8 @@
 //
 // Every public function answers for every input, and its contract determines the answer and the lent words. Nothing is assumed.
 // This crate knows of answers alone; it must not know of plans, or of how an answer comes about.
+#![tactic(auto)]
+
 ghost use Rattle.std.specs.Prelude.{◌≡◌};
 ghost use Rattle.bound.specs.Bound.{verdict_number};
 ghost use Rattle.row_words.specs.RowWords as laid;

@@ -4,6 +4,8 @@
 // first 256 streams and 8 gaps are copied out, and the list's own lengths are its counts, so an empty or over-long list is
 // refused 2. The timing is lent as it is entered, with a LAG or with none. Nothing is assumed. Its code must not know of
 // files or text, and it makes no check and no bound of its own; specs/Screen.antt holds it against the file.
+#![tactic(auto)]
+
 ghost use Rattle.std.specs.Prelude.{◌≡◌, ◌<◌, length, get_or, set, replicate};
 ghost use Rattle.names.specs.Limits.{streams as most, sources};
 ghost use Rattle.plan.specs.Plan.{blank};
@@ -19,7 +21,7 @@ use names::{SOURCES, STREAMS};
 use plan::Stream;
 
 // A list's first streams in places of fixed number, and how many the list has.
-#[derive(Drop)]
+#[derive(Clone, Copy)]
 struct Taken {
     rows: [Stream; STREAMS],
     count: usize,

@@ -3,6 +3,8 @@
 //
 // The answers are proved in the crate outside; here they are run and compared. This program must not know any rule. Lending a list of
 // records is proved by hand, in one function.
+#![tactic(auto)]
+
 use console::print;
 use names::{Label, Priority};
 use outside::{Said, livnakesh_screen};

@@ -2,6 +2,8 @@
 // in print.
 //
 // Every public function answers for every input. What reaches the terminal is outside what is proved. This crate knows of console alone.
+#![tactic(auto)]
+
 ghost use Rattle.std.specs.Prelude.{◌<◌, ◌≤◌, length};
 
 use console::{print, print_number};

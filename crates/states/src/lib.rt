@@ -3,6 +3,8 @@
 // Every function answers for every input, slices of any length too, and its contract determines what comes back and what the
 // lent bytes end with. Nothing is checked here: a wrong state is refused by the tournament. Nothing is assumed. This crate must
 // not know how a bit is played.
+#![tactic(auto)]
+
 ghost use Rattle.std.specs.Prelude.{◌≡◌, cond};
 ghost use Rattle.states.specs.States.{priorities_from, marks_from, phase_from, state_from, marks_into, marked_out};
 ghost use Rattle.states.specs.States.{byte as States·byte};

@@ -2,6 +2,8 @@
 //
 // The public function answers for every input, in the order of the definition; what is lent it only reads. Nothing is assumed. This crate
 // knows of terms alone: it must not know of plans, or of how an answer comes about. Tests are joined by `&`, which has no branch.
+#![tactic(auto)]
+
 ghost use Rattle.std.specs.Prelude.{◌≡◌, ◌+◌, ◌≤◌, length};
 ghost use Rattle.terms.specs.Gathered.{lent, share_fits, shares_fit, source_fits, sources_fit, row_fits, long_enough, fits};
 ghost use Rattle.terms.specs.Fit.{FitRow};
@@ -17,7 +19,7 @@ pub const STAIRS: usize = SOURCES + STREAMS;
 // A row's own terms. Costs and periods are lent beside them: first as many hits and gaps as there are noise sources, and then those of
 // hp(i), `urgent` of them; and the jitters of these. More may be lent than that: one list of streams in order of urgency serves all rows, and
 // hp(i) is its front.
-#[derive(Drop)]
+#[derive(Clone, Copy)]
 pub struct Gathered {
     pub blocking: u64,
     pub cost: u64,

@@ -4,6 +4,8 @@
 // or is answered `Full` and leaves the buffer as it was; what is laid is there as far as there is room, so that texts can be
 // laid one after the other and measured before they are put. Nothing is assumed. This crate must not know of files, of
 // checks, or of how an answer comes about.
+#![tactic(auto)]
+
 ghost use Rattle.std.specs.Prelude.{◌≡◌, [], ◌∷◌, ◌+◌, min};
 ghost use Rattle.decimal.specs.Decimal.{digits};
 ghost use Rattle.text.specs.Listing as text;
@@ -16,7 +18,7 @@ use plan::{Sheet, Stream};
 use row_words::answer_in;
 
 // The place after a text that was put, or that it does not fit.
-#[derive(Drop)]
+#[derive(Clone, Copy)]
 pub enum Put {
     At(usize),
     Full,

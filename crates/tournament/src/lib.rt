@@ -4,6 +4,8 @@
 // Every public function answers for every input, a state that a caller made up too, and its contract determines the
 // whole answer, all 128 places included. A refused call hands the state back as it was. Nothing is assumed.
 // This crate must not know of plans, files or text.
+#![tactic(auto)]
+
 ghost use Rattle.std.specs.Prelude.{◌≡◌, ◌≤◌};
 ghost use Rattle.names.specs.Limits.{contenders as Limits·contenders, bits as Limits·bits};
 ghost use Rattle.tournament.specs.Rule.{bit_at, heard_at, silenced_at, winner_of, begun_of, next as Rule·next};
@@ -17,13 +19,13 @@ use names::{CONTENDERS, Priority, Refusal, Row};
 use tournament_state::{Phase, Tournament, pair_verdict, verdict};
 
 // The state after the call, beside whether it was fine: a refused call changes nothing.
-#[derive(Drop)]
+#[derive(Clone, Copy)]
 pub struct Outcome {
     pub tournament: Tournament,
     pub checked: Checked,
 }
 
-#[derive(Drop)]
+#[derive(Clone, Copy)]
 pub enum Carrier {
     Heard,
     NotHeard,
@@ -31,7 +33,7 @@ pub enum Carrier {
 }
 
 // The bit at which two priorities part, counted from 1 at the top.
-#[derive(Drop)]
+#[derive(Clone, Copy)]
 pub enum Parting {
     At(u32),
     Refused(Refusal),

@@ -2,6 +2,8 @@
 //
 // The answers are proved in the crate tournament; here they are run and compared. This program must not know the
 // rule of the tournament.
+#![tactic(auto)]
+
 use console::{print, print_number, print_refusal};
 use judge::Checked;
 use names::{CONTENDERS, Priority, Row};

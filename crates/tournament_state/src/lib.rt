@@ -3,6 +3,8 @@
 // `verdict` answers for every state that a caller makes up, and `pair_verdict` for two priorities alone;
 // their contracts determine the answers. Neither has a `requires`, and nothing is assumed. This crate
 // must not know how a bit is played.
+#![tactic(auto)]
+
 ghost use Rattle.std.specs.Prelude.{◌≡◌, map, ◌≤◌, take};
 ghost use Rattle.names.specs.Limits.{contenders};
 ghost use Rattle.tournament_state.specs.Refusals.{number, one_to, fits_in, lowest_unfit, phase_inside, lowest_repeat};
@@ -13,7 +15,7 @@ use names::{BITS, CONTENDERS, FoundRow, Priority, Row};
 use repeats::first_repeat;
 
 // At a bit, with its number from 1 on, or finished, with the winner's row or with no winner.
-#[derive(Drop)]
+#[derive(Clone, Copy)]
 pub enum Phase {
     AtBit(u32),
     Finished(Row),
@@ -21,7 +23,7 @@ pub enum Phase {
 }
 
 // Rows 0 to count - 1 are the contenders, a mark is true for in; the other places belong to nobody.
-#[derive(Drop)]
+#[derive(Clone, Copy)]
 pub struct Tournament {
     pub bits: u32,
     pub count: usize,

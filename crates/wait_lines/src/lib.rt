@@ -2,6 +2,8 @@
 //
 // The public function answers for every input, and its contract fixes each byte of the buffer: the lines are there whole, or it answers
 // `Full` and leaves the buffer as it was. Nothing is assumed. This crate must not know of files, of checks, or of how a wait comes about.
+#![tactic(auto)]
+
 ghost use Rattle.text.specs.Put.{Lays, Puts};
 ghost use Rattle.wait_lines.specs.Lines.{wait_row, wait_header, lines_in};
 

@@ -2,6 +2,8 @@
 //
 // Every public function answers for all that it is lent: a word past the end reads as 0, and words that have no
 // room are not written. Nothing is assumed. This crate knows of no plan, no file and no limit.
+#![tactic(auto)]
+
 ghost use Rattle.std.specs.Prelude.{◌≡◌, [], ◌∷◌, ◌+◌, ◌≤◌, length, get_or};
 ghost use Rattle.words.specs.Words.{words_of, joined_of, laid_onto, with_words, put_words};
 

@@ -3,6 +3,8 @@
 // `write_words` answers for every two counts, all words and every buffer, and `write` for every sheet, exactly as the definition
 // of the file says: the file stands at the buffer's start and the rest is as it was, or the whole buffer is as it was and the
 // answer says why. Nothing is assumed. This crate only goes from words to bytes: the values' own refusals are the crate checks'.
+#![tactic(auto)]
+
 ghost use Rattle.std.specs.Prelude.{◌≡◌, ◌++◌, ◌≤◌, length, drop};
 ghost use Rattle.names.specs.Limits as limit;
 ghost use Rattle.carried.specs.Layout as layout;
