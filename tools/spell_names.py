@@ -17,7 +17,10 @@ DECLARED = re.compile(r"(?m)^ *(?:(?:pub|abbrev|unfoldable|private) )*([^\s(){}.
 WORD = re.compile(r"[^\s(){}.;,@\"«»`]+")
 USE = re.compile(r"\buse ([^\s;{]+?)\.?\{([^}]*)\}|\buse ([^\s;{]+)")
 PROOF_OF = re.compile(r"/proofs/(.*/)?(Proof|Answers|Invariants)\.antt$")
-KEPT = re.compile(r"\buse [^\s;{]+(?:\.(?=\{)|(?=\s|$))|(?<![^\s(){};,])(?:c|w|l|g|goal|tie)(?:\.[^\s(){};,]+)+")
+# A path in front of braces; in the proof of a function also a name behind what Rattle makes.
+PATHS = r"\buse [^\s;{]+(?:\.(?=\{)|(?=\s|$))"
+KEPT = re.compile(PATHS)
+KEPT_IN_PROOFS = re.compile(PATHS + r"|(?<![^\s(){};,])(?:c|w|l|g|goal|tie)(?:\.[^\s(){};,]+)+")
 LIBRARIES = ("std", "core", "io", "os", "libc")
 
 # A lemma that would have its function's name.
@@ -96,20 +99,20 @@ def turn(text, table, stay):
     return WORD.sub(one, text)
 
 
-def turn_code(text, table, stay):
-    """A path in front of braces stays, as do the names that Rattle makes."""
+def turn_code(text, table, stay, kept):
     parts, last = [], 0
-    for m in KEPT.finditer(text):
+    for m in kept.finditer(text):
         parts += [turn(text[last : m.start()], table, stay), m[0]]
         last = m.end()
     return "".join(parts) + turn(text[last:], table, stay)
 
 
 def turn_antt(path, text, table, clashes):
-    stay = from_libraries(text)
+    stay, kept = from_libraries(text), KEPT
     if PROOF_OF.search(path):
+        kept = KEPT_IN_PROOFS
         stay |= {m[1] for m in DECLARED.finditer(bare(text))}
-    words = set(WORD.findall(KEPT.sub(" ", bare(text))))
+    words = set(WORD.findall(kept.sub(" ", bare(text))))
     for old in sorted(words & set(table) - stay):
         if table[old] in words and table.get(table[old], table[old]) == table[old]:
             clashes.append((path, old, table[old]))
@@ -117,7 +120,7 @@ def turn_antt(path, text, table, clashes):
     for line in text.split("\n"):
         m = re.search(r"(?:^|\s)--(?:\s|$)", line)
         at = m.start() if m else len(line)
-        out.append(turn_code(line[:at], table, stay) + turn_prose(line[at:], table, stay))
+        out.append(turn_code(line[:at], table, stay, kept) + turn_prose(line[at:], table, stay))
     return "\n".join(out)
 
 

@@ -258,7 +258,7 @@ module _ (ws : List ℕ) (n m : ℕ) (over : Overheads) (fine : PlacesWithin ws 
           let (j, l, e) = rank_onto (urgency ws) n fine.apart a (omega (arith, own.urgent, rank_below (urgency ws) n k among)) in
           let w = fine.stream j l in
           ap (λ a. share_fits (share_at given a)) (sym e) ∙ ap share_fits (share_in_place j l)
-          ∙ fits_here {a = rule.airtime t (row_stream ws j)} {b = (row_stream ws j).period} {d = (row_stream ws j).jitter} (cost_within j l) (refl, omega (arith, w.period)) (refl, omega (arith, w.jitter)) w.some-period
+          ∙ fits_here {a = rule.airtime t (row_stream ws j)} {b = (row_stream ws j).period} {d = (row_stream ws j).jitter} (cost_within j l) (refl, omega (arith, w.period)) (refl, omega (arith, w.jitter)) w.some_period
 
       places : g.sources + g.urgent ≤ m + n
       places = omega (arith, own.sources, own.urgent, rank_below (urgency ws) n k among)

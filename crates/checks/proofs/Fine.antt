@@ -60,7 +60,7 @@ another_etg t w h =
       h = w.h;
       g = w.g;
       etg = h;
-      some_bit = w.some-bit;
+      some_bit = w.some_bit;
       nb = w.nb;
       p = w.p;
     }
@@ -121,7 +121,7 @@ fine_if_right edition n m v = (right, fine)
     fine : SlotWithin edition v.timing.p × (n ≤ layout.most_streams edition) × Right n m p → judge (lines edition n m v) ≡ Fine
     fine (is, few, r) =
         let w = r.within in
-        let range = within_range edition n m (omega (arith, w.some-stream, r.count)) few (omega (arith, w.sources, r.sources)) in
+        let range = within_range edition n m (omega (arith, w.some_stream, r.count)) few (omega (arith, w.sources, r.sources)) in
         let inside = (inside_if_fields_within edition v).1 (record { slot = is; timing = another_etg v.timing w.timing (omega (arith, w.timing.etg)); lag = omega (arith, w.timing.etg); stream = w.stream; label = r.label; gap = w.gap }) in
         passed _ _ (ap unless (counted_so edition n m v r.count r.sources ∙ range))
         ∙ passed _ _ (ap (byte_in edition (length p.streams)) ((nothing_if_inside 0 (fields edition v)).1 inside))

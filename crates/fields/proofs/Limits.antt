@@ -67,7 +67,7 @@ timing_back edition t (low, high) w lag =
     (within_next zero-le w.e
     (within_next zero-le w.tfcs
     (within_next zero-le w.swx
-    (within_next zero-le w.h (within_next zero-le w.g (within_next zero-le w.etg (within_next zero-le lag (within_next w.some-bit w.nb (within_next low high none))))))))))
+    (within_next zero-le w.h (within_next zero-le w.g (within_next zero-le w.etg (within_next zero-le lag (within_next w.some_bit w.nb (within_next low high none))))))))))
 
 stream_to : (nb : ℕ) (s : Stream) → AllInside (stream_fields nb s) → StreamWithin nb s × (s.label.0 ≤ ticks)
 stream_to nb s a =
@@ -92,8 +92,8 @@ stream_back nb s w l =
     shown Inside none_there
     (within_next zero-le l
     (within_next zero-le p
-    (within_next w.some-period w.period
-    (within_next zero-le w.jitter (within_next w.some-payload w.payload (within_next w.some-deadline w.deadline (within_next zero-le w.acknowledgement none)))))))
+    (within_next w.some_period w.period
+    (within_next zero-le w.jitter (within_next w.some_payload w.payload (within_next w.some_deadline w.deadline (within_next zero-le w.acknowledgement none)))))))
 
 gap_to : (n : ℕ) → inside (gap_field n) ≡ true → GapWithin n
 gap_to n e = let (a, b) = (inside_if_within (gap_field n)).0 e in record { some_gap = a; gap = b }

@@ -55,8 +55,8 @@ module _ (p : Plan) (within : Within p) (k : ℕ) (h : k < length p.streams) whe
   unfolding hit largest_of
   own_hit =
       elim (dec_le 1 p.timing.p) [
-        | yes s ↦ let l = (letters_are p i).1 s in omega (arith, l.each i, l.by-hit)
-        | no n ↦ let l = (letters_are p i).0 (omega (arith, lt_of_not-le n)) in omega (arith, l.each i, l.by-hit)
+        | yes s ↦ let l = (letters_are p i).1 s in omega (arith, l.each i, l.by_hit)
+        | no n ↦ let l = (letters_are p i).0 (omega (arith, lt_of_not-le n)) in omega (arith, l.each i, l.by_hit)
       ]
 
   paid : Paid (terms p i)

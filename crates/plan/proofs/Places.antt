@@ -21,10 +21,10 @@ Owned s =
     (vss : Valss (declared.shape sheet.the_type).fields) × shadow (owns (declared.shape sheet.the_type).fields ((sheet.the_type).to s) vss)
 
 pub stream_places : (s : Sheet) → Owned s → length s.streams ≡ streams
-stream_places s g = sym (length-map s.streams (stream.the_field).into) ∙ g.1.1.0.1.0.1
+stream_places s g = g.1.1.0.1.0.1
 
 pub gap_places : (s : Sheet) → Owned s → length s.gaps ≡ sources
-gap_places s g = length_unmapped ℕ s.gaps sources g.1.1.1.1.0.1.0.1
+gap_places s g = g.1.1.1.1.0.1.0.1
 
 -- ---- the plan on a sheet, as a loop over n of its places reads it
 -- n rows are counted: as many as the plan has, and the plan's

@@ -45,7 +45,7 @@ side_L_fits t f x h =
     let d : demand (terms_of t).urgent x ≤ g.urgent * most = le_trans (le_of_eq (sum_rows _ g.urgent (share_at t))) (sum_to_at_most _ most g.urgent (λ k p. part (share_at t k).C'' (share_at t k).T (share_at t k).J x (f.urgent k p) h)) in
     let hits : sum_of (λ N. ceil x N) (terms_of t).gaps ≤ g.sources * ticks = le_trans (le_of_eq (sum_rows _ g.sources (gap_of t))) (sum_to_at_most _ ticks g.sources (λ k p. le_trans (ceil_le x (gap_of t k) (f.some_gap k p)) h)) in
     let e : E (terms_of t) x ≤ sources * ticks * cost = mul-le-mul (le_trans hits (mul-le-mul_right ticks f.row.quiet)) f.row.hit in
-    omega (arith, demand_own (terms_of t).own (terms_of t).urgent x, part g.cost g.period g.jitter x f.row.own_val h, d, mul-le-mul_right most f.row.few, e, f.row.blocking)
+    omega (arith, demand_own (terms_of t).own (terms_of t).urgent x, part g.cost g.period g.jitter x f.row.own h, d, mul-le-mul_right most f.row.few, e, f.row.blocking)
   where
     le_of_eq : {a b : ℕ} → a ≡ b → a ≤ b
     le_of_eq e = omega arith

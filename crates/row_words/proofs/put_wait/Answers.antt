@@ -1,0 +1,13 @@
+-- There is room or there is not; the two stores are those of the wait's words.
+use Prim.Native.Nat.{◌/◌, ◌<◌}
+use native.Mathlib.Omega.{arith}
+use lib.ListN.{length}
+use Rattle.row_words.specs.RowWords.{words_per_wait}
+use Rattle.row_words.proofs.RowWords.{put_wait_is}
+use Rattle.row_words.proofs.put_wait.Goals as goal
+
+pub returns-clause-words_after : goal.returns-clause-words_after
+returns-clause-words_after c =
+    let a = c.args in
+    let h : a.row.0 < length a.words.now / words_per_wait = omega arith in
+    put_wait_is _ _ a.wait h
