@@ -14,17 +14,16 @@ use Rattle.fields.specs.Fields.{fields, lowest}
 use Rattle.fields.proofs.Inside.{at_the_lowest}
 use Rattle.fields.proofs.Carried.{length_fields}
 use Rattle.checks.specs.Checks.{byte_in}
-use borrow.Author.Rules.{rules}
-use Rattle.checks.proofs.check_fields.Statement.{statement}
-use Rattle.checks.proofs.check_fields.Tie as tie
+use Rattle.checks.proofs.check_fields.Goals as goal
+use Rattle.checks.proofs.check_fields.Goals.{Start}
 
 -- what is asked about
-abbrev asked : tie.Start → Entered
+abbrev asked : Start → Entered
 asked b = entered_in (min b.args.n streams) (min b.args.m sources) b.args.words.now
 
-one-of-them : (b : tie.Start) {k : ℕ} → lowest 0 (fields b.args.edition (asked b)) ≡ At k → k < layout.largest
+one_of_them : (b : Start) {k : ℕ} → lowest 0 (fields b.args.edition (asked b)) ≡ At k → k < layout.largest
 unfolding entered_in
-one-of-them b e =
+one_of_them b e =
     let p = asked b in
     let ws = b.args.words.now in
     let n = min b.args.n streams in
@@ -33,35 +32,27 @@ one-of-them b e =
     omega (arith, f.counted, f.among, length_fields b.args.edition p, length_rows n (λ r. stream_in ws (layout.stream_at r)), length_rows m (λ k. get_or ws (layout.gap_at n k) 0))
 
 -- it has as many rows as are looked at
-rows-asked : (b : tie.Start) → length (asked b).streams ≡ min b.args.n streams
+rows_asked : (b : Start) → length (asked b).streams ≡ min b.args.n streams
 unfolding entered_in
-rows-asked b = length_rows (min b.args.n streams) _
+rows_asked b = length_rows (min b.args.n streams) _
 
-byte-of-requires : tie.Need-byte-of-requires
-byte-of-requires c κs =
+pub byte_of-requires : goal.byte_of-requires
+byte_of-requires c =
     let o = c.before.before.before in
-    one-of-them o.before.before (sym o.outside.ensures ∙ c.before.k.given.1)
+    one_of_them o.before.before (sym o.outside.ensures ∙ c.k.given.1)
 
-enum_told : tie.Need-enum-told
-enum_told c = search rules
-
-returns : tie.Need-returns
-returns c =
+pub returns-in-At : goal.returns-in-At
+returns-in-At c =
     let y = c.before in
     let k = y.before.before in
     let o = k.before.before in
     let b = o.before.before in
     c.refused.ensures
-    ∙ ap (λ x. Refused (record { number = 3; place = x })) (y.byte_of.ensures ∙ ap (λ n. layout.byte_of (layout.in_bodies b.args.edition n k.k.given.0.0)) (o.before.smaller.ensures ∙ sym (rows-asked b)))
+    ∙ ap (λ x. Refused (record { number = 3; place = x })) (y.byte_of.ensures ∙ ap (λ n. layout.byte_of (layout.in_bodies b.args.edition n k.k.given.0.0)) (o.smaller-rows.ensures ∙ sym (rows_asked b)))
     ∙ sym (given _ _ _ (ap (byte_in b.args.edition (length (asked b).streams)) (sym o.outside.ensures ∙ k.k.given.1)))
 
-returns-2 : tie.Need-returns-2
-returns-2 c =
+pub returns-in-Nothing : goal.returns-in-Nothing
+returns-in-Nothing c =
     let o = c.before.before in
     let b = o.before.before in
-    sym (passed _ _ (ap (byte_in b.args.edition (length (asked b).streams)) (sym o.outside.ensures ∙ c.enum_told.given.1)) ∙ nothing_given)
-
-pub check-fields-spec : {M : Type 1} → statement M
-check-fields-spec =
-    tie.close
-    (tie.spec (λ c κs. search rules) (λ c κs. search rules) (λ c. search rules) byte-of-requires (λ c κs. search rules) enum_told returns returns-2)
+    sym (passed _ _ (ap (byte_in b.args.edition (length (asked b).streams)) (sym o.outside.ensures ∙ c.enum_told-1.given.1)) ∙ nothing_given)
