@@ -38,21 +38,17 @@ rows_asked b = length_rows (min b.args.n streams) _
 
 pub byte_of-requires : goal.byte_of-requires
 byte_of-requires c =
-    let o = c.before.before.before in
-    one_of_them o.before.before (sym o.outside.ensures ∙ c.k.given.1)
+    let at = goal.at.byte_of-requires c in
+    one_of_them at.Start (sym c.outside.ensures ∙ c.in-At.is)
 
 pub returns-in-At : goal.returns-in-At
 returns-in-At c =
-    let y = c.before in
-    let k = y.before.before in
-    let o = k.before.before in
-    let b = o.before.before in
+    let at = goal.at.returns-in-At c in
     c.refused.ensures
-    ∙ ap (λ x. Refused (record { number = 3; place = x })) (y.byte_of.ensures ∙ ap (λ n. layout.byte_of (layout.in_bodies b.args.edition n k.k.given.0.0)) (o.smaller-rows.ensures ∙ sym (rows_asked b)))
-    ∙ sym (given _ _ _ (ap (byte_in b.args.edition (length (asked b).streams)) (sym o.outside.ensures ∙ k.k.given.1)))
+    ∙ ap (λ x. Refused (record { number = 3; place = x })) (c.byte_of.ensures ∙ ap (λ n. layout.byte_of (layout.in_bodies c.args.edition n c.in-At.k)) (c.smaller-rows.ensures ∙ sym (rows_asked at.Start)))
+    ∙ sym (given _ _ _ (ap (byte_in c.args.edition (length (asked at.Start).streams)) (sym c.outside.ensures ∙ c.in-At.is)))
 
 pub returns-in-Nothing : goal.returns-in-Nothing
 returns-in-Nothing c =
-    let o = c.before.before in
-    let b = o.before.before in
-    sym (passed _ _ (ap (byte_in b.args.edition (length (asked b).streams)) (sym o.outside.ensures ∙ c.enum_told-1.given.1)) ∙ nothing_given)
+    let at = goal.at.returns-in-Nothing c in
+    sym (passed _ _ (ap (byte_in c.args.edition (length (asked at.Start).streams)) (sym c.outside.ensures ∙ c.in-Nothing.is)) ∙ nothing_given)

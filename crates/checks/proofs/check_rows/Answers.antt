@@ -19,7 +19,7 @@ abbrev counted : After-repeat_of → After-smaller-count
 counted c = c.before
 
 abbrev before : After-repeat_of-2 → After-repeat_of
-before c = c.before.before.before
+before c = c.before.before
 
 priorities_are : (c : After-repeat_of)
     → let a = (counted c).args in
@@ -44,19 +44,19 @@ labels_are c =
     ∙ sym c.repeat_of-2.ensures
 
 pub returns-in-At : goal.returns-in-At
-returns-in-At c = c.refused.ensures ∙ sym (given _ _ _ (ap row_in (priorities_are c.before.before.before.before ∙ c.r.given.1)))
+returns-in-At c =
+    let at = goal.at.returns-in-At c in
+    c.refused.ensures ∙ sym (given _ _ _ (ap row_in (priorities_are at.After-repeat_of ∙ c.in-At.is)))
 
 pub returns-in-At-repeat_of : goal.returns-in-At-repeat_of
 returns-in-At-repeat_of c =
-    let f = c.before.before.before.before in
-    let t = f.before in
+    let at = goal.at.returns-in-At-repeat_of c in
     c.refused-in-At-repeat_of.ensures
-    ∙ sym (passed _ _ (ap row_in (priorities_are (before f) ∙ t.enum_told-1.given.1)) ∙ given _ _ _ (ap row_in (labels_are f ∙ c.r-in-At-repeat_of-2-1.given.1)))
+    ∙ sym (passed _ _ (ap row_in (priorities_are (before at.After-repeat_of-2) ∙ c.in-Nothing.is)) ∙ given _ _ _ (ap row_in (labels_are at.After-repeat_of-2 ∙ c.in-At-repeat_of.is)))
 
 pub returns-in-Nothing-repeat_of : goal.returns-in-Nothing-repeat_of
 returns-in-Nothing-repeat_of c =
-    let f = c.before.before in
-    let t = f.before in
-    sym (passed _ _ (ap row_in (priorities_are (before f) ∙ t.enum_told-1.given.1))
-    ∙ passed _ _ (ap row_in (labels_are f ∙ c.enum_told-in-Nothing-repeat_of-1.given.1))
+    let at = goal.at.returns-in-Nothing-repeat_of c in
+    sym (passed _ _ (ap row_in (priorities_are (before at.After-repeat_of-2) ∙ c.in-Nothing.is))
+    ∙ passed _ _ (ap row_in (labels_are at.After-repeat_of-2 ∙ c.in-Nothing-repeat_of.is))
     ∙ nothing_given)
