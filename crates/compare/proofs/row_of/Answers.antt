@@ -1,4 +1,3 @@
-
 use mathlib.Core.Path.{sym, ap}
 use Prim.Native.Nat.{◌-◌}
 use borrow.Author.Tests.{eq-eqb}

@@ -1,10 +1,9 @@
-
 use mathlib.Core.Path.{◌≡◌, refl, sym, ap, ◌∙◌}
 use Prim.Native.Nat.{ℕ, ◌-◌, ◌<◌}
 use native.Mathlib.Omega.{arith}
 use lib.ListN.{length, get_or, length-map}
 use Rattle.names.specs.Limits.{streams}
-use Rattle.laws.specs.declared.Found.{Found, TheVariants.At as Found-as-At}
+use Rattle.laws.specs.declared.Found.{Found, TheVariants.At as Found-as-At, TheVariants.Nothing as Found-as-Nothing}
 use Rattle.plan.specs.declared.Stream.{Stream}
 use Rattle.plan.specs.Plan.{Plan, plan_of, blank, at}
 use Rattle.plan.proofs.Places.{streams_taken, row_in_place}
@@ -13,7 +12,7 @@ use Rattle.compare.specs.declared.Reason.{Reason}
 use Rattle.compare.specs.Changes.{row_of, eased, in_row, of_stream, number_in, number_under, of_streams}
 use Rattle.compare.specs.private.Columns.{label_of, priority_of, number_then, column, row_by}
 use Rattle.compare.proofs.First.{change_none, change_more, change_here}
-use Rattle.compare.proofs.Places.{column_more, row_found, found_place}
+use Rattle.compare.proofs.Places.{column_more, column_all, row_found, row_not_found, found_place}
 use Rattle.compare.proofs.streams.Invariants.{row_change}
 use borrow.Author.Rules.{rules}
 use Rattle.compare.proofs.streams.Goals as goal
@@ -79,3 +78,25 @@ loop-k-preserved c =
       column_more priority_of c.args.new l.k (omega arith) (omega arith) l.invariant.5 refl,
     )
 
+pub returns-then-r-labels-clause-change_value : goal.returns-then-r-labels-clause-change_value
+returns-then-r-labels-clause-change_value c =
+    let f = (goal.at.returns-then-r-labels-clause-change_value c).After-row_of-row in
+    here f (beside f Found-as-Nothing (row_not_found (old f) (s f).label _ (by_labels f) (c.if-r-labels.true ∙ rows_are f)))
+
+pub offset_bounds-old-r : goal.offset_bounds-old-r
+offset_bounds-old-r c = let h = (place (goal.at.offset_bounds-old-r c).After-row_of-row c.if-r-labels.false).0 in search rules
+
+pub returns-in-Of-clause-change_value : goal.returns-in-Of-clause-change_value
+returns-in-Of-clause-change_value c =
+    let f = (goal.at.returns-in-Of-clause-change_value c).After-row_of-row in
+    here f (said f c.if-r-labels.false _ c.eased.ensures ∙ c.in-Of.is)
+
+pub returns-clause-was_value : goal.returns-clause-was_value
+returns-clause-was_value c d =
+    let e : c.loop-k.k ≡ length (plan_of c.args.new).streams = omega arith in
+    column_all (number_then (plan_of c.args.old)) (plan_of c.args.new) c.loop-k.k e (omega arith) c.loop-k.invariant.4
+
+pub returns-clause-is_value : goal.returns-clause-is_value
+returns-clause-is_value c d =
+    let e : c.loop-k.k ≡ length (plan_of c.args.new).streams = omega arith in
+    column_all priority_of (plan_of c.args.new) c.loop-k.k e (omega arith) c.loop-k.invariant.5
