@@ -86,7 +86,7 @@ start-requires : tie.Need-start-requires invariant-loop decreases-loop
 start-requires c κs =
     let s = summed c.before.before.before in
     let f = s.pre.0 in
-    (f.jitters, ((λ k h. (f.urgent k h).jitter), (omega (arith, f.row.late, f.row.own_val.cost), (omega (arith, f.row.own_val.cost), s.pre.1.1))))
+    (f.jitters, ((λ k h. (f.urgent k h).jitter), (omega (arith, f.row.late, f.row.own.cost), (omega (arith, f.row.own.cost), s.pre.1.1))))
 
 -- for w a release V after a cycle's start still counts, and the noise's window is C'' longer
 started : (c : tie.After-start invariant-loop decreases-loop) → MakesUp (given (entry c)).costs (given (entry c)).periods c.start.new.1.1.1.1.1.0 ((given (entry c)).row.sources + (given (entry c)).row.urgent) (rest_W (terms (entry c)))
@@ -94,10 +94,10 @@ started c =
     let t = given (entry c) in
     let r = terms_of t in
     let f = (entry c).requires.0 in
-    laid t f (r.late + 1) r.own.C'' (omega (arith, f.row.late, f.row.own_val.cost)) f.row.own_val.cost _ c.start.ensures.0 (rest_W r) (λ x. ap (λ z. rule.demand r.urgent z + rule.E r (x + r.own.C'')) (sym (add_assoc x r.late 1)))
+    laid t f (r.late + 1) r.own.C'' (omega (arith, f.row.late, f.row.own.cost)) f.row.own.cost _ c.start.ensures.0 (rest_W r) (λ x. ap (λ z. rule.demand r.urgent z + rule.E r (x + r.own.C'')) (sym (add_assoc x r.late 1)))
 
 instances-requires : tie.Need-instances-requires invariant-loop decreases-loop
-instances-requires c κs = let s = entry c.before.before.before.before in let o = s.pre.0.row.own_val in (within s, (o.jitter, (o.some, o.period)))
+instances-requires c κs = let s = entry c.before.before.before.before in let o = s.pre.0.row.own in (within s, (o.jitter, (o.some, o.period)))
 
 add-ends : tie.Need-overflow-add-ends invariant-loop decreases-loop
 add-ends c = let f = (entry (edged c.before)).pre.0.row in omega (arith, f.own.jitter, f.last, f.own.cost)
@@ -153,7 +153,7 @@ loop-holds c =
 few : (c : tie.At-loop invariant-loop decreases-loop) → c.loop.q < 2 * ticks
 few c =
     let s = begun c in
-    let o = s.pre.0.row.own_val in
+    let o = s.pre.0.row.own in
     omega (arith, counted c, c.loop.invariant.0, ceil_le (s.args.l + s.args.g.jitter) s.args.g.period o.some, within s, o.jitter)
 
 add-loop : tie.Need-overflow-add-loop invariant-loop decreases-loop
@@ -224,7 +224,7 @@ add-term-2 c =
 late : (c : tie.In-loop invariant-loop decreases-loop) → (c.before.loop.q + 1) * (begun c.before).args.g.period < 2 ^ 63
 late c =
     let s = begun c.before in
-    let o = s.pre.0.row.own_val in
+    let o = s.pre.0.row.own in
     gone_small s.args.l _ _ _ (within s) o.jitter o.some (next c)
 
 mul-term : tie.Need-overflow-mul-term invariant-loop decreases-loop
