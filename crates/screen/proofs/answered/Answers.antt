@@ -3,7 +3,6 @@ use mathlib.Core.Path.{◌≡◌, ap, ◌∙◌}
 use mathlib.Core.List.{List}
 use Prim.Native.Nat.{ℕ}
 use lib.ListN.{length, take}
-use borrow.Author.Rules.{rules}
 use Rattle.laws.specs.Lists.{placed}
 use Rattle.carried.specs.declared.Edition.TheVariants.{Three}
 use Rattle.carried.specs.declared.EnteredTiming.{EnteredTiming}
@@ -12,8 +11,7 @@ use Rattle.answers.specs.declared.Told.TheVariants.{Answers}
 use Rattle.answers.specs.Answers.{answer_with}
 use Rattle.screen.specs.declared.Taken.{Taken}
 use Rattle.screen.specs.private.Gathering.{words_taken, taken_outcome}
-use Rattle.screen.proofs.answered.Statement.{statement}
-use Rattle.screen.proofs.answered.Tie as tie
+use Rattle.screen.proofs.answered.Goals as goal
 
 -- the words that are made, with gaps that were copied
 made : (l : Taken) (t : EnteredTiming) (gaps copies ws : List ℕ) → copies ≡ placed 8 0 gaps
@@ -22,18 +20,12 @@ unfolding words_taken
 made l t gaps copies ws e d =
     d ∙ ap (λ g. in_places (entered_words (record { timing = t; streams = take l.count l.rows; gaps = take (length gaps) g }))) e
 
-returns : tie.Need-returns
+pub returns : goal.returns
 unfolding taken_outcome
 returns c =
-    let d = c.before.before in
-    let w = d.before.before.before in
-    let g = w.before in
-    let a = g.before.before.before.before.args in
+    let a = c.args in
     let l = a.lot in
     let gaps = a.gaps.now in
     let e = ap (λ ws. answer_with Answers Three l.count (length gaps) (entered_in l.count (length gaps) ws) a.out.now)
-    (made l a.timing gaps _ _ g.copied.ensures w.words-entered.ensures) in
-    (d.answer_words.ensures.0 ∙ ap (λ o. o.0) e, d.answer_words.ensures.1 ∙ ap (λ o. o.1) e)
-
-pub answered-spec : {M : Type 1} → statement M
-answered-spec = tie.close (tie.spec (λ c κs. search rules) (λ c κs. search rules) (λ c κs. search rules) (λ c. search rules) returns)
+    (made l a.timing gaps _ _ c.copied-copies.ensures c.words_entered-words.ensures) in
+    (c.answer_words.ensures.value ∙ ap (λ o. o.0) e, c.answer_words.ensures.out_after ∙ ap (λ o. o.1) e)
