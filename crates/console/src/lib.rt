@@ -8,13 +8,44 @@ ghost use Rattle.std.specs.Prelude.{◌≡◌, take};
 ghost use Rattle.console.specs.Input.{InBuffer};
 
 use names::Refusal;
+use std::env::FillError;
+use std::fs;
 use std::io::Read;
+use std::rt::{Env, Files};
 
 // What was read: so many bytes, at the buffer's start; or that reading failed, as of a directory.
 #[derive(Clone, Copy)]
 pub enum Input {
     Bytes(usize),
     Failed,
+}
+
+// Opens the file of this name for reading. A name that is no text (UTF-8) opens nothing.
+pub fn open<R: Files>(rt: &R, name: &[u8]) -> Option<R::File> {
+    let Ok(path) = str::from_utf8(name) else {
+        return None;
+    };
+    fs::open(rt, path).ok()
+}
+
+// How many arguments the program was started with, its own name among them.
+pub fn arg_count(rt: &impl Env) -> usize {
+    for i in 0..usize::MAX {
+        if let Err(FillError::NotPresent) = rt.arg(i, &mut []) {
+            return i;
+        }
+    }
+    usize::MAX
+}
+
+// Puts an argument at the buffer's start and gives its length, or 0 where it is missing or longer than the buffer.
+pub fn arg(rt: &impl Env, i: usize, buf: &mut [u8]) -> usize
+    ensures { InBuffer (Input.Bytes result) buf.new }
+{
+    match rt.arg(i, buf) {
+        Ok(n) => n,
+        Err(_) => 0,
+    }
 }
 
 // Reads an open file until the buffer is full, the file ends or a read fails.
