@@ -1,4 +1,3 @@
-
 use mathlib.Core.Path.{◌≡◌, refl, sym, ap, ◌∙◌}
 use mathlib.Core.List.{List, [], ◌∷◌, append-nil}
 use Prim.Native.Nat.{ℕ, ◌+◌, ◌-◌, ◌^◌, ◌≤◌, ◌<◌}
@@ -34,7 +33,7 @@ returns-in-At c =
     let a = c.args in
     let ws = a.words.now in
     sym (stream_here a.nb (in_words ws a.n) l.r blank (omega (arith, length_rows a.n (λ k. stream_in ws (layout.stream_at k)))) l.invariant.1 _
-    (sym (stream_found ws a.n a.nb l.r (omega arith) (omega arith) t.ensures) ∙ sym c.words_outside.ensures ∙ c.p.given.1))
+    (sym (stream_found ws a.n a.nb l.r (omega arith) (omega arith) t.ensures) ∙ sym c.in-At.ensures))
 
 pub loop-r-preserved : goal.loop-r-preserved
 loop-r-preserved c =
@@ -44,7 +43,7 @@ loop-r-preserved c =
     let ws = a.words.now in (
       omega arith,
       stream_not_here a.nb (in_words ws a.n) l.r blank (omega (arith, length_rows a.n (λ k. stream_in ws (layout.stream_at k)))) l.invariant.1
-          (sym (stream_found ws a.n a.nb l.r (omega arith) (omega arith) t.ensures) ∙ sym c.words_outside.ensures ∙ c.enum_told-1.given.1),
+          (sym (stream_found ws a.n a.nb l.r (omega arith) (omega arith) t.ensures) ∙ sym c.in-Nothing.ensures),
     )
 
 pub returns : goal.returns

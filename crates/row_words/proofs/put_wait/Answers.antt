@@ -1,10 +1,15 @@
 -- There is room or there is not; the two stores are those of the wait's words.
 use Prim.Native.Nat.{◌/◌, ◌<◌}
 use native.Mathlib.Omega.{arith}
+use borrow.Author.Tests.{le-ltb}
 use lib.ListN.{length}
-use Rattle.row_words.specs.RowWords.{words_per_wait}
+use Rattle.row_words.specs.RowWords.{words_per_wait, with_row}
 use Rattle.row_words.proofs.RowWords.{put_wait_is}
 use Rattle.row_words.proofs.put_wait.Goals as goal
+
+pub returns-then-words-row-clause-words_after : goal.returns-then-words-row-clause-words_after
+unfolding with_row
+returns-then-words-row-clause-words_after c = simp (le-ltb _ _ c.if-words-row.true)
 
 pub returns-clause-words_after : goal.returns-clause-words_after
 returns-clause-words_after c =

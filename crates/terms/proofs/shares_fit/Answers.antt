@@ -1,6 +1,4 @@
-
 use mathlib.Core.Path.{sym}
-use Prim.Native.Nat.{◌-◌}
 use native.Mathlib.Omega.{arith}
 use Rattle.laws.proofs.Lists.{every_none, every_more}
 use Rattle.terms.proofs.shares_fit.Goals as goal
