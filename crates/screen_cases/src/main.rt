@@ -1,8 +1,7 @@
 // The planner's screen as other languages call it, on three streams of this program's own, a line for each call: what is lent, what comes
 // back and, after a bar, what all the lent words end with. Lent words are 7 before the call.
 //
-// The answers are proved in the crate outside; here they are run and compared. This program must not know any rule. Lending a list of
-// records is proved by hand, in one function.
+// The answers are proved in the crate outside; here they are run and compared. This program must not know any rule.
 #![tactic(auto)]
 
 use console::print;
