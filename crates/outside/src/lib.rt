@@ -2,7 +2,7 @@
 //
 // Each answers for every input, as the function that it calls does; nothing is computed here, and nothing checked but that a
 // tournament has a mark for each contender. A slice is a pointer and then a length. Nothing is assumed of the caller but that
-// what it lends is its own to lend.
+// what it lends is its own to lend. What C links are the exports of the crate outside_c, one for each of these and under its name.
 #![tactic(auto)]
 
 ghost use Rattle.std.specs.Prelude.{◌≡◌};
@@ -112,12 +112,7 @@ pub fn livnakesh_write(n: usize, m: usize, values: &[u32], out: &mut [u8]) -> Sa
 }
 
 // The answer words of lent streams, each of them its seven words in file order, under a timing of ten words and these noise gaps.
-pub fn livnakesh_screen(
-    streams: &[Stream],
-    timing: &[u32],
-    gaps: &[u32],
-    out: &mut [u64],
-) -> Said
+pub fn livnakesh_screen(streams: &[Stream], timing: &[u32], gaps: &[u32], out: &mut [u64]) -> Said
     ensures { Screened streams.now timing.now gaps.now out.old result out.new }
 {
     checked(screen(streams, timing_from(timing), gaps, out))
