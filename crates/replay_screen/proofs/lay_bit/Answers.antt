@@ -1,0 +1,28 @@
+-- The parts of the line in their order. Assumes nothing.
+use Prim.Native.Nat.{◌≤◌}
+use native.Mathlib.Omega.{arith}
+use lib.ListN.{length}
+use Rattle.text.specs.Put.{last_place}
+use Rattle.text.proofs.Laying.{then, last}
+use Rattle.replay_screen.specs.Shown.{bit_line}
+use Rattle.replay_screen.proofs.lay_bit.Goals as goal
+use Rattle.replay_screen.proofs.lay_bit.Goals.{Start}
+
+-- the buffer can be counted
+room : (c : Start) → length c.args.out.now ≤ last_place
+room c = omega arith
+
+pub returns : goal.returns
+unfolding bit_line
+returns c =
+    let at = goal.at.returns c in
+    then c.lay_text-at.ensures
+    (then c.lay_number-at.ensures
+    (then c.lay_text-at-2.ensures
+    (then c.lay_carrier-at.ensures
+    (then c.lay_text-at-3.ensures
+    (then c.lay_rows-at.ensures
+    (then c.lay_text-at-4.ensures
+    (then c.lay_rows-at-2.ensures
+    (last c.lay_text.ensures))))))))
+    (room at.Start)

@@ -1,0 +1,23 @@
+use mathlib.Core.Path.{refl, ◌∙◌}
+use native.Mathlib.Omega.{arith}
+use lib.ListN.{length-set}
+use Rattle.states.proofs.Placed.{laid_none, out_more, out_all}
+use Rattle.states.proofs.mark_out.Goals as goal
+
+pub loop-i-init : goal.loop-i-init
+loop-i-init c = (omega arith, laid_none _ _, refl)
+
+pub loop-i-preserved : goal.loop-i-preserved
+loop-i-preserved c =
+    let l = c.loop-i in
+    let s = c.args in (
+      omega arith,
+      out_more s.count s.marks s.out.now l.i _ l.out (omega (arith, c.smaller-n.ensures, c.smaller.ensures)) (omega (arith, c.smaller-n.ensures)) l.invariant.1 c.kept.ensures,
+      simp length-set l.invariant.2,
+    )
+
+pub returns : goal.returns
+returns c =
+    let l = c.loop-i in
+    let s = c.args in
+    l.invariant.1 ∙ out_all s.count s.marks s.out.now l.i (omega (arith, c.smaller-n.ensures, c.smaller.ensures))
