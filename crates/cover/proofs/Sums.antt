@@ -6,7 +6,7 @@ use Prim.Native.Nat.{ℕ, zero, suc, ◌+◌, ◌-◌, ◌≤◌}
 use native.Mathlib.Nat.{add-zero, sub-zero, not-suc-le-zero, lt_irrefl}
 use native.Mathlib.Omega.{arith}
 use borrow.Author.Tests.{ltb-true, ltb-false}
-use lib.Dec.{T, ltb, leb, le→leb}
+use lib.Dec.{T, ltb, le→leb}
 use lib.IntN.{pos, negsuc, sub_ℕ, ◌-ℤ◌}
 use lib.Signed.{le_z}
 use Rattle.laws.specs.Lists.{sum_of}

@@ -8,7 +8,7 @@ use lib.ListN.{get_or}
 use lib.Pow.{pow_pos}
 use Rattle.carried.specs.declared.Edition.{Edition, TheVariants.One, TheVariants.Two, TheVariants.Three}
 use Rattle.carried.specs.Layout as layout
-use Rattle.names.specs.Limits.{constant, payload, slot, ticks}
+use Rattle.names.specs.Limits.{constant, slot, ticks}
 use Rattle.carried.specs.declared.EnteredTiming.{EnteredTiming}
 use Rattle.carried.specs.Carried.{with_ETG}
 use Rattle.plan.specs.declared.Stream.{Stream}

@@ -8,7 +8,7 @@ use native.Mathlib.Nat.{le_refl, eq-or-lt_of_le}
 use native.Mathlib.Numerals.{add-one}
 use native.Mathlib.Omega.{arith}
 use borrow.Author.Tests.{ltb-true, ltb-false}
-use lib.Dec.{T, ltb, leb, le→leb, leb→le}
+use lib.Dec.{T, ltb, le→leb, leb→le}
 use lib.IntN.{ℤ, pos, negsuc, nat_abs, ◌-ℤ◌}
 use lib.Signed.{mag, lt_z, le_z, non_neg, le_z_yes, lt_z_yes, ≤ℤ_refl, clash_ℤ}
 use mir.Syntax.{w64}

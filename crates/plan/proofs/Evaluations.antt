@@ -12,7 +12,7 @@ use Rattle.bound.proofs.Evaluations.{chain_goes, evaluations_fit}
 use Rattle.bound.proofs.Limit.{limit_fits, evaluations_within}
 use Rattle.plan.specs.declared.Stream.{Stream}
 use Rattle.plan.specs.Plan.{Plan, blank, at, Within}
-use Rattle.plan.specs.Rules.{C'', airtime, hp, hit, share, terms}
+use Rattle.plan.specs.Rules.{airtime, hp, hit, share, terms}
 use Rattle.plan.specs.Evaluations.{RowChain, SmallestIs, RowEvaluationsWithin, RowWaitWithin}
 use Rattle.plan.proofs.Rules.{letters_are, terms_sound}
 use Rattle.plan.proofs.Letters.{right_sides}

@@ -2,18 +2,16 @@
 use mathlib.Core.Path.{◌≡◌, sym, ap, ◌∙◌}
 use Prim.Native.Nat.{ℕ, ◌<◌, min}
 use native.Mathlib.Omega.{arith}
-use borrow.Author.Rules.{length_unmapped}
 use denote.RattleType.{Valss, owns}
 use denote.Shadow.{shadow}
 use denote.Struct.Declared as declared
-use lib.ListN.{length, get_or, take, length-map, length-take}
+use lib.ListN.{length, get_or, take, length-take}
 use lib.Seq.{get_or-take}
 use Rattle.names.specs.Limits.{streams, sources}
 use Rattle.laws.proofs.Lists.{take_min}
 use Rattle.plan.specs.declared.Sheet.{Sheet}
 use Rattle.plan.specs.Plan.{plan_of, blank}
 use Rattle.plan.specs.contracts.Sheet as sheet
-use Rattle.plan.specs.contracts.Stream as stream
 
 -- a function is handed this of a parameter that is a sheet, as `.good .0 .1 .1` of the first
 abbrev pub Owned : Sheet → Type 0

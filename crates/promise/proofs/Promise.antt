@@ -11,7 +11,7 @@ use lib.ListN.{length}
 use Rattle.laws.specs.declared.Found.{Found, TheVariants.At, TheVariants.Nothing}
 use Rattle.laws.specs.Lists.{largest_of, those}
 use Rattle.bound.specs.declared.Verdict.{Verdict, TheVariants.Met, TheVariants.Missed, TheVariants.None}
-use Rattle.bound.specs.Bound.{busy, bound, verdict, answer, answer_for}
+use Rattle.bound.specs.Bound.{busy, bound, answer, answer_for}
 use Rattle.cover.specs.Cover.{Partnered, NoHeavier, NoShorter, Covers}
 use Rattle.cover.proofs.Cover.{covered_keeps}
 use Rattle.plan.specs.declared.Timing.{Timing}

@@ -9,7 +9,6 @@ use Rattle.plan.specs.declared.Stream.{Stream}
 use Rattle.plan.specs.Plan.{blank}
 use Rattle.plan.specs.Rules.{C'', exceeds_slot}
 use Rattle.costs.specs.Costs.{most_V, most_U}
-use Rattle.carried.specs.Layout as layout
 use Rattle.carried.specs.Carried.{timing_in, streams_in}
 use Rattle.checks.proofs.check_slots.Given as goal
 

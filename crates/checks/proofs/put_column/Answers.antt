@@ -1,11 +1,10 @@
 use mathlib.Core.Path.{◌≡◌, refl, ◌∙◌}
 use mathlib.Core.List.{List}
-use Prim.Native.Nat.{ℕ, ◌+◌, ◌-◌, ◌<◌}
+use Prim.Native.Nat.{ℕ, ◌+◌, ◌<◌}
 use native.Mathlib.Numerals.{add-one}
 use native.Mathlib.Omega.{arith}
 use lib.ListN.{length, get_or, set, take, length-set}
 use lib.Seq.{take-suc-set}
-use Rattle.names.specs.Limits as limit
 use Rattle.laws.specs.Lists.{rows}
 use Rattle.laws.proofs.Lists.{rows_more}
 use Rattle.carried.specs.Layout as layout

@@ -2,7 +2,6 @@
 use mathlib.Core.Path.{◌≡◌}
 use Prim.Native.Nat.{◌+◌, ◌-◌, ◌≤◌}
 use lib.ListN.{length, get_or, take}
-use Rattle.names.specs.Limits as limit
 use Rattle.laws.specs.Lists.{rows}
 use Rattle.carried.specs.Layout as layout
 use Rattle.checks.proofs.put_column.Given as goal

@@ -1,5 +1,4 @@
 use mathlib.Core.Path.{◌≡◌, sym, ap₂, ◌∙◌}
-use Prim.Native.Nat.{◌-◌}
 use native.Mathlib.Omega.{arith}
 use Rattle.compare.specs.Changes.{first_change, many_constants, grown, of_constants}
 use Rattle.compare.proofs.First.{no_reason, a_reason, change_none, change_more, change_here}

@@ -1,4 +1,3 @@
-use Prim.Native.Nat.{◌-◌}
 use native.Mathlib.Omega.{arith}
 use Rattle.plan.specs.Plan.{plan_of}
 use Rattle.compare.specs.private.Columns.{label_of}

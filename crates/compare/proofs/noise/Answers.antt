@@ -1,16 +1,12 @@
 use mathlib.Core.Path.{◌≡◌, sym, ap, ap₂, ◌∙◌}
 use mathlib.Core.Bool.{Bool, true, false}
-use mathlib.Core.List.{List}
-use Prim.Native.Nat.{ℕ, ◌-◌, ◌≤◌}
 use native.Mathlib.Omega.{arith}
 use borrow.Author.Tests.{le-leb, lt-leb}
 use lib.Dec.{leb}
 use lib.ListN.{length, get_or, take}
 use lib.Seq.{get_or-take}
-use Rattle.names.specs.Limits.{sources}
 use Rattle.plan.specs.Plan.{plan_of}
 use Rattle.plan.proofs.Places.{gaps_taken}
-use Rattle.compare.specs.declared.Change.{Change, TheVariants.Nothing}
 use Rattle.compare.specs.declared.Reason.TheVariants.{MoreNoise}
 use Rattle.compare.specs.Changes.{must, first_change, at_most, of_gap}
 use Rattle.compare.proofs.First.{change_none, change_more, change_here}

@@ -1,5 +1,5 @@
 use mathlib.Core.Path.{refl, sym, ◌∙◌}
-use Prim.Native.Nat.{◌+◌, ◌-◌}
+use Prim.Native.Nat.{◌+◌}
 use native.Mathlib.Omega.{arith}
 use Rattle.fields.proofs.Lowest.{within, too_small, too_large, here, not_here, nowhere}
 use Rattle.fields.proofs.words_outside.Goals as goal

@@ -1,9 +1,5 @@
 -- Where the contents are fine the bodies begin after them, and their words are laid onto those that are lent. Assumes nothing.
-use mathlib.Core.Path.{◌≡◌, sym, ap, ◌∙◌}
-use native.Mathlib.Omega.{arith}
-use borrow.Author.Rules.{rules}
-use Rattle.file.specs.declared.Counts.TheVariants.{Of}
-use Rattle.file.specs.File.{counts_of, carried_as}
+use mathlib.Core.Path.{sym}
 use Rattle.file.proofs.Reading.{counts_right, counts_size}
 use Rattle.reader.proofs.carry.Goals as goal
 

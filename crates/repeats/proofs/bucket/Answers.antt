@@ -1,6 +1,5 @@
 -- What has only bits of the last bucket's number is no greater. Assumes nothing.
 use mathlib.Core.Path.{refl}
-use Prim.Native.Nat.{◌-◌}
 use Rattle.repeats.specs.private.Buckets.{bucket_of}
 use Rattle.repeats.proofs.bucket.Goals as goal
 

@@ -1,6 +1,5 @@
 -- After i turns the first i words are written and nothing else; words that have no room are turned away before the first store. Assumes nothing.
 use mathlib.Core.Path.{refl, sym, ap, ◌∙◌}
-use Prim.Native.Nat.{◌-◌}
 use native.Mathlib.Omega.{arith}
 use lib.Seq.{take_all}
 use Rattle.words.specs.Words.{with_words}

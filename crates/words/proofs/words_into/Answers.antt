@@ -1,6 +1,5 @@
 -- After i turns the first i words stand at the front and the rest is as it was; there are as many turns as words that have room. Assumes nothing.
 use mathlib.Core.Path.{sym, ◌∙◌}
-use Prim.Native.Nat.{◌-◌}
 use native.Mathlib.Omega.{arith}
 use lib.ListN.{length-set}
 use Rattle.words.specs.Words.{words_of}

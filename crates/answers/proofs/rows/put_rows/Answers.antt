@@ -1,0 +1,21 @@
+-- What comes to a C + K are the letters of the timing that is meant.
+use mathlib.Core.Path.{sym, ap, subst, ◌∙◌}
+use Rattle.carried.specs.Carried.{entered_timing_in, meant_timing, timing_in}
+use Rattle.carried.proofs.Plans.{timing_held}
+use Rattle.costs.specs.Costs.{Overhead, overheads_of}
+use Rattle.costs.proofs.Costs.{overhead_within}
+use Rattle.answers.proofs.rows.put_rows.Goals as goal
+use Rattle.answers.proofs.rows.put_rows.Goals.{After-overheads_of-over}
+
+letters : (o : After-overheads_of-over) → Overhead (timing_in o.args.words.now) o.overheads_of-over.result
+letters o =
+    let t = entered_timing_in o.args.words.now in
+    let w = o.requires.places_within.timing in
+    let e = o.overheads_of-over.ensures ∙ ap overheads_of (o.timing_in.ensures ∙ timing_held t w) in
+    subst (Overhead (meant_timing t)) (sym e) (overhead_within (meant_timing t) w)
+
+pub put_few-requires-clause-overhead : goal.put_few-requires-clause-overhead
+put_few-requires-clause-overhead c = letters (goal.at.put_few-requires-clause-overhead c).After-overheads_of-over
+
+pub put_many-requires-clause-overhead : goal.put_many-requires-clause-overhead
+put_many-requires-clause-overhead c = letters (goal.at.put_many-requires-clause-overhead c).After-overheads_of-over
