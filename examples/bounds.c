@@ -1,4 +1,4 @@
-/* The bounds of the plan file on standard input, by the proved library. After `rt staticlib outside`, on x86-64:
+/* The bounds of the plan file on standard input, by the proved library. After `bench/native`, on x86-64:
  *   cc -I include -o bounds examples/bounds.c target/staticlib/liboutside.a && ./bounds < examples/p2.plan */
 #include "livnakesh.h"
 #include <stdio.h>

@@ -3,6 +3,10 @@
 use mathlib.Core.Path.{◌≡◌, refl, sym, ◌∙◌}
 use borrow.Fn.Kinds.{Dens, res_t, ended_of}
 use contract.Lifetimes.{Lfts}
+use denote.RattleType.{RattleType}
+use denote.Param.Laws.{Laws}
+use mir.Syntax.{Dict}
+use Rattle.std.specs.declared.io.Print as print-bound
 use denote.Triple.Clauses.{Lasts, at_exit}
 use Rattle.laws.specs.Determined.{OneOutcome}
 use Rattle.console.proofs.print.Kinds as print-kinds
@@ -23,17 +27,22 @@ pub first_one : (κs : Lfts 1) (a : Dens κs first-kinds.ps) (x y : (res_t first
     → first.Post κs a x (at_exit (ended_of 1 first-kinds.ps first-kinds.r) κs a ws) → first.Post κs a y (at_exit (ended_of 1 first-kinds.ps first-kinds.r) κs a us) → x.now ≡ y.now
 first_one κs a x y ws us p q = p ∙ sym q
 
-pub print_one : OneOutcome 1 print-kinds.ps print-kinds.r print.Post
-print_one κs a x y ws us p q = (refl, refl)
+pub print_one : (T : RattleType) (laws : Laws T) (g : print-bound.Ghosts T.Denot) (d : Dict)
+    → OneOutcome 3 (print-kinds.ps T laws) (print-kinds.r T laws) (print.Post T laws g d)
+print_one T laws g d κs a x y ws us p q = (refl, refl)
 
-pub print_first_one : OneOutcome 1 print-first-kinds.ps print-first-kinds.r print-first.Post
-print_first_one κs a x y ws us p q = (refl, refl)
+pub print_first_one : (T : RattleType) (laws : Laws T) (g : print-bound.Ghosts T.Denot) (d : Dict)
+    → OneOutcome 3 (print-first-kinds.ps T laws) (print-first-kinds.r T laws) (print-first.Post T laws g d)
+print_first_one T laws g d κs a x y ws us p q = (refl, refl)
 
-pub print_number_one : OneOutcome 0 print-number-kinds.ps print-number-kinds.r print-number.Post
-print_number_one κs a x y ws us p q = (refl, refl)
+pub print_number_one : (T : RattleType) (laws : Laws T) (g : print-bound.Ghosts T.Denot) (d : Dict)
+    → OneOutcome 2 (print-number-kinds.ps T laws) (print-number-kinds.r T laws) (print-number.Post T laws g d)
+print_number_one T laws g d κs a x y ws us p q = (refl, refl)
 
-pub print_refusal_one : OneOutcome 0 print-refusal-kinds.ps print-refusal-kinds.r print-refusal.Post
-print_refusal_one κs a x y ws us p q = (refl, refl)
+pub print_refusal_one : (T : RattleType) (laws : Laws T) (g : print-bound.Ghosts T.Denot) (d : Dict)
+    → OneOutcome 2 (print-refusal-kinds.ps T laws) (print-refusal-kinds.r T laws) (print-refusal.Post T laws g d)
+print_refusal_one T laws g d κs a x y ws us p q = (refl, refl)
 
-pub print_unreadable_one : OneOutcome 2 print-unreadable-kinds.ps print-unreadable-kinds.r print-unreadable.Post
-print_unreadable_one κs a x y ws us p q = (refl, refl)
+pub print_unreadable_one : (T : RattleType) (laws : Laws T) (g : print-bound.Ghosts T.Denot) (d : Dict)
+    → OneOutcome 4 (print-unreadable-kinds.ps T laws) (print-unreadable-kinds.r T laws) (print-unreadable.Post T laws g d)
+print_unreadable_one T laws g d κs a x y ws us p q = (refl, refl)

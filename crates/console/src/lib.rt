@@ -1,14 +1,17 @@
 // What the programs share of reading files and of printing to standard output.
 //
 // Every function answers for every input. What is read, and what reaches the terminal, is outside what is proved: that is
-// libc's and io's to say. This crate knows of the names alone.
+// std's to say. A write that fails is passed over. This crate knows of the names alone.
 #![tactic(auto)]
 
 ghost use Rattle.std.specs.Prelude.{◌≡◌, take};
 ghost use Rattle.console.specs.Input.{InBuffer};
 
-use libc::STDOUT_FILENO;
 use names::Refusal;
+use std::env::FillError;
+use std::fs;
+use std::io::Read;
+use std::rt::{Env, Files};
 
 // What was read: so many bytes, at the buffer's start; or that reading failed, as of a directory.
 #[derive(Clone, Copy)]
@@ -17,17 +20,43 @@ pub enum Input {
     Failed,
 }
 
+// Opens the file of this name for reading. A name that is no text (UTF-8) opens nothing.
+pub fn open<R: Files>(rt: &R, name: &[u8]) -> Option<R::File> {
+    let Ok(path) = str::from_utf8(name) else {
+        return None;
+    };
+    fs::open(rt, path).ok()
+}
+
+// How many arguments the program was started with, its own name among them.
+pub fn arg_count(rt: &impl Env) -> usize {
+    for i in 0..usize::MAX {
+        if let Err(FillError::NotPresent) = rt.arg(i, &mut []) {
+            return i;
+        }
+    }
+    usize::MAX
+}
+
+// Puts an argument at the buffer's start and gives its length, or 0 where it is missing or longer than the buffer.
+pub fn arg(rt: &impl Env, i: usize, buf: &mut [u8]) -> usize
+    ensures { InBuffer (Input.Bytes result) buf.new }
+{
+    match rt.arg(i, buf) {
+        Ok(n) => n,
+        Err(_) => 0,
+    }
+}
+
 // Reads an open file until the buffer is full, the file ends or a read fails.
-pub fn read(fd: i32, buf: &mut [u8]) -> Input
+pub fn read(file: &mut impl Read, buf: &mut [u8]) -> Input
     ensures { InBuffer result buf.new }
 {
     let mut done: usize = 0;
     while done < buf.len() {
-        let got = libc::read(fd, &mut buf[done..]);
-        if got < 0 {
+        let Ok(more) = file.read(&mut buf[done..]) else {
             return Input::Failed;
-        }
-        let more = io::count(got, &buf[done..]);
+        };
         if more == 0 {
             return Input::Bytes(done);
         }
@@ -43,30 +72,30 @@ pub fn first(bytes: &[u8], k: usize) -> &[u8]
     if k <= bytes.len() { &bytes[..k] } else { bytes }
 }
 
-pub fn print(bytes: &[u8]) {
-    io::write_all(STDOUT_FILENO, bytes);
+pub fn print(rt: &impl Print, bytes: &[u8]) {
+    let _ = rt.write_all(bytes);
 }
 
-pub fn print_first(bytes: &[u8], k: usize) {
-    print(first(bytes, k));
+pub fn print_first(rt: &impl Print, bytes: &[u8], k: usize) {
+    print(rt, first(bytes, k));
 }
 
-pub fn print_number(n: u64) {
-    io::print_decimal(STDOUT_FILENO, n);
+pub fn print_number(rt: &impl Print, n: u64) {
+    let _ = rt.print(n);
 }
 
 // The words of a refusal, with no end of the line.
-pub fn print_refusal(r: Refusal) {
-    print(b"refused ");
-    print_number(r.number as u64);
-    print(b" at ");
-    print_number(r.place as u64);
+pub fn print_refusal(rt: &impl Print, r: Refusal) {
+    print(rt, b"refused ");
+    print_number(rt, r.number as u64);
+    print(rt, b" at ");
+    print_number(rt, r.place as u64);
 }
 
 // The line that a program prints of what it cannot read.
-pub fn print_unreadable(program: &[u8], what: &[u8]) {
-    print(program);
-    print(b": cannot read ");
-    print(what);
-    print(b"\n");
+pub fn print_unreadable(rt: &impl Print, program: &[u8], what: &[u8]) {
+    print(rt, program);
+    print(rt, b": cannot read ");
+    print(rt, what);
+    print(rt, b"\n");
 }

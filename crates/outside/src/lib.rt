@@ -81,8 +81,7 @@ fn checked(verdict: Checked) -> Said
 }
 
 // The answer words of a file's plan.
-#[unsafe(no_mangle)]
-pub extern "C" fn livnakesh_answers(file: &[u8], out: &mut [u64]) -> Said
+pub fn livnakesh_answers(file: &[u8], out: &mut [u64]) -> Said
     ensures value { result ≡ number.checked (answer_file_of file.now out.old).0 }
     ensures out_after { out.new ≡ (answer_file_of file.now out.old).1 }
 {
@@ -90,8 +89,7 @@ pub extern "C" fn livnakesh_answers(file: &[u8], out: &mut [u64]) -> Said
 }
 
 // The plan in a file, written again into lent bytes.
-#[unsafe(no_mangle)]
-pub extern "C" fn livnakesh_rewrite(file: &[u8], out: &mut [u8]) -> Said
+pub fn livnakesh_rewrite(file: &[u8], out: &mut [u8]) -> Said
     ensures value { result ≡ number.written (rewrite_of file.now out.old).0 }
     ensures out_after { out.new ≡ (rewrite_of file.now out.old).1 }
 {
@@ -102,8 +100,7 @@ pub extern "C" fn livnakesh_rewrite(file: &[u8], out: &mut [u8]) -> Said
 }
 
 // The file of the plan that is meant by lent words, ten of the timing, seven for each of n streams and m noise gaps, written into lent bytes.
-#[unsafe(no_mangle)]
-pub extern "C" fn livnakesh_write(n: usize, m: usize, values: &[u32], out: &mut [u8]) -> Said
+pub fn livnakesh_write(n: usize, m: usize, values: &[u32], out: &mut [u8]) -> Said
     ensures value { result ≡ number.written (number.write_from n m values.now out.old).0 }
     ensures out_after { out.new ≡ (number.write_from n m values.now out.old).1 }
 {
@@ -115,8 +112,7 @@ pub extern "C" fn livnakesh_write(n: usize, m: usize, values: &[u32], out: &mut 
 }
 
 // The answer words of lent streams, each of them its seven words in file order, under a timing of ten words and these noise gaps.
-#[unsafe(no_mangle)]
-pub extern "C" fn livnakesh_screen(
+pub fn livnakesh_screen(
     streams: &[Stream],
     timing: &[u32],
     gaps: &[u32],
@@ -128,8 +124,7 @@ pub extern "C" fn livnakesh_screen(
 }
 
 // The bit at which two priorities part.
-#[unsafe(no_mangle)]
-pub extern "C" fn livnakesh_parting(bits: u32, a: u32, b: u32) -> Said
+pub fn livnakesh_parting(bits: u32, a: u32, b: u32) -> Said
     ensures { result ≡ number.parting (parting_of bits (record { 0 = a }) (record { 0 = b })) }
 {
     match parting_bit(bits, Priority(a), Priority(b)) {
@@ -195,8 +190,7 @@ fn not_weighed(which: u64, r: Refusal) -> Weighed
 }
 
 // Whether the plan in the second file is lighter.
-#[unsafe(no_mangle)]
-pub extern "C" fn livnakesh_lighter(old: &[u8], new: &[u8]) -> Weighed
+pub fn livnakesh_lighter(old: &[u8], new: &[u8]) -> Weighed
     ensures { result ≡ number.weighed (compared_files old.now new.now) }
 {
     match lighter_files(old, new) {
@@ -273,8 +267,7 @@ fn gone_on(outcome: Outcome, marks: &mut [u8]) -> Stepped
 }
 
 // The start of a tournament of as many contenders as there are priorities: what stood in the lent marks is not looked at.
-#[unsafe(no_mangle)]
-pub extern "C" fn livnakesh_start(bits: u32, priorities: &[u32], marks: &mut [u8]) -> Stepped
+pub fn livnakesh_start(bits: u32, priorities: &[u32], marks: &mut [u8]) -> Stepped
     ensures value { result ≡ number.stepped_by (number.start_from bits priorities.now marks.old) }
     ensures marks_after { marks.new ≡ number.start_marks bits priorities.now marks.old }
 {
@@ -287,8 +280,7 @@ pub extern "C" fn livnakesh_start(bits: u32, priorities: &[u32], marks: &mut [u8
 }
 
 // One step of the tournament that is lent: its marks are copied out before they are written over.
-#[unsafe(no_mangle)]
-pub extern "C" fn livnakesh_step(
+pub fn livnakesh_step(
     bits: u32,
     phase: u32,
     at: u32,

@@ -8,134 +8,134 @@ use console::print;
 use outside::{livnakesh_parting, livnakesh_start, livnakesh_step};
 use shown::{answer, bytes, number};
 
-fn parting(bits: u32, a: u32, b: u32) {
-    print(b"part");
-    number(bits as u64);
-    number(a as u64);
-    number(b as u64);
+fn parting(rt: &impl Print, bits: u32, a: u32, b: u32) {
+    print(rt, b"part");
+    number(rt, bits as u64);
+    number(rt, a as u64);
+    number(rt, b as u64);
     let said = livnakesh_parting(bits, a, b);
-    answer(said.refusal, said.value);
-    print(b"\n");
+    answer(rt, said.refusal, said.value);
+    print(rt, b"\n");
 }
 
-fn start(bits: u32, priorities: &[u32], marks: &mut [u8]) {
-    print(b"start");
-    number(bits as u64);
+fn start(rt: &impl Print, bits: u32, priorities: &[u32], marks: &mut [u8]) {
+    print(rt, b"start");
+    number(rt, bits as u64);
     let said = livnakesh_start(bits, priorities, marks);
-    answer(said.refusal, said.place);
-    number(said.phase);
-    number(said.at);
-    bytes(&marks[..]);
+    answer(rt, said.refusal, said.place);
+    number(rt, said.phase);
+    number(rt, said.at);
+    bytes(rt, &marks[..]);
 }
 
 // 5, 3 and 6 with marks to spare, with as many as they are, and with fewer, when 6 comes first; then 5 and 3 alone.
-fn starts() {
+fn starts(rt: &impl Print) {
     let three = [5, 3, 6];
     let mut long = [7; 130];
-    start(4, &three, &mut long);
+    start(rt, 4, &three, &mut long);
     let mut enough = [7; 3];
-    start(4, &three, &mut enough);
+    start(rt, 4, &three, &mut enough);
     let mut fewer = [7; 2];
-    start(4, &three, &mut fewer);
-    start(0, &three, &mut fewer);
-    start(4, &three[..2], &mut enough);
+    start(rt, 4, &three, &mut fewer);
+    start(rt, 0, &three, &mut fewer);
+    start(rt, 4, &three[..2], &mut enough);
 }
 
 // No bit, 33 bits, a priority that does not fit, one that is there twice, and nobody.
-fn wrong_starts() {
+fn wrong_starts(rt: &impl Print) {
     let three = [5, 3, 5];
     let mut marks = [7; 4];
-    start(0, &three, &mut marks);
-    start(33, &three, &mut marks);
-    start(2, &three, &mut marks);
-    start(4, &three, &mut marks);
-    start(4, &three[..0], &mut marks);
+    start(rt, 0, &three, &mut marks);
+    start(rt, 33, &three, &mut marks);
+    start(rt, 2, &three, &mut marks);
+    start(rt, 4, &three, &mut marks);
+    start(rt, 4, &three[..0], &mut marks);
 }
 
 // 129 with a mark for each, and with one mark less.
-fn too_many() {
+fn too_many(rt: &impl Print) {
     let many = [5; 129];
     let mut enough = [7; 129];
-    start(4, &many, &mut enough);
+    start(rt, 4, &many, &mut enough);
     let mut fewer = [7; 128];
-    start(4, &many, &mut fewer);
+    start(rt, 4, &many, &mut fewer);
 }
 
 // A step of 5, 3 and 6.
-fn step(bits: u32, phase: u32, at: u32, marks: &mut [u8]) {
-    print(b"step");
-    number(bits as u64);
-    number(phase as u64);
-    number(at as u64);
+fn step(rt: &impl Print, bits: u32, phase: u32, at: u32, marks: &mut [u8]) {
+    print(rt, b"step");
+    number(rt, bits as u64);
+    number(rt, phase as u64);
+    number(rt, at as u64);
     let three = [5, 3, 6];
     let said = livnakesh_step(bits, phase, at, &three, marks);
-    answer(said.refusal, said.place);
-    number(said.phase);
-    number(said.at);
-    bytes(&marks[..]);
+    answer(rt, said.refusal, said.place);
+    number(rt, said.phase);
+    number(rt, said.at);
+    bytes(rt, &marks[..]);
 }
 
 // P12 bit by bit, with a step too many; a 9 stands for in as well as a 7, and two bytes are nobody's.
-fn steps() {
+fn steps(rt: &impl Print) {
     let mut marks = [7; 5];
     marks[1] = 9;
-    step(4, 0, 1, &mut marks);
-    step(4, 0, 2, &mut marks);
-    step(4, 0, 3, &mut marks);
-    step(4, 0, 4, &mut marks);
-    step(4, 1, 1, &mut marks);
+    step(rt, 4, 0, 1, &mut marks);
+    step(rt, 4, 0, 2, &mut marks);
+    step(rt, 4, 0, 3, &mut marks);
+    step(rt, 4, 0, 4, &mut marks);
+    step(rt, 4, 1, 1, &mut marks);
 }
 
 // Finished, with and without a winner, a phase above 2, and ends with several left and with none.
-fn made_up() {
+fn made_up(rt: &impl Print) {
     let mut marks = [7; 130];
-    step(4, 1, 2, &mut marks);
-    step(4, 2, 9, &mut marks);
-    step(4, 3, 9, &mut marks);
+    step(rt, 4, 1, 2, &mut marks);
+    step(rt, 4, 2, 9, &mut marks);
+    step(rt, 4, 3, 9, &mut marks);
     marks[2] = 0;
-    step(4, 0, 4, &mut marks);
+    step(rt, 4, 0, 4, &mut marks);
     let mut none = [0; 3];
-    step(4, 0, 4, &mut none);
+    step(rt, 4, 0, 4, &mut none);
 }
 
 // No bit, too few bits for 5, a bit and a winner's row that are none; and fewer marks than contenders.
-fn wrong_steps() {
+fn wrong_steps(rt: &impl Print) {
     let mut marks = [7; 4];
-    step(0, 0, 1, &mut marks);
-    step(2, 0, 1, &mut marks);
-    step(4, 0, 5, &mut marks);
-    step(4, 1, 3, &mut marks);
-    step(0, 3, 9, &mut marks);
+    step(rt, 0, 0, 1, &mut marks);
+    step(rt, 2, 0, 1, &mut marks);
+    step(rt, 4, 0, 5, &mut marks);
+    step(rt, 4, 1, 3, &mut marks);
+    step(rt, 0, 3, 9, &mut marks);
     let mut fewer = [7; 2];
-    step(4, 0, 9, &mut fewer);
-    step(4, 3, 9, &mut fewer);
+    step(rt, 4, 0, 9, &mut fewer);
+    step(rt, 4, 3, 9, &mut fewer);
 }
 
 // One that is there twice, and nobody.
-fn wrong_lists() {
+fn wrong_lists(rt: &impl Print) {
     let three = [3, 1, 3];
     let mut marks = [7; 4];
     let twice = livnakesh_step(4, 0, 1, &three, &mut marks);
-    print(b"step of 3, 1, 3");
-    answer(twice.refusal, twice.place);
+    print(rt, b"step of 3, 1, 3");
+    answer(rt, twice.refusal, twice.place);
     let nobody = livnakesh_step(4, 0, 1, &three[..0], &mut marks);
-    print(b"; of nobody");
-    answer(nobody.refusal, nobody.place);
-    bytes(&marks);
+    print(rt, b"; of nobody");
+    answer(rt, nobody.refusal, nobody.place);
+    bytes(rt, &marks);
 }
 
-fn main() {
-    parting(4, 5, 3);
-    parting(32, 0, 2147483648);
-    parting(0, 5, 3);
-    parting(33, 5, 3);
-    parting(2, 1, 4);
-    parting(4, 3, 3);
-    starts();
-    wrong_starts();
-    too_many();
-    steps();
-    made_up();
-    wrong_steps();
-    wrong_lists();
+fn main(rt: HostRuntime) {
+    parting(&rt, 4, 5, 3);
+    parting(&rt, 32, 0, 2147483648);
+    parting(&rt, 0, 5, 3);
+    parting(&rt, 33, 5, 3);
+    parting(&rt, 2, 1, 4);
+    parting(&rt, 4, 3, 3);
+    starts(&rt);
+    wrong_starts(&rt);
+    too_many(&rt);
+    steps(&rt);
+    made_up(&rt);
+    wrong_steps(&rt);
+    wrong_lists(&rt);
 }

@@ -5,10 +5,11 @@
 // replay_words; this program reads, calls and prints.
 #![tactic(auto)]
 
-use console::{Input, first, print, print_first, print_unreadable, read};
-use libc::STDIN_FILENO;
+use console::{Input, arg, arg_count, first, print, print_first, print_unreadable, read};
 use replay_screen::SHOWN;
 use replay_words::{first_end, has_word, replay};
+use std::io::Read;
+use std::rt::Env;
 use text::{Put, lay_text};
 
 // How many bytes are read.
@@ -17,25 +18,25 @@ const INPUT: usize = 65536;
 // The longest argument that is looked at; a number has ten digits.
 const WORD: usize = 64;
 
-fn show(text: &[u8]) {
+fn show(rt: &impl Print, text: &[u8]) {
     let mut out = [0u8; SHOWN];
     if let Put::At(n) = replay(text, &mut out) {
-        print_first(&out, n);
+        print_first(rt, &out, n);
     }
 }
 
-fn blank_line() {
-    print(b"\n");
+fn blank_line(rt: &impl Print) {
+    print(rt, b"\n");
 }
 
 // Each tournament of a text, parted by a blank line.
-fn show_all(text: &[u8]) {
+fn show_all(rt: &impl Print, text: &[u8]) {
     let mut at = first_end(text);
-    show(&text[..at]);
+    show(rt, &text[..at]);
     while has_word(&text[at..]) {
-        blank_line();
+        blank_line(rt);
         let end = at + first_end(&text[at..]);
-        show(&text[at..end]);
+        show(rt, &text[at..end]);
         at = end;
     }
 }
@@ -48,57 +49,57 @@ fn lay_word(out: &mut [u8], at: usize, word: &[u8]) -> usize {
     lay_text(out, at, word)
 }
 
-fn lay_argument(out: &mut [u8], at: usize, i: usize) -> usize {
+fn lay_argument(rt: &impl Env, out: &mut [u8], at: usize, i: usize) -> usize {
     let mut word = [0u8; WORD];
-    let n = os::arg(i, &mut word);
+    let n = arg(rt, i, &mut word);
     let at = lay_word(out, at, &word[..n]);
     lay_text(out, at, b" ")
 }
 
 // The arguments as one text.
-fn lay_arguments(out: &mut [u8], count: usize) -> usize {
+fn lay_arguments(rt: &impl Env, out: &mut [u8], count: usize) -> usize {
     let mut at: usize = 0;
     for i in 1..count {
-        at = lay_argument(out, at, i);
+        at = lay_argument(rt, out, at, i);
     }
     at
 }
 
-fn too_long() {
-    print(b"the input is longer than 65535 bytes\n");
+fn too_long(rt: &impl Print) {
+    print(rt, b"the input is longer than 65535 bytes\n");
 }
 
-fn read_arguments(count: usize) {
-    let mut text = io::large_buffer();
-    let n = lay_arguments(&mut text, count);
+fn read_arguments(rt: &(impl Print + Env), count: usize) {
+    let mut text = [0u8; INPUT];
+    let n = lay_arguments(rt, &mut text, count);
     if n < INPUT {
-        show(first(&text, n));
+        show(rt, first(&text, n));
     } else {
-        too_long();
+        too_long(rt);
     }
 }
 
-fn show_input(text: &[u8]) {
+fn show_input(rt: &impl Print, text: &[u8]) {
     if text.len() < INPUT {
-        show_all(text);
+        show_all(rt, text);
     } else {
-        too_long();
+        too_long(rt);
     }
 }
 
-fn read_input() {
-    let mut text = io::large_buffer();
-    match read(STDIN_FILENO, &mut text) {
-        Input::Bytes(n) => show_input(first(&text, n)),
-        Input::Failed => print_unreadable(b"replay", b"standard input"),
+fn read_input(rt: &impl Print, input: &mut impl Read) {
+    let mut text = [0u8; INPUT];
+    match read(input, &mut text) {
+        Input::Bytes(n) => show_input(rt, first(&text, n)),
+        Input::Failed => print_unreadable(rt, b"replay", b"standard input"),
     }
 }
 
-fn main() {
-    let count = os::arg_count();
+fn main(rt: HostRuntime) {
+    let count = arg_count(&rt);
     if 1 < count {
-        read_arguments(count);
+        read_arguments(&rt, count);
     } else {
-        read_input();
+        read_input(&rt, &mut rt.stdin());
     }
 }

@@ -1,8 +1,7 @@
 // The planner's screen as other languages call it, on three streams of this program's own, a line for each call: what is lent, what comes
 // back and, after a bar, what all the lent words end with. Lent words are 7 before the call.
 //
-// The answers are proved in the crate outside; here they are run and compared. This program must not know any rule. Lending a list of
-// records is proved by hand, in one function.
+// The answers are proved in the crate outside; here they are run and compared. This program must not know any rule.
 #![tactic(auto)]
 
 use console::print;
@@ -43,48 +42,49 @@ fn screened(streams: [Stream; 3], timing: &[u32], gaps: &[u32], out: &mut [u64])
     livnakesh_screen(&streams, timing, gaps, out)
 }
 
-fn screen(streams: [Stream; 3], timing: &[u32], gaps: &[u32], out: &mut [u64]) {
-    print(b"screen");
-    number(timing.len() as u64);
-    number(gaps.len() as u64);
+fn screen(rt: &impl Print, streams: [Stream; 3], timing: &[u32], gaps: &[u32], out: &mut [u64]) {
+    print(rt, b"screen");
+    number(rt, timing.len() as u64);
+    number(rt, gaps.len() as u64);
     let said = screened(streams, timing, gaps, out);
-    answer(said.refusal, said.value);
-    words(&out[..]);
+    answer(rt, said.refusal, said.value);
+    words(rt, &out[..]);
 }
 
 // P1 with words to spare, its LAG of 1 in ETG, and with too few, and P2.
-fn answered() {
+fn answered(rt: &impl Print) {
     let p1 = streams(5, 655370, 2, 0);
     let folded = [4, 1, 1, 2, 1, 1, 3, 0, 4];
     let timing = [4, 1, 1, 2, 1, 1, 2, 1, 4];
     let gaps = [1000];
     let mut long = [7; 14];
-    screen(p1, &timing, &gaps[..0], &mut long);
-    screen(p1, &folded, &gaps[..0], &mut long);
+    screen(rt, p1, &timing, &gaps[..0], &mut long);
+    screen(rt, p1, &folded, &gaps[..0], &mut long);
     let mut short = [7; 11];
-    screen(p1, &timing, &gaps[..0], &mut short);
+    screen(rt, p1, &timing, &gaps[..0], &mut short);
     let mut enough = [7; 12];
-    screen(p1, &timing, &gaps, &mut enough);
+    screen(rt, p1, &timing, &gaps, &mut enough);
 }
 
 // A timing without NB, which is then 0, one with P, and one with a word more; nine gaps.
-fn lengths() {
+fn lengths(rt: &impl Print) {
     let p1 = streams(5, 655370, 2, 0);
     let timing = [4, 1, 1, 2, 1, 1, 2, 1, 4, 30, 9];
     let gaps = [1000; 9];
     let mut out = [7; 12];
-    screen(p1, &timing[..8], &gaps[..0], &mut out);
-    screen(p1, &timing, &gaps, &mut out);
-    screen(p1, &timing[..10], &gaps[..0], &mut out);
-    screen(p1, &timing, &gaps[..1], &mut out);
+    screen(rt, p1, &timing[..8], &gaps[..0], &mut out);
+    screen(rt, p1, &timing, &gaps, &mut out);
+    screen(rt, p1, &timing[..10], &gaps[..0], &mut out);
+    screen(rt, p1, &timing, &gaps[..1], &mut out);
 }
 
 // P1 with an acknowledgement of the second.
-fn waiting(acknowledgement: u32) {
+fn waiting(rt: &impl Print, acknowledgement: u32) {
     let timing = [4, 1, 1, 2, 1, 1, 2, 1, 4];
     let gaps = [1000];
     let mut out = [7; 12];
     screen(
+        rt,
         streams(5, 655370, 2, acknowledgement),
         &timing,
         &gaps[..0],
@@ -93,11 +93,12 @@ fn waiting(acknowledgement: u32) {
 }
 
 // P1 in slots of so many ticks, in too few words.
-fn slots(slot: u32, payload: u32, acknowledgement: u32) {
+fn slots(rt: &impl Print, slot: u32, payload: u32, acknowledgement: u32) {
     let timing = [4, 1, 1, 2, 1, 1, 2, 1, 4, slot];
     let gaps = [1000];
     let mut out = [7; 3];
     screen(
+        rt,
         streams(payload, 655370, 2, acknowledgement),
         &timing,
         &gaps,
@@ -106,11 +107,12 @@ fn slots(slot: u32, payload: u32, acknowledgement: u32) {
 }
 
 // One stream that is wrong, in too few words, since 6 comes last.
-fn wrong(payload: u32, label: u32, priority: u32) {
+fn wrong(rt: &impl Print, payload: u32, label: u32, priority: u32) {
     let timing = [4, 1, 1, 2, 1, 1, 2, 1, 4];
     let gaps = [1000];
     let mut out = [7; 3];
     screen(
+        rt,
         streams(payload, label, priority, 0),
         &timing,
         &gaps,
@@ -119,11 +121,12 @@ fn wrong(payload: u32, label: u32, priority: u32) {
 }
 
 // P1 with another LAG and the priority of the second, in too few words.
-fn lagging(lag: u32, priority: u32) {
+fn lagging(rt: &impl Print, lag: u32, priority: u32) {
     let timing = [4, 1, 1, 2, 1, 1, 2, lag, 4];
     let gaps = [1000];
     let mut out = [7; 3];
     screen(
+        rt,
         streams(5, 655370, priority, 0),
         &timing,
         &gaps[..0],
@@ -131,22 +134,22 @@ fn lagging(lag: u32, priority: u32) {
     );
 }
 
-fn main() {
-    answered();
-    lengths();
-    wrong(0, 655370, 2);
-    wrong(5, 655370, 1);
-    wrong(5, 655361, 1);
-    wrong(5, 655361, 2);
-    waiting(2);
-    waiting(65536);
-    slots(20, 5, 0);
-    slots(20, 5, 1);
-    slots(19, 5, 0);
-    slots(19, 0, 0);
-    slots(5000001, 5, 0);
-    lagging(65533, 2);
-    lagging(65533, 1);
-    lagging(65534, 1);
-    lagging(65536, 1);
+fn main(rt: HostRuntime) {
+    answered(&rt);
+    lengths(&rt);
+    wrong(&rt, 0, 655370, 2);
+    wrong(&rt, 5, 655370, 1);
+    wrong(&rt, 5, 655361, 1);
+    wrong(&rt, 5, 655361, 2);
+    waiting(&rt, 2);
+    waiting(&rt, 65536);
+    slots(&rt, 20, 5, 0);
+    slots(&rt, 20, 5, 1);
+    slots(&rt, 19, 5, 0);
+    slots(&rt, 19, 0, 0);
+    slots(&rt, 5000001, 5, 0);
+    lagging(&rt, 65533, 2);
+    lagging(&rt, 65533, 1);
+    lagging(&rt, 65534, 1);
+    lagging(&rt, 65536, 1);
 }

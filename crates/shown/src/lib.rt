@@ -14,17 +14,17 @@ pub const P2: [u32; 32] = [
     720898, 3, 400, 0, 2, 200, 0, 1000,
 ];
 
-pub fn number(n: u64) {
-    print(b" ");
-    print_number(n);
+pub fn number(rt: &impl Print, n: u64) {
+    print(rt, b" ");
+    print_number(rt, n);
 }
 
 // Neighbours that are equal are printed once, with their number.
-fn run(byte: u8, times: usize) {
-    number(byte as u64);
+fn run(rt: &impl Print, byte: u8, times: usize) {
+    number(rt, byte as u64);
     if times > 1 {
-        print(b"x");
-        print_number(times as u64);
+        print(rt, b"x");
+        print_number(rt, times as u64);
     }
 }
 
@@ -43,33 +43,33 @@ fn run_end(bytes: &[u8], from: usize) -> usize
     bytes.len()
 }
 
-pub fn bytes(lent: &[u8]) {
-    print(b" |");
+pub fn bytes(rt: &impl Print, lent: &[u8]) {
+    print(rt, b" |");
     let mut i = 0;
     while i < lent.len() {
         let end = run_end(lent, i);
-        run(lent[i], end - i);
+        run(rt, lent[i], end - i);
         i = end;
     }
-    print(b"\n");
+    print(rt, b"\n");
 }
 
-pub fn words(lent: &[u64]) {
-    print(b" |");
+pub fn words(rt: &impl Print, lent: &[u64]) {
+    print(rt, b" |");
     for i in 0..lent.len() {
-        number(lent[i]);
+        number(rt, lent[i]);
     }
-    print(b"\n");
+    print(rt, b"\n");
 }
 
 // Done, with what was asked for, or a refusal and its place.
-pub fn answer(refusal: u64, value: u64) {
+pub fn answer(rt: &impl Print, refusal: u64, value: u64) {
     if refusal == 0 {
-        print(b": done");
+        print(rt, b": done");
     } else {
-        print(b": refused");
-        number(refusal);
-        print(b" at");
+        print(rt, b": refused");
+        number(rt, refusal);
+        print(rt, b" at");
     }
-    number(value);
+    number(rt, value);
 }

@@ -10,21 +10,21 @@ use names::{CONTENDERS, Priority, Row};
 use tournament::{Outcome, Parting};
 use tournament_state::{Phase, Tournament};
 
-fn parting(bits: u32, a: Priority, b: Priority) {
-    print_number(a.0 as u64);
-    print(b" and ");
-    print_number(b.0 as u64);
-    print(b" in ");
-    print_number(bits as u64);
-    print(b" bits: ");
+fn parting(rt: &impl Print, bits: u32, a: Priority, b: Priority) {
+    print_number(rt, a.0 as u64);
+    print(rt, b" and ");
+    print_number(rt, b.0 as u64);
+    print(rt, b" in ");
+    print_number(rt, bits as u64);
+    print(rt, b" bits: ");
     match tournament::parting_bit(bits, a, b) {
         Parting::At(k) => {
-            print(b"part at bit ");
-            print_number(k as u64);
+            print(rt, b"part at bit ");
+            print_number(rt, k as u64);
         }
-        Parting::Refused(no) => print_refusal(no),
+        Parting::Refused(no) => print_refusal(rt, no),
     }
-    print(b"\n");
+    print(rt, b"\n");
 }
 
 // Priorities 5, 3 and 7 in 4 bits, all in. The unused places are in as well, with a priority that repeats and is too large.
@@ -43,124 +43,138 @@ fn state(phase: Phase) -> Tournament {
     }
 }
 
-fn mark(is_in: bool) {
+fn mark(rt: &impl Print, is_in: bool) {
     if is_in {
-        print(b" in");
+        print(rt, b" in");
     } else {
-        print(b" out");
+        print(rt, b" out");
     }
 }
 
 // The answer, the phase, and the marks of the first four places.
-fn shown(call: &[u8], o: Outcome) {
-    print(call);
-    print(b": ");
+fn shown(rt: &impl Print, call: &[u8], o: Outcome) {
+    print(rt, call);
+    print(rt, b": ");
     let checked = o.checked;
     match checked {
-        Checked::Fine => print(b"done"),
-        Checked::Refused(no) => print_refusal(no),
+        Checked::Fine => print(rt, b"done"),
+        Checked::Refused(no) => print_refusal(rt, no),
     }
     let t = o.tournament;
     let phase = t.phase;
     match phase {
         Phase::AtBit(k) => {
-            print(b", at bit ");
-            print_number(k as u64);
+            print(rt, b", at bit ");
+            print_number(rt, k as u64);
         }
         Phase::Finished(row) => {
-            print(b", row ");
-            print_number(row.0 as u64);
-            print(b" won");
+            print(rt, b", row ");
+            print_number(rt, row.0 as u64);
+            print(rt, b" won");
         }
-        Phase::NoWinner => print(b", no winner"),
+        Phase::NoWinner => print(rt, b", no winner"),
     }
-    print(b", marks");
-    mark(t.marks[0]);
-    mark(t.marks[1]);
-    mark(t.marks[2]);
-    mark(t.marks[3]);
-    print(b"\n");
+    print(rt, b", marks");
+    mark(rt, t.marks[0]);
+    mark(rt, t.marks[1]);
+    mark(rt, t.marks[2]);
+    mark(rt, t.marks[3]);
+    print(rt, b"\n");
 }
 
-fn partings() {
-    parting(4, Priority(5), Priority(3));
-    parting(4, Priority(3), Priority(5));
-    parting(1, Priority(0), Priority(1));
-    parting(1, Priority(1), Priority(0));
-    parting(32, Priority(0), Priority(2147483648));
-    parting(32, Priority(0), Priority(4294967295));
-    parting(32, Priority(0), Priority(1));
-    parting(32, Priority(4294967295), Priority(4294967294));
-    parting(31, Priority(0), Priority(4294967295));
-    parting(0, Priority(3), Priority(4));
-    parting(33, Priority(3), Priority(4));
-    parting(2, Priority(4), Priority(4));
-    parting(2, Priority(1), Priority(4));
-    parting(4, Priority(3), Priority(3));
+fn partings(rt: &impl Print) {
+    parting(rt, 4, Priority(5), Priority(3));
+    parting(rt, 4, Priority(3), Priority(5));
+    parting(rt, 1, Priority(0), Priority(1));
+    parting(rt, 1, Priority(1), Priority(0));
+    parting(rt, 32, Priority(0), Priority(2147483648));
+    parting(rt, 32, Priority(0), Priority(4294967295));
+    parting(rt, 32, Priority(0), Priority(1));
+    parting(rt, 32, Priority(4294967295), Priority(4294967294));
+    parting(rt, 31, Priority(0), Priority(4294967295));
+    parting(rt, 0, Priority(3), Priority(4));
+    parting(rt, 33, Priority(3), Priority(4));
+    parting(rt, 2, Priority(4), Priority(4));
+    parting(rt, 2, Priority(1), Priority(4));
+    parting(rt, 4, Priority(3), Priority(3));
 }
 
-fn steps() {
-    shown(b"a step at bit 2", tournament::step(state(Phase::AtBit(2))));
+fn steps(rt: &impl Print) {
     shown(
+        rt,
+        b"a step at bit 2",
+        tournament::step(state(Phase::AtBit(2))),
+    );
+    shown(
+        rt,
         b"a step with the winner a contender that is in",
         tournament::step(state(Phase::Finished(Row(2)))),
     );
     let mut t = state(Phase::Finished(Row(2)));
     t.marks[2] = false;
-    shown(b"a step with the winner marked out", tournament::step(t));
+    shown(
+        rt,
+        b"a step with the winner marked out",
+        tournament::step(t),
+    );
     t = state(Phase::AtBit(4));
     t.marks = [false; CONTENDERS];
     shown(
+        rt,
         b"a step at the last bit with none marked",
         tournament::step(t),
     );
     t = state(Phase::AtBit(4));
     t.marks[0] = false;
     shown(
+        rt,
         b"a step at the last bit with rows 1 and 2 marked",
         tournament::step(t),
     );
     t = state(Phase::AtBit(2));
     t.marks[1] = false;
     shown(
+        rt,
         b"a run from bit 2 with rows 0 and 2 marked",
         tournament::run(t),
     );
 }
 
-fn refusals() {
+fn refusals(rt: &impl Print) {
     let mut t = state(Phase::AtBit(9));
     t.count = 0;
     t.bits = 0;
-    shown(b"no contenders, no bits", tournament::step(t));
+    shown(rt, b"no contenders, no bits", tournament::step(t));
     t.count = 129;
-    shown(b"129 contenders, no bits", tournament::run(t));
+    shown(rt, b"129 contenders, no bits", tournament::run(t));
     t.count = 4;
-    shown(b"no bits, 99 in row 3, at bit 9", tournament::step(t));
+    shown(rt, b"no bits, 99 in row 3, at bit 9", tournament::step(t));
     t.bits = 4;
-    shown(b"99 in row 3, at bit 9", tournament::step(t));
+    shown(rt, b"99 in row 3, at bit 9", tournament::step(t));
     t.count = 3;
     t.priorities[2] = Priority(5);
-    shown(b"at bit 9, row 2 as row 0", tournament::run(t));
-    shown(b"at bit 0", tournament::step(state(Phase::AtBit(0))));
+    shown(rt, b"at bit 9, row 2 as row 0", tournament::run(t));
+    shown(rt, b"at bit 0", tournament::step(state(Phase::AtBit(0))));
     shown(
+        rt,
         b"row 3 of 3 has won",
         tournament::step(state(Phase::Finished(Row(3)))),
     );
     t = state(Phase::Finished(Row(0)));
     t.priorities[2] = Priority(5);
-    shown(b"finished, row 2 as row 0", tournament::step(t));
+    shown(rt, b"finished, row 2 as row 0", tournament::step(t));
     t = state(Phase::NoWinner);
     t.priorities[2] = Priority(3);
-    shown(b"no winner, row 2 as row 1", tournament::run(t));
+    shown(rt, b"no winner, row 2 as row 1", tournament::run(t));
     shown(
+        rt,
         b"a start of no contenders",
         tournament::start(4, 0, [Priority(0); CONTENDERS]),
     );
 }
 
-fn main() {
-    partings();
-    steps();
-    refusals();
+fn main(rt: HostRuntime) {
+    partings(&rt);
+    steps(&rt);
+    refusals(&rt);
 }

@@ -9,25 +9,24 @@ ghost use Rattle.std.specs.Prelude.{◌<◌, length};
 ghost use Rattle.carried.specs.Layout.{largest_file};
 
 use console::{Input, first, print_first, print_unreadable, read};
-use libc::STDIN_FILENO;
 use text::Put;
 
 // Of the n bytes that were read. The buffer has room for more than the largest file, so that no part of a file passes for all of it.
-fn show(file: &[u8], n: usize)
+fn show(rt: &impl Print, file: &[u8], n: usize)
     requires { largest_file < length file.now }
 {
     let mut out = desk::listing_buffer();
     match desk::show_waits(first(file, n), &mut out) {
-        Put::At(k) => print_first(&out, k),
+        Put::At(k) => print_first(rt, &out, k),
         // It holds every wait (WaitsFit, in desk's claims) and every refusal (LargestRefusal, in text's).
         Put::Full => {}
     }
 }
 
-fn main() {
+fn main(rt: HostRuntime) {
     let mut file = desk::file_buffer();
-    match read(STDIN_FILENO, &mut file) {
-        Input::Bytes(n) => show(&file, n),
-        Input::Failed => print_unreadable(b"waits", b"standard input"),
+    match read(&mut rt.stdin(), &mut file) {
+        Input::Bytes(n) => show(&rt, &file, n),
+        Input::Failed => print_unreadable(&rt, b"waits", b"standard input"),
     }
 }

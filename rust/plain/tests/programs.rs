@@ -2,7 +2,7 @@
 //! of the gate, on drawn plans and tournaments, and on input that comes byte by byte. The expected text is made here, from the
 //! plain planner's answers; for the cases it is what stands in their files.
 //!
-//! They are built first (`rt check`), or the first call here proves them.
+//! They are built first (`./run`), or the first call here proves them.
 
 mod common;
 
