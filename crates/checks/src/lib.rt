@@ -162,7 +162,8 @@ fn check_slots(words: &[u32; CARRIED], n: usize) -> Checked
 {
     let timing = timing_in(words);
     let slot = timing.p;
-    if slot == 0 {
+    let none = slot == 0;
+    if none {
         return Checked::Fine;
     }
     let c = overheads_of(timing);

@@ -53,7 +53,8 @@ fn with_digit(value: u64, c: u8) -> u64
         return TICKS + 1;
     }
     let next = value * 10 + (c - b'0') as u64;
-    if TICKS < next {
+    let beyond = TICKS < next;
+    if beyond {
         return TICKS + 1;
     }
     next

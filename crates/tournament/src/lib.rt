@@ -59,7 +59,8 @@ fn heard(t: Tournament, k: u32) -> bool
     for i in 0..count {
         let p = t.priorities[i];
         if t.marks[i] {
-            if bit(p, bits, k) == 0 {
+            let low = bit(p, bits, k) == 0;
+            if low {
                 return true;
             }
         }

@@ -57,7 +57,8 @@ pub fn write_words(
         Checked::Fine => {}
     }
     let bytes = size(Edition::Three, n as u16, m as u16);
-    if buf.len() < bytes {
+    let no_room = buf.len() < bytes;
+    if no_room {
         return Written::Refused(Refusal {
             number: 6,
             place: 0,

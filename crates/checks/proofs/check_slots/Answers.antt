@@ -58,15 +58,15 @@ worked_out : (c : After-overheads_of-c) → let t = c.before.before in
     Beside t.args.words.now t.timing_in-timing.result.p (c.overheads_of-c.result.lead + c.overheads_of-c.result.u)
 worked_out c =
     let e = c.timing_in-timing.ensures ∙ timing_held (entered_timing_in c.args.words.now) c.requires.timing_within in
-    beside_is c.args.words.now _ _ c.overheads_of-c.result (ap (λ (x : Timing). x.p) e) c.if-slot-eq0.false c.requires.timing_within
+    beside_is c.args.words.now _ _ c.overheads_of-c.result (ap (λ (x : Timing). x.p) e) c.if-none.false c.requires.timing_within
     (c.overheads_of-c.ensures ∙ ap overheads_of e)
     refl
 
-pub returns-then-slot-eq0 : goal.returns-then-slot-eq0
-returns-then-slot-eq0 c =
+pub returns-then-none : goal.returns-then-none
+returns-then-none c =
     let a = c.args in
-    let none : (timing_in a.words.now).p ≡ 0 = ap (λ (t : Timing). t.p) (sym c.timing_in-timing.ensures) ∙ c.if-slot-eq0.true in
-    sym (passed _ _ ((finds_nothing (long a.words.now a.n) 0 _).1 (λ k x y. none_at_all a.words.now a.n k none)) ∙ nothing_given)
+    let idle : (timing_in a.words.now).p ≡ 0 = ap (λ (t : Timing). t.p) (sym c.timing_in-timing.ensures) ∙ c.if-none.true in
+    sym (passed _ _ ((finds_nothing (long a.words.now a.n) 0 _).1 (λ k x y. none_at_all a.words.now a.n k idle)) ∙ nothing_given)
 
 pub loop-r-init : goal.loop-r-init
 loop-r-init c =

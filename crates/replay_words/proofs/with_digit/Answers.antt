@@ -22,14 +22,14 @@ returns-then-c-gt57 c =
     let a = c.args in
     rw (le-leb a.value ticks c.if-value-gt-TICKS.false, le-leb 48 a.c c.if-c-lt48.false, lt-leb a.c 57 c.if-c-gt57.true) refl
 
-pub returns-then-next-gt-TICKS : goal.returns-then-next-gt-TICKS
+pub returns-then-beyond : goal.returns-then-beyond
 unfolding with_digit
-returns-then-next-gt-TICKS c =
+returns-then-beyond c =
     let a = c.args in
-    rw (le-leb a.value ticks c.if-value-gt-TICKS.false, le-leb 48 a.c c.if-c-lt48.false, le-leb a.c 57 c.if-c-gt57.false, lt-leb (a.value * 10 + (a.c - 48)) ticks c.if-next-gt-TICKS.true) refl
+    rw (le-leb a.value ticks c.if-value-gt-TICKS.false, le-leb 48 a.c c.if-c-lt48.false, le-leb a.c 57 c.if-c-gt57.false, lt-leb (a.value * 10 + (a.c - 48)) ticks c.if-beyond.true) refl
 
 pub returns : goal.returns
 unfolding with_digit
 returns c =
     let a = c.args in
-    rw (le-leb a.value ticks c.if-value-gt-TICKS.false, le-leb 48 a.c c.if-c-lt48.false, le-leb a.c 57 c.if-c-gt57.false, le-leb (a.value * 10 + (a.c - 48)) ticks c.if-next-gt-TICKS.false) refl
+    rw (le-leb a.value ticks c.if-value-gt-TICKS.false, le-leb 48 a.c c.if-c-lt48.false, le-leb a.c 57 c.if-c-gt57.false, le-leb (a.value * 10 + (a.c - 48)) ticks c.if-beyond.false) refl

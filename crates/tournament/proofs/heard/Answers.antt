@@ -5,12 +5,12 @@ use Rattle.tournament.specs.Rule.{in_with_zero, heard_at}
 use borrow.Author.Rules.{rules}
 use Rattle.tournament.proofs.heard.Goals as goal
 
-pub returns-then-bit-eq0 : goal.returns-then-bit-eq0
+pub returns-then-low : goal.returns-then-low
 unfolding heard_at
-returns-then-bit-eq0 c =
+returns-then-low c =
     let l = c.loop-i in
     let a = c.args in
-    let zero = eq-eqb _ _ (sym c.bit.ensures ∙ c.if-bit-eq0.true) in
+    let zero = eq-eqb _ _ (sym c.bit-low.ensures ∙ c.if-low.true) in
     sym (some_at (in_with_zero a.t a.k) a.t.count l.i (search rules) (rw (c.if-t-i.true, zero) refl))
 
 pub returns : goal.returns

@@ -48,15 +48,15 @@ overflow_cast-n c = omega (arith, few_here (goal.at.overflow_cast-n c).In-Fine)
 pub overflow_cast-m : goal.overflow_cast-m
 overflow_cast-m c = omega (arith, few_here (goal.at.overflow_cast-m c).In-Fine)
 
-pub returns-then-buf-bytes-clause-value : goal.returns-then-buf-bytes-clause-value
-returns-then-buf-bytes-clause-value c =
-    let f = (goal.at.returns-then-buf-bytes-clause-value c).In-Fine in
-    (both (write_no_room c.args.edition c.args.n c.args.m (asked c.args.n c.args.m c.args.words.now) c.args.buf.now (fine f) (omega (arith, c.if-buf-bytes.true, c.size-bytes.ensures)))).0
+pub returns-then-no_room-clause-value : goal.returns-then-no_room-clause-value
+returns-then-no_room-clause-value c =
+    let f = (goal.at.returns-then-no_room-clause-value c).In-Fine in
+    (both (write_no_room c.args.edition c.args.n c.args.m (asked c.args.n c.args.m c.args.words.now) c.args.buf.now (fine f) (omega (arith, c.if-no_room.true, c.size-bytes.ensures)))).0
 
-pub returns-then-buf-bytes-clause-buf_after : goal.returns-then-buf-bytes-clause-buf_after
-returns-then-buf-bytes-clause-buf_after c =
-    let f = (goal.at.returns-then-buf-bytes-clause-buf_after c).In-Fine in
-    (both (write_no_room c.args.edition c.args.n c.args.m (asked c.args.n c.args.m c.args.words.now) c.args.buf.now (fine f) (omega (arith, c.if-buf-bytes.true, c.size-bytes.ensures)))).1
+pub returns-then-no_room-clause-buf_after : goal.returns-then-no_room-clause-buf_after
+returns-then-no_room-clause-buf_after c =
+    let f = (goal.at.returns-then-no_room-clause-buf_after c).In-Fine in
+    (both (write_no_room c.args.edition c.args.n c.args.m (asked c.args.n c.args.m c.args.words.now) c.args.buf.now (fine f) (omega (arith, c.if-no_room.true, c.size-bytes.ensures)))).1
 
 pub put_file-requires-clause-timing_value : goal.put_file-requires-clause-timing_value
 unfolding entered_in
@@ -73,11 +73,11 @@ put_file-requires-clause-m_le_sources c = (few_here (goal.at.put_file-requires-c
 pub returns-clause-value : goal.returns-clause-value
 returns-clause-value c =
     let f = (goal.at.returns-clause-value c).In-Fine in
-    let (x, y) = both (write_fine c.args.edition c.args.n c.args.m (asked c.args.n c.args.m c.args.words.now) c.args.buf.now (fine f) (omega (arith, c.if-buf-bytes.false, c.size-bytes.ensures))) in
+    let (x, y) = both (write_fine c.args.edition c.args.n c.args.m (asked c.args.n c.args.m c.args.words.now) c.args.buf.now (fine f) (omega (arith, c.if-no_room.false, c.size-bytes.ensures))) in
     ap Bytes c.size-bytes.ensures ∙ x
 
 pub returns-clause-buf_after : goal.returns-clause-buf_after
 returns-clause-buf_after c =
     let f = (goal.at.returns-clause-buf_after c).In-Fine in
-    let (x, y) = both (write_fine c.args.edition c.args.n c.args.m (asked c.args.n c.args.m c.args.words.now) c.args.buf.now (fine f) (omega (arith, c.if-buf-bytes.false, c.size-bytes.ensures))) in
+    let (x, y) = both (write_fine c.args.edition c.args.n c.args.m (asked c.args.n c.args.m c.args.words.now) c.args.buf.now (fine f) (omega (arith, c.if-no_room.false, c.size-bytes.ensures))) in
     c.put_file.ensures ∙ y
