@@ -10,7 +10,7 @@ use Rattle.carried.proofs.most_streams.Reads as most-streams
 use Rattle.carried.proofs.record_at.Kinds as record-at-kinds
 use Rattle.carried.proofs.record_at.Reads as record-at
 use Rattle.carried.proofs.has_word.Kinds as has-word-kinds
-use Rattle.carried.proofs.has_word.Reads as Has-word
+use Rattle.carried.proofs.has_word.Reads as has_word
 use Rattle.carried.proofs.in_bodies.Kinds as in-bodies-kinds
 use Rattle.carried.proofs.in_bodies.Reads as in-bodies
 use Rattle.carried.proofs.timing_words.Kinds as timing-words-kinds
@@ -42,7 +42,7 @@ most_streams_one κs a x y ws us p q = (p ∙ sym q, refl)
 pub record_at_one : OneOutcome 0 record-at-kinds.ps record-at-kinds.r record-at.Post
 record_at_one κs a x y ws us p q = (p.0 ∙ sym q.0, refl)
 
-pub has_word_one : OneOutcome 0 has-word-kinds.ps has-word-kinds.r Has-word.Post
+pub has_word_one : OneOutcome 0 has-word-kinds.ps has-word-kinds.r has_word.Post
 has_word_one κs a x y ws us p q = (p ∙ sym q, refl)
 
 pub in_bodies_one : OneOutcome 0 in-bodies-kinds.ps in-bodies-kinds.r in-bodies.Post

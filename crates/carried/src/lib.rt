@@ -12,7 +12,7 @@ ghost use Rattle.std.proofs.Math.Seq.{paste};
 ghost use Rattle.names.specs.Limits as limit;
 ghost use Rattle.laws.specs.Lists.{placed};
 ghost use Rattle.plan.specs.Plan.{plan_of};
-ghost use Rattle.plan.specs.Plan.{blank as noStream};
+ghost use Rattle.plan.specs.Plan.{blank as no_stream};
 ghost use Rattle.carried.specs.Layout as layout;
 ghost use Rattle.carried.specs.Carried.{held_timing, held, plain_timing};
 ghost use Rattle.carried.specs.Carried.{entered_timing_in, stream_in, streams_in, gaps_in, entered_in};
@@ -350,7 +350,7 @@ fn stream_in(words: &[u32], k: usize) -> Stream
 
 // What stands in the unused places for streams.
 pub fn no_streams() -> [Stream; STREAMS]
-    ensures { result ≡ replicate limit.streams noStream }
+    ensures { result ≡ replicate limit.streams no_stream }
 {
     let zeros = [0; STREAM];
     [stream_in(&zeros, 0); STREAMS]
@@ -358,7 +358,7 @@ pub fn no_streams() -> [Stream; STREAMS]
 
 fn streams_in(words: &[u32; CARRIED], n: usize) -> [Stream; STREAMS]
     requires { n ≤ limit.streams }
-    ensures { result ≡ placed limit.streams noStream (streams_in n words.now) }
+    ensures { result ≡ placed limit.streams no_stream (streams_in n words.now) }
 {
     let mut out = no_streams();
     for r in 0..n {

@@ -4,7 +4,7 @@
 // std's to say. A write that fails is passed over. This crate knows of the names alone.
 #![tactic(auto)]
 
-ghost use Rattle.std.specs.Prelude.{◌≡◌, take};
+ghost use Rattle.std.specs.Prelude.{◌≡◌, take, IsSome, IsUtf8};
 ghost use Rattle.console.specs.Input.{InBuffer};
 
 use names::Refusal;
@@ -21,7 +21,9 @@ pub enum Input {
 }
 
 // Opens the file of this name for reading. A name that is no text (UTF-8) opens nothing.
-pub fn open<R: Files>(rt: &R, name: &[u8]) -> Option<R::File> {
+pub fn open<R: Files>(rt: &R, name: &[u8]) -> Option<R::File>
+    ensures { IsSome result → IsUtf8 name.now }
+{
     let Ok(path) = str::from_utf8(name) else {
         return None;
     };

@@ -10,7 +10,7 @@ use types.Logic.{Logic}
 use contract.Monad.{Fun, fact_mono}
 use denote.Triple.Walked.{needs}
 use Rattle.laws.specs.Determined.{OneOutcome}
-use Rattle.screen.specs.Determined.{OneOutcomeByHand as OneOutcome·walked}
+use Rattle.screen.specs.Determined.{OneOutcomeByHand}
 use Rattle.outside.proofs.livnakesh_answers.Kinds as answers-kinds
 use Rattle.outside.proofs.livnakesh_answers.Reads as answers
 use Rattle.outside.proofs.livnakesh_rewrite.Kinds as rewrite-kinds
@@ -49,6 +49,6 @@ pub livnakesh_step_one : OneOutcome 2 step-kinds.ps step-kinds.r step.Post
 livnakesh_step_one κs a x y ws us p q = (p.0 ∙ sym q.0, ap (λ (l : List ℕ). (tt, (tt, (tt, (tt, (l, tt)))))) (p.1 ∙ sym q.1))
 
 module _ {M : Type 1} {𝓤 : Ura M} (𝓛 : Logic 𝓤) (mem : Memory → SProp 𝓤) (run : Routine → Fun 𝓤) where
-  pub livnakesh_screen_one : OneOutcome·walked 𝓤 screen.ended (screen.clauses 𝓛 mem run)
+  pub livnakesh_screen_one : OneOutcomeByHand 𝓤 screen.ended (screen.clauses 𝓛 mem run)
   livnakesh_screen_one κs a g x y ws us =
       needs 𝓤 _ _ (λ q. fact_mono 𝓤 _ _ (λ p. (p.0 ∙ sym q.0, ap (λ (l : List ℕ). (tt, (tt, (tt, (l, tt))))) (p.1 ∙ sym q.1))))

@@ -13,7 +13,7 @@ use Rattle.plan.specs.declared.Sheet.{Sheet}
 use Rattle.plan.specs.Plan.{plan_of, blank}
 use Rattle.plan.specs.contracts.Sheet as sheet
 
--- a function is handed this of a parameter that is a sheet, as `.good .0 .1 .1` of the first
+-- a function is handed this of a parameter that is a sheet, as `.well_formed.0.1.1` of the first
 abbrev pub Owned : Sheet → Type 0
 Owned s =
     (vss : Valss (declared.shape sheet.the_type).fields) × shadow (owns (declared.shape sheet.the_type).fields ((sheet.the_type).to s) vss)

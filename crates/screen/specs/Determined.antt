@@ -1,4 +1,4 @@
--- What it is for the contract of a function that is proved by hand to determine its outcome, stated over its clauses: two outcomes of one
+-- What it is for the contract of a function that is lent records to determine its outcome, stated over its clauses: two outcomes of one
 -- call that its `ensures` allows at once are equal, the result and all that lent memory ends with.
 use Rattle.std.specs.Prelude.{◌≡◌}
 use seplogic.Ra.Ura.{Ura}
