@@ -6,7 +6,7 @@ use native.Mathlib.Nat.{le_refl, sub-zero}
 use native.Mathlib.Omega.{arith}
 use Rattle.names.specs.Limits.{ticks}
 use Rattle.laws.specs.Lists.{ceil}
-use Rattle.laws.specs.declared.Found.TheVariants.{At}
+use Rattle.std.specs.Prelude.{Some}
 use Rattle.bound.specs.Terms.{Terms}
 use Rattle.bound.specs.Bound.{side_L, busy}
 use Rattle.bound.specs.Evaluations.{chain, searched}
@@ -92,5 +92,5 @@ module _ {r : Terms} (s : Sound r) {e : Ended} (a : EndsAs r e) where
   pub ended_none : (D : ℕ) → ticks < e.last → no_bound e.evaluations ≡ searched r D
   ended_none D h = searched-none r D e.evaluations ((ends_beyond r s).1 (omega (arith, a.last))) a.count
 
-  pub ended_busy : e.last ≤ ticks → busy r ≡ At e.last
+  pub ended_busy : e.last ≤ ticks → busy r ≡ Some e.last
   ended_busy h = (ends_at_l r s e.last).1 (sym a.last, h)

@@ -13,7 +13,7 @@ use Rattle.laws.specs.Lists.{ceil, rows}
 use Rattle.laws.specs.Signed.{max_Z, largest_to, FirstLargest}
 use Rattle.laws.proofs.Round.{ceil_room}
 use Rattle.laws.proofs.Signed.{largest_start, largest_more, first_start, first_more}
-use Rattle.laws.specs.declared.Found.TheVariants.{At}
+use Rattle.std.specs.Prelude.{Some}
 use Rattle.laws.proofs.Chain.{least_later, least_agrees}
 use Rattle.bound.specs.Terms.{Terms}
 use Rattle.bound.specs.Bound.{side_W, busy, Q, w, term}
@@ -39,7 +39,7 @@ pub record WaitSearch (r : Terms) (L : ℕ) (costs periods edges : List ℕ) (n 
   pub low : from ≤ w r q
   pub rises : from ≤ side_W r q from
 
-module _ {r : Terms} {L : ℕ} (s : Sound r) (b : busy r ≡ At L) where
+module _ {r : Terms} {L : ℕ} (s : Sound r) (b : busy r ≡ Some L) where
   -- w(q) is B + q × C'' at least, and within the limit
   pub above_base : (q : ℕ) → q < Q r L → r.B + q * r.own.C'' ≤ w r q
   above_base q h = omega (arith, (w_exists r s L q b h).0.fixed, side_W_parts r q (w r q))

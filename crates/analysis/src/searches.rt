@@ -5,7 +5,6 @@
 ghost use Rattle.std.specs.Prelude.{◌≡◌, ◌+◌, ◌*◌, ◌^◌, ◌≤◌, ◌<◌, pos, ◌-ℤ◌};
 ghost use Rattle.names.specs.Limits.{ticks};
 ghost use Rattle.laws.specs.Lists.{ceil};
-ghost use Rattle.laws.specs.declared.Found.TheVariants.{At};
 ghost use Rattle.bound.specs.Bound as rule;
 ghost use Rattle.bound.specs.Evaluations.{searched};
 ghost use Rattle.terms.specs.Gathered.{lent, terms_of};
@@ -180,7 +179,7 @@ fn largest_term<'a>(
     nearest: &mut [u64],
 ) -> Worst
     requires fit { Fit (lent g costs.now periods.now jitters.now) }
-    requires jitters_value { rule.busy (terms_of (lent g costs.now periods.now jitters.now)) ≡ At l }
+    requires jitters_value { rule.busy (terms_of (lent g costs.now periods.now jitters.now)) ≡ Some l }
     requires room { Room (g.sources + g.urgent) edges.old nearest.old }
     ensures bound_value { result.bound ≡ rule.bound (terms_of (lent g costs.now periods.now jitters.now)) l }
     ensures instance_value { result.instance ≡ rule.worst (terms_of (lent g costs.now periods.now jitters.now)) l }

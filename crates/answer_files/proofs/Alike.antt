@@ -1,7 +1,8 @@
 -- The file of what is entered is answered as the values are. Assumes nothing.
 use mathlib.Core.Path.{◌≡◌, refl, sym, ap, ◌∙◌}
 use lib.ListN.{length}
-use Rattle.judge.specs.declared.Checked.{Checked, TheVariants.Fine, TheVariants.Refused}
+use Rattle.std.specs.Prelude.{Ok, Err}
+use Rattle.judge.specs.Table.{Checked}
 use Rattle.judge.specs.Table.{judge}
 use Rattle.checks.specs.Checks.{lines}
 use Rattle.carried.specs.declared.Edition.TheVariants.{Three}
@@ -22,7 +23,7 @@ file_alike v few quiet fits out =
   where
     go : (c : Checked) → judge (lines Three (length v.streams) (length v.gaps) v) ≡ c
         → answer_read (read_as c (meant v)).answer (read_as c (meant v)).sheet out ≡ answer_with Answers Three (length v.streams) (length v.gaps) v out
-    go Fine d =
+    go (Ok _) d =
         sheet_answered Answers (meant v) (sheet_of (meant v)) (record { plan = one_sheet (meant v) few quiet; count = refl; sources = refl }) out
         ∙ answered_alike Answers out Three (length v.streams) (length v.gaps) v d
-    go (Refused r) d = sym (refused_is Answers Three (length v.streams) (length v.gaps) v out r d)
+    go (Err r) d = sym (refused_is Answers Three (length v.streams) (length v.gaps) v out r d)

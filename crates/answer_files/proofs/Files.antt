@@ -4,7 +4,8 @@ use mathlib.Core.List.{List}
 use Prim.Native.Nat.{ℕ}
 use lib.ListN.{replicate}
 use Rattle.names.specs.declared.Refusal.{Refusal}
-use Rattle.judge.specs.declared.Checked.{Checked, TheVariants.Refused}
+use Rattle.std.specs.Prelude.{Err}
+use Rattle.judge.specs.Table.{Checked}
 use Rattle.carried.specs.declared.Edition.{Edition}
 use Rattle.carried.specs.Layout as layout
 use Rattle.carried.specs.Carried.{entered_in}
@@ -18,10 +19,10 @@ use Rattle.answer_files.specs.AnswerFiles.{answer_read, answer_file_of}
 
 module _ (bs out : List ℕ) where
   abbrev no : Refusal → Checked × List ℕ
-  no r = (Refused r, out)
+  no r = (Err r, out)
 
   -- whose contents are refused
-  pub file_refused : (r : Refusal) → counts_of bs ≡ Counts-as-Refused r → answer_file_of bs out ≡ (Refused r, out)
+  pub file_refused : (r : Refusal) → counts_of bs ≡ Counts-as-Refused r → answer_file_of bs out ≡ (Err r, out)
   unfolding answer_of answer_file_of
   file_refused r e =
       not_counted (λ c s. answer_read c s out) no (λ x n m p. answer_with Answers x n m p out) (λ s. refl) (λ r s. refl) (λ x n m p. outcome.refused_is Answers x n m p out) (outcome.answered_alike Answers out) bs r e

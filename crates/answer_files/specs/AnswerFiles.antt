@@ -2,7 +2,8 @@
 use Rattle.std.specs.Prelude.{◌≡◌, List, ℕ, ◌^◌, ◌≤◌, length}
 use Rattle.names.specs.Limits.{streams, sources}
 use Rattle.words.specs.Words.{Below}
-use Rattle.judge.specs.declared.Checked.{Checked, TheVariants.Fine, TheVariants.Refused}
+use Rattle.std.specs.Prelude.{Ok, Err}
+use Rattle.judge.specs.Table.{Checked}
 use Rattle.plan.specs.declared.Sheet.{Sheet}
 use Rattle.carried.specs.declared.Edition.TheVariants.{Three}
 use Rattle.carried.specs.Carried.{Entered}
@@ -12,8 +13,8 @@ use Rattle.answers.specs.Answers.{answer_with, answer_of}
 
 -- a refused file is refused, and what was read is answered
 abbrev pub answer_read : Checked → Sheet → List ℕ → Checked × List ℕ
-answer_read Fine s out = answer_of Answers s out
-answer_read (Refused r) s out = (Refused r, out)
+answer_read (Ok _) s out = answer_of Answers s out
+answer_read (Err r) s out = (Err r, out)
 
 unfoldable pub answer_file_of : List ℕ → List ℕ → Checked × List ℕ
 answer_file_of bs out = answer_read (read_of bs).answer (read_of bs).sheet out

@@ -10,17 +10,16 @@ ghost use Rattle.answer_files.specs.AnswerFiles.{answer_file_of};
 use answers::{Told, answer_words};
 use carried::CARRIED;
 use file::Counts;
-use judge::Checked;
 use reader::carry;
 
 // The answers of a file's plan, or the first refusal of 1, 2, 3, 11, 4, 5, 10, 6 that applies.
-pub fn answer_file(bytes: &[u8], out: &mut [u64]) -> Checked
+pub fn answer_file(bytes: &[u8], out: &mut [u64]) -> Result<(), Refusal>
     ensures value { result ≡ (answer_file_of bytes.now out.old).0 }
     ensures out_after { out.new ≡ (answer_file_of bytes.now out.old).1 }
 {
     let mut words = [0; CARRIED];
     match carry(bytes, &mut words) {
-        Counts::Refused(r) => Checked::Refused(r),
+        Counts::Refused(r) => Err(r),
         Counts::Of(edition, n, m) => answer_words(Told::Answers, edition, &words, n, m, out),
     }
 }

@@ -7,7 +7,8 @@ use lib.ListN.{length}
 use Rattle.names.specs.declared.Refusal.{Refusal}
 use Rattle.plan.specs.declared.Sheet.{Sheet}
 use Rattle.plan.specs.Plan.{plan_of}
-use Rattle.judge.specs.declared.Checked.{Checked, TheVariants.Fine, TheVariants.Refused}
+use Rattle.std.specs.Prelude.{Ok, Err}
+use Rattle.judge.specs.Table.{Checked}
 use Rattle.judge.specs.Table.{judge, unless}
 use Rattle.carried.specs.declared.Edition.{Edition, TheVariants.Three}
 use Rattle.carried.specs.Carried.{Entered, meant, plainly}
@@ -21,23 +22,23 @@ use Rattle.answers.specs.declared.Told.{Told}
 use Rattle.answers.specs.Answers.{per_row, too_few, laid_in, answer_as, answer_with}
 
 module _ (told : Told) (edition : Edition) (n m : ℕ) (v : Entered) (out : List ℕ) where
-  pub refused_is : (r : Refusal) → judge (lines edition n m v) ≡ Refused r → answer_with told edition n m v out ≡ (Refused r, out)
+  pub refused_is : (r : Refusal) → judge (lines edition n m v) ≡ Err r → answer_with told edition n m v out ≡ (Err r, out)
   unfolding answer_with
   refused_is r e = ap (λ k. answer_as told k n (meant v) out) (refused_then (lines edition n m v) (too_few told n out) r e)
 
-  module _ (e : judge (lines edition n m v) ≡ Fine) where
-    pub too_few_is : length out < per_row told * n → answer_with told edition n m v out ≡ (Refused (record { number = 6; place = 0 }), out)
+  module _ (e : judge (lines edition n m v) ≡ Ok tt) where
+    pub too_few_is : length out < per_row told * n → answer_with told edition n m v out ≡ (Err (record { number = 6; place = 0 }), out)
     unfolding answer_with
     too_few_is h =
         ap (λ k. answer_as told k n (meant v) out) (fine_then (lines edition n m v) (too_few told n out) e ∙ given _ [] 0 (ap unless (lt-leb _ _ h)))
 
-    pub words_are : per_row told * n ≤ length out → answer_with told edition n m v out ≡ (Fine, laid_in told (meant v) n out)
+    pub words_are : per_row told * n ≤ length out → answer_with told edition n m v out ≡ (Ok tt, laid_in told (meant v) n out)
     unfolding answer_with
     words_are h =
         ap (λ k. answer_as told k n (meant v) out) (fine_then (lines edition n m v) (too_few told n out) e ∙ passed _ [] (ap unless (le-leb _ _ h)) ∙ nothing_given)
 
 -- what is fine is answered alike, in whatever edition it was read, and with a LAG as its plan with none
-pub answered_alike : (told : Told) (out : List ℕ) (edition : Edition) (n m : ℕ) (v : Entered) → judge (lines edition n m v) ≡ Fine
+pub answered_alike : (told : Told) (out : List ℕ) (edition : Edition) (n m : ℕ) (v : Entered) → judge (lines edition n m v) ≡ Ok tt
     → answer_with told Three n m (plainly (meant v)) out ≡ answer_with told edition n m v out
 unfolding answer_with
 answered_alike told out edition n m v e =
@@ -55,5 +56,5 @@ module _ (told : Told) (s : Sheet) (o : Owned s) (out : List ℕ) where
   same_answer = ap (λ k. answer_as told k s.count (meant (entered_in_words s o)) out) (same_lines s o (too_few told s.count out)) ∙ go (judge (lines Three s.count s.sources plain ++ too_few told s.count out)) refl
     where
       go : (k : Checked) → judge (lines Three s.count s.sources plain ++ too_few told s.count out) ≡ k → answer_as told k s.count (meant (entered_in_words s o)) out ≡ answer_as told k s.count (meant plain) out
-      go Fine e = ap (λ v. answer_as told Fine s.count (meant v) out) (same_entered_if_fine s o (too_few told s.count out) e)
-      go (Refused r) e = refl
+      go (Ok _) e = ap (λ v. answer_as told (Ok tt) s.count (meant v) out) (same_entered_if_fine s o (too_few told s.count out) e)
+      go (Err r) e = refl

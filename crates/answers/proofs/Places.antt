@@ -7,7 +7,7 @@ use lib.ListN.{length, get_or}
 use Rattle.laws.specs.Lists.{rows}
 use Rattle.laws.proofs.Lists.{rows_at, rows_map, length_rows}
 use Rattle.plan.specs.Plan.{blank}
-use Rattle.judge.specs.declared.Checked.TheVariants.{Fine}
+use Rattle.std.specs.Prelude.{Ok}
 use Rattle.judge.specs.Table.{judge}
 use Rattle.checks.specs.Checks.{priorities, lines}
 use Rattle.checks.proofs.Fine.{meant_is_right}
@@ -16,7 +16,7 @@ use Rattle.carried.specs.Layout as layout
 use Rattle.carried.specs.Carried.{entered_in}
 use Rattle.answers.specs.private.Gather.{PlacesWithin, row_stream, urgency}
 
-pub fine_places : (edition : Edition) (ws : List ℕ) (n m : ℕ) → judge (lines edition n m (entered_in n m ws)) ≡ Fine → PlacesWithin ws n m
+pub fine_places : (edition : Edition) (ws : List ℕ) (n m : ℕ) → judge (lines edition n m (entered_in n m ws)) ≡ Ok tt → PlacesWithin ws n m
 unfolding entered_in
 fine_places edition ws n m e =
     let r = meant_is_right edition n m (entered_in n m ws) e in

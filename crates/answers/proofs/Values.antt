@@ -15,13 +15,13 @@ use Rattle.carried.specs.Carried.{plainly}
 use Rattle.carried.proofs.Plans.{meant_plainly}
 use Rattle.checks.specs.Checks.{checked_of}
 use Rattle.checks.proofs.Fine.{fine_within}
-use Rattle.judge.specs.declared.Checked.TheVariants.{Fine}
+use Rattle.std.specs.Prelude.{Ok}
 use Rattle.answers.specs.declared.Told.{Told, TheVariants.Answers, TheVariants.Waits}
 use Rattle.answers.specs.Answers.{told_words, per_row, laid_in, answer_with, answer_of, RowsAnswered, WaitsAnswered, SheetAnswered}
 use Rattle.answers.proofs.Outcome as outcome
 
 -- the words of a sheet that is fine are its plan's, and there are as many streams as it counts
-module _ (s : Sheet) (e : checked_of s ≡ Fine) where
+module _ (s : Sheet) (e : checked_of s ≡ Ok tt) where
   words_of : (told : Told) (out : List ℕ) → per_row told * s.count ≤ length out → (answer_of told s out).1 ≡ laid_in told (plan_of s) s.count out
   unfolding checked_of answer_of
   words_of told out h =

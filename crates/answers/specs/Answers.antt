@@ -1,7 +1,8 @@
 -- The answers, or the waits, of what is entered into lent memory, and the refusals that go with them.
 use Rattle.std.specs.Prelude.{◌≡◌, ℕ, ◌*◌, ◌≤◌, leb, length, drop}
 use mathlib.Core.List.{List, [], ◌∷◌, ◌++◌, map, flat_map}
-use Rattle.judge.specs.declared.Checked.{Checked, TheVariants.Fine, TheVariants.Refused}
+use Rattle.std.specs.Prelude.{Ok, Err}
+use Rattle.judge.specs.Table.{Checked}
 use Rattle.judge.specs.Table.{Line, judge, unless}
 use Rattle.bound.specs.Evaluations.{evaluations}
 use Rattle.row_words.specs.RowWords.{row_words, words_per_row, wait_words, words_per_wait, answers_in, evaluations_in, waits_in}
@@ -39,8 +40,8 @@ laid_in told p n out = told_words told p ++ drop (per_row told * n) out
 
 -- the answer, and the lent words after it: with the rows' at the start, or all as found
 abbrev pub answer_as : Told → Checked → ℕ → Plan → List ℕ → Checked × List ℕ
-answer_as told Fine n p out = (Fine, laid_in told p n out)
-answer_as told (Refused r) n p out = (Refused r, out)
+answer_as told (Ok _) n p out = (Ok tt, laid_in told p n out)
+answer_as told (Err r) n p out = (Err r, out)
 
 -- of what is entered in a file of an edition and said to be n streams and m gaps: the lines of its values, then 6; it is the plan that is
 -- meant that is answered
@@ -56,7 +57,7 @@ answer_of told s out = answer_with told Three s.count s.sources (plainly (plan_o
 -- where a sheet is fine and there is room, its words say of every row the rules' answer and the number of evaluations, ..
 abbrev pub RowsAnswered : Type 0
 RowsAnswered =
-    (s : Sheet) (out : List ℕ) → checked_of s ≡ Fine → words_per_row * s.count ≤ length out
+    (s : Sheet) (out : List ℕ) → checked_of s ≡ Ok tt → words_per_row * s.count ≤ length out
     → let ws = (answer_of Answers s out).1 in
     let p = plan_of s in
     (answers_in s.count ws ≡ answers p) × (evaluations_in s.count ws ≡ map (λ i. evaluations (terms p i)) p.streams)
@@ -64,7 +65,7 @@ RowsAnswered =
 -- .. or that number and its limit
 abbrev pub WaitsAnswered : Type 0
 WaitsAnswered =
-    (s : Sheet) (out : List ℕ) → checked_of s ≡ Fine → words_per_wait * s.count ≤ length out
+    (s : Sheet) (out : List ℕ) → checked_of s ≡ Ok tt → words_per_wait * s.count ≤ length out
     → waits_in s.count (answer_of Waits s out).1 ≡ waits (plan_of s)
 
 -- s is a sheet of the plan p: its unused places may hold anything

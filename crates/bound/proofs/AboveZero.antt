@@ -13,7 +13,7 @@ use lib.IntN.{pos, negsuc, ◌-ℤ◌}
 use lib.Signed.{le_z}
 use Rattle.laws.specs.Lists.{sum_of}
 use Rattle.laws.specs.Search.{first}
-use Rattle.laws.specs.declared.Found.TheVariants.{At}
+use Rattle.std.specs.Prelude.{Some}
 use Rattle.laws.proofs.Round.{ceil_at_most}
 use Rattle.laws.proofs.Chain.{least_below}
 use Rattle.bound.specs.Terms.{Terms}
@@ -38,7 +38,7 @@ sides r s q x h =
       E-mono r x (x + r.own.C'') (omega arith),
     )
 
-module _ (r : Terms) (s : Sound r) (L q : ℕ) (b : busy r ≡ At L) (h : q < Q r L) where
+module _ (r : Terms) (s : Sound r) (L q : ℕ) (b : busy r ≡ Some L) (h : q < Q r L) where
   -- those before it are through
   above : q * r.own.C'' ≤ w r q
   unfolding side_W

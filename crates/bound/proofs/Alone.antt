@@ -9,7 +9,7 @@ use lib.Dec.{T, leb→le}
 use lib.IntN.{pos}
 use lib.Signed.{le_z}
 use Rattle.laws.specs.Lists.{ceil, sum_of}
-use Rattle.laws.specs.declared.Found.TheVariants.{At}
+use Rattle.std.specs.Prelude.{Some}
 use Rattle.laws.proofs.Round.{ceil_covers}
 use Rattle.laws.proofs.Signed.{diff_back}
 use Rattle.bound.specs.Terms.{Terms}
@@ -27,7 +27,7 @@ pub no_noise : (r : Terms) → r.gaps ≡ [] → (x : ℕ) → E r x ≡ 0
 unfolding E sum_of
 no_noise r quiet x = ap (λ ns. sum_of (λ N. ceil x N) ns * r.hit) quiet ∙ zero-mul r.hit
 
-module _ (r : Terms) (s : Sound r) (L : ℕ) (b : busy r ≡ At L) (nobody : r.urgent ≡ []) (quiet : r.gaps ≡ []) where
+module _ (r : Terms) (s : Sound r) (L : ℕ) (b : busy r ≡ Some L) (nobody : r.urgent ≡ []) (quiet : r.gaps ≡ []) where
   -- w(q) = B + q × C''
   alone_w : (q : ℕ) → q < Q r L → w r q ≡ r.B + q * r.own.C''
   unfolding side_W

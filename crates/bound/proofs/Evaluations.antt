@@ -11,7 +11,7 @@ use borrow.Author.Tests.{eqb-true, eq-eqb, ltb-true, lt-ltb}
 use lib.Dec.{eqb, ltb}
 use Rattle.names.specs.Limits.{ticks}
 use Rattle.laws.specs.Search.{or_zero}
-use Rattle.laws.specs.declared.Found.{Found, TheVariants.At, TheVariants.Nothing}
+use Rattle.std.specs.Prelude.{Option, Some, None}
 use Rattle.laws.proofs.Search.{first_is, le_unless}
 use Rattle.laws.proofs.Chain.{Climb, climb_start, climb_more, climb_found, climb_none}
 use Rattle.bound.specs.Terms.{Terms}
@@ -83,7 +83,7 @@ module _ {r : Terms} where
     pub counted_none : ticks < x → k ≡ evaluations r
     counted_none h = sym (last_counts r k (beyond_fits h) (beyond_last h))
 
-    pub none_busy : ticks < x → Nothing ≡ busy r
+    pub none_busy : ticks < x → None ≡ busy r
     unfolding busy
     none_busy h = sym (climb_none (side_L r) 1 ticks x (omega arith) n.climb)
 
@@ -112,7 +112,7 @@ module _ {r : Terms} where
       pub counted_found : y ≡ x → k + 1 ≡ evaluations r
       counted_found d = sym (last_counts r (k + 1) counted_fits (found_last d))
 
-      pub found_busy : y ≡ x → At x ≡ busy r
+      pub found_busy : y ≡ x → Some x ≡ busy r
       unfolding busy
       found_busy d = sym (climb_found (side_L r) 1 ticks x y e d (omega arith) n.climb)
 
@@ -154,18 +154,18 @@ ends r s = walk r ticks 0 1 (counted_start s) (omega arith)
 
 -- ---- what the chain's end says
 -- L is where it stands still
-pub found_says : (r : Terms) (k x : ℕ) → Counted r k x → x ≤ ticks → side_L r x ≡ x → (busy r ≡ At x) × (evaluations r ≡ k + 1) × (chain r (evaluations r) ≡ x)
+pub found_says : (r : Terms) (k x : ℕ) → Counted r k x → x ≤ ticks → side_L r x ≡ x → (busy r ≡ Some x) × (evaluations r ≡ k + 1) × (chain r (evaluations r) ≡ x)
 found_says r k x n h e =
     let q = sym (counted_found n (sym e) h refl) in
     (sym (found_busy n (sym e) h refl), q, ap (chain r) q ∙ sym (next_value n (sym e) h))
 
-pub beyond_says : (r : Terms) (k x : ℕ) → Counted r k x → ticks < x → (busy r ≡ Nothing) × (evaluations r ≡ k) × (chain r (evaluations r) ≡ x)
+pub beyond_says : (r : Terms) (k x : ℕ) → Counted r k x → ticks < x → (busy r ≡ None) × (evaluations r ≡ k) × (chain r (evaluations r) ≡ x)
 beyond_says r k x n h =
     let q = sym (counted_none n h) in
     (sym (none_busy n h), q, ap (chain r) q ∙ sym n.value)
 
 -- there is no L, or one
-either : {L : ℕ} {f : Found} → f ≡ At L → f ≡ Nothing → ⊥
+either : {L : ℕ} {f : Option ℕ} → f ≡ Some L → f ≡ None → ⊥
 either d e = let z : ◌≡◌ {A = ℕ} 0 1 = cc in omega arith
 
 pub counts_to_last : CountsToLast
@@ -186,10 +186,10 @@ counts_to_last r s k = (λ e. subst (IsLast r) e (last (ends r s)), one)
 pub ends_at_l : EndsAtL
 ends_at_l r s L = go (ends r s)
   where
-    go : End r → (busy r ≡ At L) ↔ ((chain r (evaluations r) ≡ L) × (L ≤ ticks))
+    go : End r → (busy r ≡ Some L) ↔ ((chain r (evaluations r) ≡ L) × (L ≤ ticks))
     go (found k x n h e) =
         let (b, q, v) = found_says r k x n h e in
-        (λ d. let z : x ≡ L = ap or_zero (sym b ∙ d) in (v ∙ z, omega arith), λ d. b ∙ ap At (sym v ∙ d.0))
+        (λ d. let z : x ≡ L = ap or_zero (sym b ∙ d) in (v ∙ z, omega arith), λ d. b ∙ ap Some (sym v ∙ d.0))
     go (beyond k x n h) =
         let (b, q, v) = beyond_says r k x n h in
         (λ d. absurd (either d b), λ d. absurd (omega (arith, v, d.0, d.1)))
@@ -197,7 +197,7 @@ ends_at_l r s L = go (ends r s)
 pub ends_beyond : EndsBeyond
 ends_beyond r s = go (ends r s)
   where
-    go : End r → (busy r ≡ Nothing) ↔ (ticks < chain r (evaluations r))
+    go : End r → (busy r ≡ None) ↔ (ticks < chain r (evaluations r))
     go (found k x n h e) =
         let (b, q, v) = found_says r k x n h e in
         (λ d. absurd (either b d), λ d. absurd (omega (arith, v)))

@@ -6,7 +6,7 @@ use native.Mathlib.Omega.{arith}
 use mathlib.Core.Logic.{inr}
 use Rattle.names.specs.Limits.{ticks}
 use Rattle.laws.specs.Lists.{ceil}
-use Rattle.laws.specs.declared.Found.TheVariants.{Nothing}
+use Rattle.std.specs.Prelude.{None}
 use Rattle.laws.proofs.Round.{ceil_pos, ceil_at_most}
 use Rattle.bound.specs.Terms.{Terms}
 use Rattle.bound.specs.Bound.{side_L, busy}
@@ -58,7 +58,7 @@ module _ (r : Terms) (s : Sound r) (c e : ℕ) (some : 1 ≤ c) (one : 1 ≤ e) 
   beyond : ticks < chain r (suc last)
   beyond = omega (arith, values last, suc-mul last c, lt-div-mul-add {a = ticks - e} some)
 
-  pub steady : (busy r ≡ Nothing) × (evaluations r ≡ last + 1)
+  pub steady : (busy r ≡ None) × (evaluations r ≡ last + 1)
   steady =
       let e = (counts_to_last r s (suc last)).1 (record { some = omega arith; ends = inr beyond; new = λ k h l. new k h; within = within }) in
       ((ends_beyond r s).1 (rw e beyond), e ∙ omega arith)

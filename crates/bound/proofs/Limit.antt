@@ -7,7 +7,7 @@ use native.Mathlib.Nat.{le_refl, le_trans, le-div_iff_mul-le, suc-mul, zero-mul,
 use native.Mathlib.Omega.{arith}
 use Rattle.names.specs.Limits.{ticks}
 use Rattle.laws.specs.Lists.{sum_of, smallest_of}
-use Rattle.laws.specs.declared.Found.{Found, TheVariants.At, TheVariants.Nothing}
+use Rattle.std.specs.Prelude.{Option, Some, None}
 use Rattle.laws.proofs.Round.{ceil_mono}
 use Rattle.laws.proofs.Lists.{sum_mono}
 use Rattle.laws.proofs.Smallest.{smallest_first}
@@ -87,9 +87,9 @@ pub x_fits : (r : Terms) → X r ≤ ticks
 unfolding X
 x_fits r = go (busy r) refl
   where
-    go : (f : Found) → busy r ≡ f → or_ticks f ≤ ticks
-    go (At L) e = ((busy_is_least r L).0 e).0
-    go Nothing e = omega arith
+    go : (f : Option ℕ) → busy r ≡ f → or_ticks f ≤ ticks
+    go (Some L) e = ((busy_is_least r L).0 e).0
+    go None e = omega arith
 
 pub limit_fits : (r : Terms) → limit r ≤ ticks + 1
 unfolding limit

@@ -7,7 +7,7 @@ use native.Mathlib.Omega.{arith}
 use lib.Dec.{eqb, ltb}
 use lib.IntN.{pos, nat_abs, ◌-ℤ◌}
 use Rattle.names.specs.Limits.{ticks}
-use Rattle.laws.specs.declared.Found.{Found, TheVariants.At, TheVariants.Nothing}
+use Rattle.std.specs.Prelude.{Option, Some, None}
 use Rattle.laws.specs.Search.{first, first_fixed, or_zero}
 use Rattle.laws.specs.Signed.{largest_to, first_largest}
 use Rattle.bound.specs.Terms.{Share, Terms}
@@ -51,9 +51,9 @@ module _ (r : Terms) (js : List Share) (same : (t : ℕ) → demand js t ≡ dem
   unfolding answer
   same_answer D = ap (answer_for instead D) busy_same ∙ go (busy r)
     where
-      go : (f : Found) → answer_for instead D f ≡ answer_for r D f
-      go Nothing = refl
-      go (At L) = ap₂ (λ b q. record { verdict = verdict b D; bound = b; instance = q }) (bound_same L) (worst_same L)
+      go : (f : Option ℕ) → answer_for instead D f ≡ answer_for r D f
+      go None = refl
+      go (Some L) = ap₂ (λ b q. record { verdict = verdict b D; bound = b; instance = q }) (bound_same L) (worst_same L)
 
   -- ---- the chain for L
   chain_same : (k : ℕ) → chain instead k ≡ chain r k

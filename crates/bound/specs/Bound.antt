@@ -4,7 +4,7 @@ use Rattle.names.specs.Limits.{ticks}
 use Rattle.laws.specs.Lists.{ceil, sum_of}
 use Rattle.laws.specs.Search.{first_fixed, or_zero}
 use Rattle.laws.specs.Signed.{largest_to, first_largest}
-use Rattle.laws.specs.declared.Found.{Found, TheVariants.At, TheVariants.Nothing}
+use Rattle.std.specs.Prelude.{Option, Some, None}
 use Rattle.bound.specs.declared.Verdict.{Verdict, TheVariants.Met, TheVariants.Missed, TheVariants.None}
 use Rattle.bound.specs.declared.Answer.{Answer}
 use Rattle.bound.specs.Terms.{Share, Terms}
@@ -22,7 +22,7 @@ unfoldable pub side_L : Terms → ℕ → ℕ
 side_L r L = r.B + demand (r.own ∷ r.urgent) L + E r L
 
 -- the busy period L: the least POSITIVE whole number that is its own right side, or none at most 4,294,967,295
-unfoldable pub busy : Terms → Found
+unfoldable pub busy : Terms → Option ℕ
 busy r = first_fixed (side_L r) 1 ticks
 
 -- Q = ceil((L + J) / T)
@@ -54,9 +54,9 @@ abbrev pub verdict : ℕ → ℕ → Verdict
 verdict b D = cond (leb b D) Met Missed
 
 -- the answer of a stream with the deadline D
-abbrev pub answer_for : Terms → ℕ → Found → Answer
-answer_for r D Nothing = record { verdict = None; bound = 0; instance = 0 }
-answer_for r D (At L) = record { verdict = verdict (bound r L) D; bound = bound r L; instance = worst r L }
+abbrev pub answer_for : Terms → ℕ → Option ℕ → Answer
+answer_for r D None = record { verdict = None; bound = 0; instance = 0 }
+answer_for r D (Some L) = record { verdict = verdict (bound r L) D; bound = bound r L; instance = worst r L }
 
 unfoldable pub answer : Terms → ℕ → Answer
 answer r D = answer_for r D (busy r)

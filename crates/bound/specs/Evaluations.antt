@@ -3,7 +3,7 @@ use Rattle.std.specs.Prelude.{◌≡◌, Bool, ◌||◌, [], ◌↔◌, ◌⊎�
 use Rattle.names.specs.Limits.{ticks}
 use Rattle.laws.specs.Lists.{smallest_of}
 use Rattle.laws.specs.Search.{first, or_zero}
-use Rattle.laws.specs.declared.Found.{Found, TheVariants.At, TheVariants.Nothing}
+use Rattle.std.specs.Prelude.{Option, Some, None}
 use Rattle.bound.specs.declared.Searched.{Searched}
 use Rattle.bound.specs.declared.Wait.{Wait}
 use Rattle.bound.specs.Terms.{Terms}
@@ -24,9 +24,9 @@ unfoldable pub evaluations : Terms → ℕ
 evaluations r = or_zero (first (stops r) 1 ticks)
 
 -- X: L, or 4,294,967,295 for none
-abbrev pub or_ticks : Found → ℕ
-or_ticks (At L) = L
-or_ticks Nothing = ticks
+abbrev pub or_ticks : Option ℕ → ℕ
+or_ticks (Some L) = L
+or_ticks None = ticks
 
 unfoldable pub X : Terms → ℕ
 X r = or_ticks (busy r)
@@ -66,11 +66,11 @@ CountsToLast = (r : Terms) → Sound r → (k : ℕ) → (evaluations r ≡ k) �
 
 -- the chain ends at L exactly if L exists, ..
 abbrev pub EndsAtL : Type 0
-EndsAtL = (r : Terms) → Sound r → (L : ℕ) → (busy r ≡ At L) ↔ ((chain r (evaluations r) ≡ L) × (L ≤ ticks))
+EndsAtL = (r : Terms) → Sound r → (L : ℕ) → (busy r ≡ Some L) ↔ ((chain r (evaluations r) ≡ L) × (L ≤ ticks))
 
 -- .. and beyond 4,294,967,295 exactly for none
 abbrev pub EndsBeyond : Type 0
-EndsBeyond = (r : Terms) → Sound r → (busy r ≡ Nothing) ↔ (ticks < chain r (evaluations r))
+EndsBeyond = (r : Terms) → Sound r → (busy r ≡ None) ↔ (ticks < chain r (evaluations r))
 
 -- where each C'' is a tick at least, and a hit costs no less than the smallest, ..
 pub record Paid (r : Terms) : Type 0 where
@@ -97,10 +97,10 @@ pub record Full (r : Terms) : Type 0 where
 abbrev pub FullLate : Type 0
 FullLate =
     (r : Terms) → Sound r → Full r → r.B ≡ 0 → r.own.J ≡ r.own.C''
-    → (busy r ≡ Nothing) × (evaluations r ≡ ticks / r.own.C'')
+    → (busy r ≡ None) × (evaluations r ≡ ticks / r.own.C'')
 
 -- .. and where there is no jitter, but some blocking
 abbrev pub FullBlocked : Type 0
 FullBlocked =
     (r : Terms) → Sound r → Full r → r.own.J ≡ 0 → 1 ≤ r.B → r.B ≤ r.own.C''
-    → (busy r ≡ Nothing) × (evaluations r ≡ (ticks - r.B) / r.own.C'' + 1)
+    → (busy r ≡ None) × (evaluations r ≡ (ticks - r.B) / r.own.C'' + 1)

@@ -11,7 +11,6 @@ mod list;
 use console::{Input, first, open, print, print_number, print_unreadable, read};
 use std::io::Read;
 use std::rt::Files;
-use text::Put;
 
 // The longest list of cases, in bytes.
 const LIST: usize = 65536;
@@ -24,32 +23,32 @@ fn first_are(shown: &[u8], k: usize, expected: &[u8]) -> bool {
 fn listing_is(file: &[u8], must: &[u8]) -> bool {
     let mut out = desk::listing_buffer();
     match desk::show(file, &mut out) {
-        Put::At(k) => first_are(&out, k, must),
-        Put::Full => false,
+        Some(k) => first_are(&out, k, must),
+        None => false,
     }
 }
 
 fn waits_are(file: &[u8], must: &[u8]) -> bool {
     let mut out = desk::listing_buffer();
     match desk::show_waits(file, &mut out) {
-        Put::At(k) => first_are(&out, k, must),
-        Put::Full => false,
+        Some(k) => first_are(&out, k, must),
+        None => false,
     }
 }
 
 fn refusal_is(file: &[u8], must: &[u8]) -> bool {
     let mut out = desk::file_buffer();
     match desk::show_refusal(file, &mut out) {
-        Put::At(k) => first_are(&out, k, must),
-        Put::Full => false,
+        Some(k) => first_are(&out, k, must),
+        None => false,
     }
 }
 
 fn file_is(file: &[u8], must: &[u8]) -> bool {
     let mut out = desk::file_buffer();
     match desk::show_file(file, &mut out) {
-        Put::At(k) => first_are(&out, k, must),
-        Put::Full => false,
+        Some(k) => first_are(&out, k, must),
+        None => false,
     }
 }
 
@@ -77,8 +76,8 @@ fn again_is(file: &[u8], again: &[u8], must: &[u8]) -> bool {
 fn file_again(file: &[u8], must: &[u8]) -> bool {
     let mut out = desk::file_buffer();
     match desk::show_file(file, &mut out) {
-        Put::At(k) => again_is(file, first(&out, k), must),
-        Put::Full => false,
+        Some(k) => again_is(file, first(&out, k), must),
+        None => false,
     }
 }
 

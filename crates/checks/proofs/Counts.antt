@@ -12,7 +12,8 @@ use Rattle.names.specs.Limits.{streams, sources}
 use Rattle.names.specs.declared.Refusal.{Refusal}
 use Rattle.laws.proofs.Lists.{length_rows}
 use Rattle.laws.proofs.Tests.{both}
-use Rattle.judge.specs.declared.Checked.{Checked, TheVariants.Fine, TheVariants.Refused}
+use Rattle.std.specs.Prelude.{Ok, Err}
+use Rattle.judge.specs.Table.{Checked}
 use Rattle.judge.specs.Table.{Line, judge, unless, ◌then◌}
 use Rattle.judge.proofs.Table.{given, passed, nothing_given, not_given, unless_not, refused_not_fine, refused_then, judged_in_turn}
 use Rattle.carried.specs.declared.Edition.{Edition}
@@ -49,24 +50,24 @@ module _ (edition : Edition) (n m : ℕ) where
         | no many ↦ out (too_many (lt_of_not-le many))
       ]
 
-  pub range_refused : in_range edition n m ≡ false → judge (range_lines edition n m) ≡ Refused (record { number = 2; place = 0 })
+  pub range_refused : in_range edition n m ≡ false → judge (range_lines edition n m) ≡ Err (record { number = 2; place = 0 })
   range_refused e = given _ _ 0 (ap unless e)
 
-  pub range_fine : 1 ≤ n → n ≤ layout.most_streams edition → m ≤ sources → judge (range_lines edition n m) ≡ Fine
+  pub range_fine : 1 ≤ n → n ≤ layout.most_streams edition → m ≤ sources → judge (range_lines edition n m) ≡ Ok tt
   range_fine a b c = passed _ _ (ap unless (within_range a b c)) ∙ nothing_given
 
-  pub range_number : (r : Refusal) → judge (range_lines edition n m) ≡ Refused r → r ≡ record { number = 2; place = 0 }
+  pub range_number : (r : Refusal) → judge (range_lines edition n m) ≡ Err r → r ≡ record { number = 2; place = 0 }
   range_number r e = go (in_range edition n m) refl
     where
       go : (t : Bool) → in_range edition n m ≡ t → r ≡ record { number = 2; place = 0 }
       go true d = absurd (refused_not_fine (sym e ∙ passed _ _ (ap unless d) ∙ nothing_given))
-      go false d = let same : ◌≡◌ {A = Checked} (Refused r) (Refused (record { number = 2; place = 0 })) = sym e ∙ range_refused d in cc
+      go false d = let same : ◌≡◌ {A = Checked} (Err r) (Err (record { number = 2; place = 0 })) = sym e ∙ range_refused d in cc
 
-  pub fine_range : judge (range_lines edition n m) ≡ Fine → (1 ≤ n) × (n ≤ streams) × (m ≤ sources)
+  pub fine_range : judge (range_lines edition n m) ≡ Ok tt → (1 ≤ n) × (n ≤ streams) × (m ≤ sources)
   fine_range e = let (some, few, quiet) = range_within (unless_not (in_range edition n m) (not_given _ _ e).0) in (some, le_trans few (most_places edition), quiet)
 
   -- counts out of range are refused 2 at 0, whatever is entered and whatever comes after its lines
-  pub out_of_range : in_range edition n m ≡ false → (v : Entered) (more : List Line) → judge (lines edition n m v ++ more) ≡ Refused (record { number = 2; place = 0 })
+  pub out_of_range : in_range edition n m ≡ false → (v : Entered) (more : List Line) → judge (lines edition n m v ++ more) ≡ Err (record { number = 2; place = 0 })
   out_of_range e v more = refused_then (lines edition n m v) more _ (given _ _ 0 (ap (λ t. unless (t && eqb (length v.streams) n && eqb (length v.gaps) m)) e))
 
   -- what has as many streams and gaps as are said

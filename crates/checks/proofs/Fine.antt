@@ -9,7 +9,7 @@ use native.Mathlib.Omega.{arith}
 use borrow.Author.Tests.{eqb-true, leb-true, le-leb, lt-leb, le-ltb, ltb-false}
 use lib.Dec.{leb, ltb, eqb}
 use lib.ListN.{length}
-use Rattle.laws.specs.declared.Found.{Found, TheVariants.At, TheVariants.Nothing}
+use Rattle.std.specs.Prelude.{Option, Some, None, Ok, Err}
 use Rattle.laws.proofs.Tests.{apart, both}
 use Rattle.repeats.proofs.Repeats.{nothing_if_distinct}
 use Rattle.laws.proofs.Rows.{finds_nothing}
@@ -27,26 +27,25 @@ use Rattle.carried.proofs.Plans.{meant_plainly}
 use Rattle.fields.specs.Fields.{fields, SlotWithin}
 use Rattle.fields.proofs.Inside.{nothing_if_inside}
 use Rattle.fields.proofs.Limits.{inside_if_fields_within, slot_three}
-use Rattle.judge.specs.declared.Checked.TheVariants.{Fine, Refused}
 use Rattle.judge.specs.Table.{Line, judge, unless_at, unless, row_in}
 use Rattle.checks.specs.Checks.{in_range, counted, byte_in, lag_lines, priorities, labels, lines, checked_of, Right, FineIfRight, FineWithin}
 use Rattle.judge.proofs.Table.{given, passed, nothing_given, not_given, unless_at_not, unless_not, row_not}
 use Rattle.checks.proofs.Counts.{range_within, within_range, counted_so}
 
 -- ---- a line that is not given
-pub byte_not : (edition : Edition) (n : ℕ) (f : Found) → byte_in edition n f ≡ Nothing → f ≡ Nothing
-byte_not edition n (At k) e = absurd (apart e)
-byte_not edition n Nothing e = refl
+pub byte_not : (edition : Edition) (n : ℕ) (f : Option ℕ) → byte_in edition n f ≡ None → f ≡ None
+byte_not edition n (Some k) e = absurd (apart e)
+byte_not edition n None e = refl
 
 -- 11 is given exactly where ETG + LAG is above 65,535, whatever lines come after it
 module _ (t : EnteredTiming) (more : List Line) where
   pub lag_passed : t.etg + t.lag ≤ constant → judge (lag_lines t ++ more) ≡ judge more
   lag_passed h = passed _ _ (ap (unless_at _) (le-leb _ constant h))
 
-  pub lag_given : constant < t.etg + t.lag → judge (lag_lines t ++ more) ≡ Refused (record { number = 11; place = layout.byte_of layout.etg_at })
+  pub lag_given : constant < t.etg + t.lag → judge (lag_lines t ++ more) ≡ Err (record { number = 11; place = layout.byte_of layout.etg_at })
   lag_given h = given _ _ _ (ap (unless_at _) (lt-leb _ constant h))
 
-  pub lag_fine : judge (lag_lines t ++ more) ≡ Fine → t.etg + t.lag ≤ constant
+  pub lag_fine : judge (lag_lines t ++ more) ≡ Ok tt → t.etg + t.lag ≤ constant
   lag_fine e = leb-true _ constant (unless_at_not _ _ (not_given _ _ e).0)
 
 -- a timing that is within the limits is so with another constant for its ETG
@@ -82,7 +81,7 @@ fine_if_right edition n m v = (right, fine)
     p : Plan
     p = meant v
 
-    right : judge (lines edition n m v) ≡ Fine → SlotWithin edition v.timing.p × (n ≤ layout.most_streams edition) × Right n m p
+    right : judge (lines edition n m v) ≡ Ok tt → SlotWithin edition v.timing.p × (n ≤ layout.most_streams edition) × Right n m p
     right e =
         let (two, e₃) = not_given _ _ e in
         let (three, e₁₁) = not_given _ _ e₃ in
@@ -118,7 +117,7 @@ fine_if_right edition n m v = (right, fine)
           },
         )
 
-    fine : SlotWithin edition v.timing.p × (n ≤ layout.most_streams edition) × Right n m p → judge (lines edition n m v) ≡ Fine
+    fine : SlotWithin edition v.timing.p × (n ≤ layout.most_streams edition) × Right n m p → judge (lines edition n m v) ≡ Ok tt
     fine (is, few, r) =
         let w = r.within in
         let range = within_range edition n m (omega (arith, w.some_stream, r.count)) few (omega (arith, w.sources, r.sources)) in
@@ -132,18 +131,18 @@ fine_if_right edition n m v = (right, fine)
         ∙ nothing_given
 
 -- a right plan is meant by what is fine, in whatever edition
-pub meant_is_right : (edition : Edition) (n m : ℕ) (v : Entered) → judge (lines edition n m v) ≡ Fine → Right n m (meant v)
+pub meant_is_right : (edition : Edition) (n m : ℕ) (v : Entered) → judge (lines edition n m v) ≡ Ok tt → Right n m (meant v)
 meant_is_right edition n m v e = ((fine_if_right edition n m v).0 e).2
 
 -- a right plan is fine when it is entered, and then only, ..
-pub right_is_fine : (n m : ℕ) (p : Plan) → Right n m p → judge (lines Three n m (plainly p)) ≡ Fine
+pub right_is_fine : (n m : ℕ) (p : Plan) → Right n m p → judge (lines Three n m (plainly p)) ≡ Ok tt
 right_is_fine n m p r = (fine_if_right Three n m (plainly p)).1 (slot_three p.timing.p r.within.timing.p, omega (arith, r.within.count, r.count), rw (meant_plainly p) r)
 
-pub fine_is_right : (n m : ℕ) (p : Plan) → judge (lines Three n m (plainly p)) ≡ Fine → Right n m p
+pub fine_is_right : (n m : ℕ) (p : Plan) → judge (lines Three n m (plainly p)) ≡ Ok tt → Right n m p
 fine_is_right n m p e = rw (meant_plainly p) at (meant_is_right Three n m (plainly p) e)
 
 -- .. so what is meant by what is fine in a file of any edition is fine in one of edition 3
-pub fine_when_meant : (edition : Edition) (n m : ℕ) (v : Entered) → judge (lines edition n m v) ≡ Fine → judge (lines Three n m (plainly (meant v))) ≡ Fine
+pub fine_when_meant : (edition : Edition) (n m : ℕ) (v : Entered) → judge (lines edition n m v) ≡ Ok tt → judge (lines Three n m (plainly (meant v))) ≡ Ok tt
 fine_when_meant edition n m v e = right_is_fine n m (meant v) (meant_is_right edition n m v e)
 
 -- a right plan has as many streams and gaps as it has

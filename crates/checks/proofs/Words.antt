@@ -12,7 +12,7 @@ use Rattle.carried.specs.declared.Edition.TheVariants.{Three}
 use Rattle.carried.specs.Carried.{Entered, plainly, entered_in, values_of, in_places}
 use Rattle.plan.proofs.Places.{Owned, stream_places, gap_places}
 use Rattle.carried.proofs.Plans.{own_places}
-use Rattle.judge.specs.declared.Checked.TheVariants.{Fine}
+use Rattle.std.specs.Prelude.{Ok}
 use Rattle.judge.specs.Table.{Line, judge}
 use Rattle.checks.specs.Checks.{in_range, lines, checked_of}
 use Rattle.judge.proofs.Table.{fine_parts}
@@ -45,7 +45,7 @@ unfolding checked_of
 same_check s o = same_lines s o []
 
 -- .. and a sheet that is fine has its own plan in its words
-pub same_entered_if_fine : (s : Sheet) (o : Owned s) (more : List Line) → judge (lines Three s.count s.sources (plainly (plan_of s)) ++ more) ≡ Fine
+pub same_entered_if_fine : (s : Sheet) (o : Owned s) (more : List Line) → judge (lines Three s.count s.sources (plainly (plan_of s)) ++ more) ≡ Ok tt
     → entered_in_words s o ≡ plainly (plan_of s)
 same_entered_if_fine s o more e =
     let r = fine_is_right s.count s.sources (plan_of s) (fine_parts (lines Three s.count s.sources (plainly (plan_of s))) more e).0 in

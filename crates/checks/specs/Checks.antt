@@ -2,10 +2,10 @@
 -- lines of their table. The order of the lines decides, and not the size of a number.
 use Rattle.std.specs.Prelude.{◌≡◌, Bool, ◌&&◌, List, [], ◌∷◌, ◌++◌, map, ◌↔◌, ℕ, ◌+◌, ◌≤◌, ◌<◌, leb, eqb, length, get_or}
 use Rattle.names.specs.Limits.{sources, constant, ticks}
-use Rattle.laws.specs.declared.Found.{Found, TheVariants.At, TheVariants.Nothing}
+use Rattle.std.specs.Prelude.{Option, Some, None, Ok}
+use Rattle.judge.specs.Table.{Checked}
 use Rattle.laws.specs.Search.{first}
 use Rattle.repeats.specs.Repeats.{first_repeat, Distinct}
-use Rattle.judge.specs.declared.Checked.{Checked, TheVariants.Fine}
 use Rattle.judge.specs.Table.{Line, judge, unless_at, unless, row_in}
 use Rattle.plan.specs.declared.Timing.{Timing}
 use Rattle.plan.specs.declared.Stream.{Stream}
@@ -35,9 +35,9 @@ counted edition n m v = in_range edition n m && eqb (length v.streams) n && eqb 
 -- ---- the fields
 
 -- the byte at which a field that was found stands in a plan file of an edition with n streams
-abbrev pub byte_in : Edition → ℕ → Found → Found
-byte_in edition n (At k) = At (layout.byte_of (layout.in_bodies edition n k))
-byte_in edition n Nothing = Nothing
+abbrev pub byte_in : Edition → ℕ → Option ℕ → Option ℕ
+byte_in edition n (Some k) = Some (layout.byte_of (layout.in_bodies edition n k))
+byte_in edition n None = None
 
 -- 3: a field is outside its limits (the lowest)
 abbrev pub field_lines : Edition → Entered → List Line
@@ -97,10 +97,10 @@ pub record Right (n m : ℕ) (p : Plan) : Type 0 where
 abbrev pub FineIfRight : Type 0
 FineIfRight =
     (edition : Edition) (n m : ℕ) (v : Entered)
-    → (judge (lines edition n m v) ≡ Fine) ↔ (SlotWithin edition v.timing.p × (n ≤ layout.most_streams edition) × Right n m (meant v))
+    → (judge (lines edition n m v) ≡ Ok tt) ↔ (SlotWithin edition v.timing.p × (n ≤ layout.most_streams edition) × Right n m (meant v))
 
 -- what a sheet that is fine promises
 abbrev pub FineWithin : Type 0
 FineWithin =
-    (s : Sheet) → checked_of s ≡ Fine
+    (s : Sheet) → checked_of s ≡ Ok tt
     → Within (plan_of s) × (length (plan_of s).streams ≡ s.count) × (length (plan_of s).gaps ≡ s.sources)

@@ -23,9 +23,9 @@ use carried::{
 };
 use costs::overheads_of;
 use fields::outside;
-use judge::{Checked, refused};
-use laws::{Found, smaller};
-use names::{CONSTANT, FEW, FoundRow, SOURCES, STREAMS};
+use judge::refused;
+use laws::smaller;
+use names::{CONSTANT, FEW, SOURCES, STREAMS};
 use plan::Sheet;
 use repeats::first_repeat;
 
@@ -54,7 +54,7 @@ fn put_column(words: &[u32; CARRIED], n: usize, k: usize, out: &mut [u32])
 }
 
 // The first row that repeats word k of an earlier one, by a column in a room that is large enough.
-fn repeat_in(words: &[u32; CARRIED], n: usize, k: usize, room: &mut [u32]) -> FoundRow
+fn repeat_in(words: &[u32; CARRIED], n: usize, k: usize, room: &mut [u32]) -> Option<Row>
     requires n_le_streams { n ≤ limit.streams }
     requires k_lt_stream_length { k < layout.stream_length }
     requires n_in_bounds { n ≤ length room.old }
@@ -65,7 +65,7 @@ fn repeat_in(words: &[u32; CARRIED], n: usize, k: usize, room: &mut [u32]) -> Fo
 }
 
 // Few rows have a small room.
-fn repeat_of(words: &[u32; CARRIED], n: usize, k: usize) -> FoundRow
+fn repeat_of(words: &[u32; CARRIED], n: usize, k: usize) -> Option<Row>
     requires n_le_streams { n ≤ limit.streams }
     requires k_lt_stream_length { k < layout.stream_length }
     ensures { result ≡ first_repeat (rows n (λ j. get_or words.now (layout.stream_at j + k) 0)) }
@@ -79,7 +79,7 @@ fn repeat_of(words: &[u32; CARRIED], n: usize, k: usize) -> FoundRow
 }
 
 // 2: n is not 1 to 256, in editions 1 and 2 not 1 to 64, or m is more than 8.
-pub fn check_counts(edition: Edition, n: usize, m: usize) -> Checked
+pub fn check_counts(edition: Edition, n: usize, m: usize) -> Result<(), Refusal>
     ensures { result ≡ judge (range_lines edition n m) }
 {
     if n < 1 {
@@ -91,7 +91,7 @@ pub fn check_counts(edition: Edition, n: usize, m: usize) -> Checked
     if SOURCES < m {
         return refused(2, 0);
     }
-    Checked::Fine
+    Ok(())
 }
 
 // Where in a file of n streams word k of those that are carried stands.
@@ -104,13 +104,18 @@ fn byte_of(edition: Edition, n: usize, k: usize) -> usize
 
 // 3: the byte of the lowest field outside its limits, of what is entered in the words of n streams and m gaps. Of counts past the limits
 // there are as many as there may be; with no stream the timing and the gaps alone are looked at.
-pub fn check_fields(edition: Edition, words: &[u32; CARRIED], n: usize, m: usize) -> Checked
+pub fn check_fields(
+    edition: Edition,
+    words: &[u32; CARRIED],
+    n: usize,
+    m: usize,
+) -> Result<(), Refusal>
     ensures { result ≡ judge (field_lines edition (entered_in (min n limit.streams) (min m limit.sources) words.now)) }
 {
     let rows = smaller(n, STREAMS);
     match outside(edition, words, n, m) {
-        Found::At(k) => refused(3, byte_of(edition, rows, k as usize)),
-        Found::Nothing => Checked::Fine,
+        Some(k) => refused(3, byte_of(edition, rows, k as usize)),
+        None => Ok(()),
     }
 }
 
@@ -122,27 +127,27 @@ fn too_much(etg: u32, lag: u32) -> bool
 }
 
 // 11: ETG + LAG is above 65,535.
-pub fn check_lag(words: &[u32; CARRIED]) -> Checked
+pub fn check_lag(words: &[u32; CARRIED]) -> Result<(), Refusal>
     ensures { result ≡ judge (lag_lines (entered_timing_in words.now)) }
 {
     if too_much(words[ETG], words[LAG]) {
         return refused(11, WORD * (CONTENTS + ETG));
     }
-    Checked::Fine
+    Ok(())
 }
 
 // 4 and 5: the lowest row that repeats an earlier row's priority, or else its label, among the first n streams in the words.
-pub fn check_rows(words: &[u32; CARRIED], n: usize) -> Checked
+pub fn check_rows(words: &[u32; CARRIED], n: usize) -> Result<(), Refusal>
     ensures { result ≡ judge (row_lines (streams_in (min n limit.streams) words.now)) }
 {
     let count = smaller(n, STREAMS);
     match repeat_of(words, count, PRIORITY) {
-        FoundRow::At(r) => return refused(4, r.0),
-        FoundRow::Nothing => {}
+        Some(r) => return refused(4, r.0),
+        None => {}
     }
     match repeat_of(words, count, LABEL) {
-        FoundRow::At(r) => refused(5, r.0),
-        FoundRow::Nothing => Checked::Fine,
+        Some(r) => refused(5, r.0),
+        None => Ok(()),
     }
 }
 
@@ -155,7 +160,7 @@ fn too_long(slot: u32, beside: u64, payload: u32, acknowledgement: u32) -> bool
 }
 
 // 10: the lowest row whose C'' exceeds P, where there is a master node.
-fn check_slots(words: &[u32; CARRIED], n: usize) -> Checked
+fn check_slots(words: &[u32; CARRIED], n: usize) -> Result<(), Refusal>
     requires timing_within { TimingWithin (timing_in words.now) }
     requires n_le_streams { n ≤ limit.streams }
     ensures { result ≡ judge (slot_lines (timing_in words.now) (streams_in n words.now)) }
@@ -164,7 +169,7 @@ fn check_slots(words: &[u32; CARRIED], n: usize) -> Checked
     let slot = timing.p;
     let none = slot == 0;
     if none {
-        return Checked::Fine;
+        return Ok(());
     }
     let c = overheads_of(timing);
     let beside = c.lead + c.u;
@@ -179,35 +184,28 @@ fn check_slots(words: &[u32; CARRIED], n: usize) -> Checked
             return refused(10, r);
         }
     }
-    Checked::Fine
+    Ok(())
 }
 
 // The first refusal of 2, 3, 11, 4, 5, 10 that applies to what is entered in the words of n streams and m gaps, as they stand in a file of an
 // edition.
-pub fn check_words(edition: Edition, words: &[u32; CARRIED], n: usize, m: usize) -> Checked
+pub fn check_words(
+    edition: Edition,
+    words: &[u32; CARRIED],
+    n: usize,
+    m: usize,
+) -> Result<(), Refusal>
     ensures { result ≡ judge (lines edition n m (entered_in n m words.now)) }
 {
-    match check_counts(edition, n, m) {
-        Checked::Refused(r) => return Checked::Refused(r),
-        Checked::Fine => {}
-    }
-    match check_fields(edition, words, n, m) {
-        Checked::Refused(r) => return Checked::Refused(r),
-        Checked::Fine => {}
-    }
-    match check_lag(words) {
-        Checked::Refused(r) => return Checked::Refused(r),
-        Checked::Fine => {}
-    }
-    match check_rows(words, n) {
-        Checked::Refused(r) => return Checked::Refused(r),
-        Checked::Fine => {}
-    }
+    check_counts(edition, n, m)?;
+    check_fields(edition, words, n, m)?;
+    check_lag(words)?;
+    check_rows(words, n)?;
     check_slots(words, n)
 }
 
 // The same of a sheet's values, with the places of edition 3.
-pub fn check(sheet: Sheet) -> Checked
+pub fn check(sheet: Sheet) -> Result<(), Refusal>
     ensures { result ≡ checked_of sheet }
 {
     let words = words_of(sheet);

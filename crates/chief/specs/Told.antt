@@ -1,7 +1,7 @@
 -- The one line that the rig chief is told of two plan files, byte by byte.
 use Rattle.std.specs.Prelude.{◌≡◌, List, [], ◌∷◌, ◌++◌, ◌↔◌, ℕ, ◌^◌, ◌≤◌, ◌<◌, get_or, length}
 use Rattle.names.specs.Limits.{ticks}
-use Rattle.judge.specs.declared.Checked.TheVariants.{Fine}
+use Rattle.std.specs.Prelude.{Ok}
 use Rattle.promise.specs.Lighter.{Lighter}
 use Rattle.compare.specs.declared.Reason.{Reason}
 use Rattle.compare.specs.declared.Reason.TheVariants.{MasterNode, GreaterConstant, NewLabel, ShorterPeriod, LongerJitter}
@@ -63,7 +63,7 @@ told_of old new = told_as (compared_files old new)
 abbrev pub ToldLighter : Type 0
 ToldLighter =
     (old new : List ℕ) → (told_of old new ≡ ascii "lighter\n")
-    ↔ (((read_of old).answer ≡ Fine) × ((read_of new).answer ≡ Fine) × Lighter (plan_from old) (plan_from new))
+    ↔ (((read_of old).answer ≡ Ok tt) × ((read_of new).answer ≡ Ok tt) × Lighter (plan_from old) (plan_from new))
 
 -- the label or the gap that a reason names
 abbrev pub named : Reason → ℕ

@@ -12,7 +12,7 @@ ghost use Rattle.chief.specs.Told as told;
 use compare::{Compared, Reason};
 use compare_files::lighter_files;
 use names::{Label, Refusal};
-use text::{Put, lay_label, lay_number, lay_refusal, lay_text};
+use text::{lay_label, lay_number, lay_refusal, lay_text};
 
 // The name of timing constant k, counted from 0; P comes last.
 fn lay_constant(out: &mut [u8], at: usize, k: usize) -> usize
@@ -111,14 +111,14 @@ fn lay_told(out: &mut [u8], at: usize, said: Compared) -> usize
 }
 
 // What is told of the old file's plan and the new one's, at the start of the buffer; the rest of it stays.
-pub fn told(old: &[u8], new: &[u8], out: &mut [u8]) -> Put
+pub fn told(old: &[u8], new: &[u8], out: &mut [u8]) -> Option<usize>
     ensures { Puts out.old 0 (told.told_of old.now new.now) result out.new }
 {
     let said = lighter_files(old, new);
     let size = out.len();
     let bytes = lay_told(out, size, said) - size;
     if size < bytes {
-        return Put::Full;
+        return None;
     }
-    Put::At(lay_told(out, 0, said))
+    Some(lay_told(out, 0, said))
 }

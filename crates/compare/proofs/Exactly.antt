@@ -11,7 +11,7 @@ use borrow.Author.Tests.{ltb-true, leb-true, leb-false, eqb-true, lt-ltb, le-leb
 use lib.Dec.{leb, ltb}
 use lib.ListN.{length, get_or, length-map, get_or-map}
 use Rattle.names.specs.declared.Label.{Label}
-use Rattle.laws.specs.declared.Found.{Found, TheVariants.At as Found-as-At, TheVariants.Nothing as Found-as-Nothing}
+use Rattle.std.specs.Prelude.{Option, Some, None, Ok}
 use Rattle.laws.proofs.Tests.{both}
 use Rattle.laws.specs.Rows.{some}
 use Rattle.laws.proofs.Rows.{is_false, some_passes, some_at, finds_lowest}
@@ -20,7 +20,6 @@ use Rattle.plan.specs.declared.Stream.{Stream}
 use Rattle.plan.specs.Plan.{Plan, blank, at}
 use Rattle.plan.specs.Rules.{has_master}
 use Rattle.promise.specs.Lighter.{SameKit, NoGreater, Eased, Lighter, NotRefused}
-use Rattle.compare.specs.declared.Change.TheVariants.{Nothing}
 use Rattle.compare.specs.declared.Reason.TheVariants.{MasterNode}
 use Rattle.compare.specs.Changes.{◌or◌, first_change, of_kit, constants_of, many_constants, grown, of_constants, row_of, eased, in_row, of_stream, number_in, number_under, overtakes, urgency, of_gap, of_streams, of_order, of_noise, changes}
 use Rattle.compare.specs.Claims.{LighterExactly}
@@ -38,7 +37,7 @@ as_itself : (a : Bool) → beq a a ≡ true
 as_itself true = refl
 as_itself false = refl
 
-pub same_kit : (old new : Timing) → of_kit old new ≡ Nothing → SameKit old new
+pub same_kit : (old new : Timing) → of_kit old new ≡ Ok tt → SameKit old new
 same_kit old new e = (none old new same, none new old (sym same))
   where
     same : has_master old ≡ has_master new
@@ -47,7 +46,7 @@ same_kit old new e = (none old new same, none new old (sym same))
     none : (s t : Timing) → has_master s ≡ has_master t → s.p ≡ 0 → t.p ≡ 0
     none s t d z = omega (arith, leb-false 1 t.p (sym d ∙ lt-leb 1 s.p (omega arith)))
 
-pub kit_nothing : (old new : Timing) → SameKit old new → of_kit old new ≡ Nothing
+pub kit_nothing : (old new : Timing) → SameKit old new → of_kit old new ≡ Ok tt
 kit_nothing old new k = must_true (beq (has_master old) (has_master new)) MasterNode (ap (λ t. beq t (has_master new)) same ∙ as_itself (has_master new))
   where
     same : has_master old ≡ has_master new
@@ -64,7 +63,7 @@ kit_nothing old new k = must_true (beq (has_master old) (has_master new)) Master
         ]
 
 -- ---- the constants
-pub no_greater : (old new : Timing) → of_constants old new ≡ Nothing → NoGreater old new
+pub no_greater : (old new : Timing) → of_constants old new ≡ Ok tt → NoGreater old new
 no_greater old new d =
     record {
       f = least 0 (omega arith);
@@ -81,13 +80,13 @@ no_greater old new d =
     least : (k : ℕ) → k < many_constants → get_or (constants_of new) k 0 ≤ get_or (constants_of old) k 0
     least k h = passes _ _ _ ((nothing_if_none (grown (constants_of old) (constants_of new)) many_constants).0 d k h)
 
-pub constants_nothing : (old new : Timing) → NoGreater old new → of_constants old new ≡ Nothing
+pub constants_nothing : (old new : Timing) → NoGreater old new → of_constants old new ≡ Ok tt
 unfolding first_change
 constants_nothing old new n =
     rw (le-leb _ _ n.f, le-leb _ _ n.e, le-leb _ _ n.tfcs, le-leb _ _ n.swx, le-leb _ _ n.h, le-leb _ _ n.g, le-leb _ _ n.etg, le-leb _ _ n.nb, le-leb _ _ n.p) refl
 
 -- ---- a stream beside the one that it stands in
-pub eases : (old new : Stream) → eased old new ≡ Nothing → Eased old new
+pub eases : (old new : Stream) → eased old new ≡ Ok tt → Eased old new
 unfolding eased
 eases old new e =
     let (period, e₀) = passes_then _ _ _ _ e in
@@ -96,7 +95,7 @@ eases old new e =
     let (deadline, e₃) = passes_then _ _ _ _ e₂ in
     record { period = period; deadline = deadline; jitter = jitter; payload = payload; acknowledgement = passes _ _ _ e₃ }
 
-pub eased_nothing : (old new : Stream) → Eased old new → eased old new ≡ Nothing
+pub eased_nothing : (old new : Stream) → Eased old new → eased old new ≡ Ok tt
 unfolding eased
 eased_nothing old new h =
     sym
@@ -107,7 +106,7 @@ eased_nothing old new h =
     (sym (no_reason _ _ _ h.acknowledgement))))))
 
 -- ---- the row that is under a label
-pub found_row : (p : Plan) (l : Label) (r : ℕ) → row_of p l ≡ Found-as-At r → (r < length p.streams) × ((at p r).label.0 ≡ l.0)
+pub found_row : (p : Plan) (l : Label) (r : ℕ) → row_of p l ≡ Some r → (r < length p.streams) × ((at p r).label.0 ≡ l.0)
 unfolding row_of
 found_row p l r e = let w = (finds_lowest _ 0 _ r).0 e in (omega (arith, w.below), eqb-true _ _ w.passes)
 
@@ -123,7 +122,7 @@ one_row p a i j h g e = a.labels i j (omega (arith, same)) (omega (arith, same))
     name : (k : ℕ) → get_or (map label p.streams) k 0 ≡ (at p k).label.0
     name k = get_or-map label p.streams k blank
 
-pub row_under : (p : Plan) → NotRefused p → (l : Label) (r : ℕ) → r < length p.streams → l.0 ≡ (at p r).label.0 → row_of p l ≡ Found-as-At r
+pub row_under : (p : Plan) → NotRefused p → (l : Label) (r : ℕ) → r < length p.streams → l.0 ≡ (at p r).label.0 → row_of p l ≡ Some r
 unfolding row_of
 row_under p a l r h e =
     (finds_lowest _ 0 _ r).1
@@ -136,13 +135,13 @@ row_under p a l r h e =
 
 -- ---- all the conditions
 pub record Unbroken (old new : Plan) : Type 0 where
-  pub kit : of_kit old.timing new.timing ≡ Nothing
-  pub constants : of_constants old.timing new.timing ≡ Nothing
-  pub streams : (k : ℕ) → k < length new.streams → of_stream old (at new k) ≡ Nothing
-  pub order : (k : ℕ) → k < length new.streams → urgency old new k ≡ Nothing
-  pub gaps : (k : ℕ) → k < length new.gaps → of_gap old new (get_or new.gaps k 0) ≡ Nothing
+  pub kit : of_kit old.timing new.timing ≡ Ok tt
+  pub constants : of_constants old.timing new.timing ≡ Ok tt
+  pub streams : (k : ℕ) → k < length new.streams → of_stream old (at new k) ≡ Ok tt
+  pub order : (k : ℕ) → k < length new.streams → urgency old new k ≡ Ok tt
+  pub gaps : (k : ℕ) → k < length new.gaps → of_gap old new (get_or new.gaps k 0) ≡ Ok tt
 
-pub unbroken : (old new : Plan) → changes old new ≡ Nothing → Unbroken old new
+pub unbroken : (old new : Plan) → changes old new ≡ Ok tt → Unbroken old new
 unfolding changes
 unbroken old new e =
     let (k, e₁) = or_nothing (of_kit old.timing new.timing) _ e in
@@ -157,23 +156,23 @@ unbroken old new e =
       gaps = (nothing_if_none _ (length new.gaps)).0 g;
     }
 
-pub no_changes : (old new : Plan) → Unbroken old new → changes old new ≡ Nothing
+pub no_changes : (old new : Plan) → Unbroken old new → changes old new ≡ Ok tt
 unfolding changes
 no_changes old new u =
-    let s : of_streams old new ≡ Nothing = (nothing_if_none _ (length new.streams)).1 u.streams in
-    let o : of_order old new ≡ Nothing = (nothing_if_none (urgency old new) (length new.streams)).1 u.order in
-    let g : of_noise old new ≡ Nothing = (nothing_if_none _ (length new.gaps)).1 u.gaps in
+    let s : of_streams old new ≡ (Ok tt) = (nothing_if_none _ (length new.streams)).1 u.streams in
+    let o : of_order old new ≡ (Ok tt) = (nothing_if_none (urgency old new) (length new.streams)).1 u.order in
+    let g : of_noise old new ≡ (Ok tt) = (nothing_if_none _ (length new.gaps)).1 u.gaps in
     λ i. u.kit i or u.constants i or s i or o i or g i
 
 -- ---- from the test to a lighter plan
-stands_in : (old : Plan) (s : Stream) → of_stream old s ≡ Nothing → (r : ℕ) × (row_of old s.label ≡ Found-as-At r) × Eased (at old r) s
+stands_in : (old : Plan) (s : Stream) → of_stream old s ≡ Ok tt → (r : ℕ) × (row_of old s.label ≡ Some r) × Eased (at old r) s
 stands_in old s e = go (row_of old s.label) refl e
   where
-    go : (f : Found) → row_of old s.label ≡ f → in_row old s f ≡ Nothing → (r : ℕ) × (row_of old s.label ≡ Found-as-At r) × Eased (at old r) s
-    go (Found-as-At r) d e = (r, d, eases (at old r) s e)
-    go Found-as-Nothing d e = absurd (of_not_nothing e)
+    go : (f : Option ℕ) → row_of old s.label ≡ f → in_row old s f ≡ Ok tt → (r : ℕ) × (row_of old s.label ≡ Some r) × Eased (at old r) s
+    go (Some r) d e = (r, d, eases (at old r) s e)
+    go None d e = absurd (of_not_nothing e)
 
-not_overtaken : (old new : Plan) (j k : ℕ) → urgency old new k ≡ Nothing → j < length new.streams → (at new j).priority.0 < (at new k).priority.0
+not_overtaken : (old new : Plan) (j k : ℕ) → urgency old new k ≡ Ok tt → j < length new.streams → (at new j).priority.0 < (at new k).priority.0
     → number_under old (at new j).label < number_under old (at new k).label
 not_overtaken old new j k e h l = by_order (number_under old (at new k).label) (number_under old (at new j).label) (λ m. absurd (never m)) (λ m. m)
   where
@@ -196,7 +195,7 @@ lighter_if old new u =
       gaps = partners_of_counts new.gaps old.gaps (λ k h. passes _ _ _ (u.gaps k h));
     }
   where
-    found : (k : ℕ) → k < length new.streams → (r : ℕ) × (row_of old (at new k).label ≡ Found-as-At r) × Eased (at old r) (at new k)
+    found : (k : ℕ) → k < length new.streams → (r : ℕ) × (row_of old (at new k).label ≡ Some r) × Eased (at old r) (at new k)
     found k h = stands_in old (at new k) (u.streams k h)
 
     number_is : (k : ℕ) (h : k < length new.streams) → number_under old (at new k).label ≡ (at old (found k h).0).priority.0
@@ -219,7 +218,7 @@ if_lighter old new a l =
       gaps = λ k h. no_reason _ _ _ (counts_of_partners new.gaps old.gaps l.gaps (get_or new.gaps k 0));
     }
   where
-    row_is : (k : ℕ) (h : k < length new.streams) → row_of old (at new k).label ≡ Found-as-At (l.row k h)
+    row_is : (k : ℕ) (h : k < length new.streams) → row_of old (at new k).label ≡ Some (l.row k h)
     row_is k h = let s = l.stands k h in row_under old a (at new k).label (l.row k h) s.among s.label
 
     number_is : (k : ℕ) (h : k < length new.streams) → number_under old (at new k).label ≡ (at old (l.row k h)).priority.0

@@ -8,7 +8,7 @@ use lib.ListN.{length, get_or, set, take, length-map, length-take, get_or-map}
 use lib.Seq.{take_all, take_at}
 use Rattle.names.specs.Limits.{streams}
 use Rattle.names.specs.declared.Label.{Label}
-use Rattle.laws.specs.declared.Found.{Found, TheVariants.At, TheVariants.Nothing}
+use Rattle.std.specs.Prelude.{Option, Some, None}
 use Rattle.laws.specs.Lists.{placed}
 use Rattle.laws.specs.Search.{first}
 use Rattle.laws.proofs.Placed.{placed_to, placed_more, placed_all}
@@ -64,22 +64,22 @@ unfolding row_of
 row_by_lem p l = λ i. or_end (length-map p.streams label_of i) (first (λ r. eqb (get_or-map label_of p.streams r blank i) l.0) 0 (length-map p.streams label_of i))
 
 -- one before the end is the row, ..
-pub row_found : (p : Plan) (l : Label) (r : ℕ) → r ≡ row_by (column label_of p) l → (r ≡ length p.streams → ⊥) → row_of p l ≡ At r
+pub row_found : (p : Plan) (l : Label) (r : ℕ) → r ≡ row_by (column label_of p) l → (r ≡ length p.streams → ⊥) → row_of p l ≡ Some r
 row_found p l r e n = go (row_of p l) (e ∙ row_by_lem p l)
   where
-    go : (f : Found) → r ≡ or_end (length p.streams) f → f ≡ At r
-    go (At x) d = ap At (sym d)
-    go Nothing d = absurd (n d)
+    go : (f : Option ℕ) → r ≡ or_end (length p.streams) f → f ≡ Some r
+    go (Some x) d = ap Some (sym d)
+    go None d = absurd (n d)
 
 -- .. and at the end there is none
-pub row_not_found : (p : Plan) (l : Label) (r : ℕ) → r ≡ row_by (column label_of p) l → r ≡ length p.streams → row_of p l ≡ Nothing
+pub row_not_found : (p : Plan) (l : Label) (r : ℕ) → r ≡ row_by (column label_of p) l → r ≡ length p.streams → row_of p l ≡ None
 row_not_found p l r e n = go (row_of p l) refl (e ∙ row_by_lem p l)
   where
-    go : (f : Found) → row_of p l ≡ f → r ≡ or_end (length p.streams) f → f ≡ Nothing
-    go (At x) d g = absurd (omega (arith, (found_row p l x d).0))
-    go Nothing d g = refl
+    go : (f : Option ℕ) → row_of p l ≡ f → r ≡ or_end (length p.streams) f → f ≡ None
+    go (Some x) d g = absurd (omega (arith, (found_row p l x d).0))
+    go None d g = refl
 
-pub found_place : (s : Sheet) → Owned s → (l : Label) (r : ℕ) → row_of (plan_of s) l ≡ At r → (r < streams) × (at (plan_of s) r ≡ get_or s.streams r blank)
+pub found_place : (s : Sheet) → Owned s → (l : Label) (r : ℕ) → row_of (plan_of s) l ≡ Some r → (r < streams) × (at (plan_of s) r ≡ get_or s.streams r blank)
 found_place s o l r e =
     let (h, d) = found_row (plan_of s) l r e in
     (omega (arith, (streams_taken s o _ refl).0), row_in_place s r h)

@@ -8,7 +8,8 @@ use lib.Dec.{ltb, leb}
 use lib.ListN.{length, get_or, length-map}
 use Rattle.laws.specs.Rows.{some}
 use Rattle.plan.specs.Plan.{Plan, at}
-use Rattle.compare.specs.declared.Change.{Change}
+use Rattle.std.specs.Prelude.{Result}
+use Rattle.compare.specs.declared.Reason.{Reason}
 use Rattle.compare.specs.declared.Reason.TheVariants.{LessUrgent}
 use Rattle.compare.specs.Changes.{must, ◌or◌, first_change, overtakes, of_order}
 use Rattle.compare.specs.private.Columns.{priority_of, number_then, column, overtakes_by, order_by}
@@ -19,7 +20,7 @@ unfolding some
 some_same t u zero h = refl
 some_same t u (suc n) h = ap₂ (λ a b. a || b) (some_same t u n (λ j l. h j (omega arith))) (h n (omega arith))
 
-changes_same : (f g : ℕ → Change) (n : ℕ) → ((k : ℕ) → k < n → f k ≡ g k) → first_change f n ≡ first_change g n
+changes_same : (f g : ℕ → Result (Unit {0}) Reason) (n : ℕ) → ((k : ℕ) → k < n → f k ≡ g k) → first_change f n ≡ first_change g n
 unfolding first_change
 changes_same f g zero h = refl
 changes_same f g (suc n) h = ap₂ (λ a b. a or b) (changes_same f g n (λ j l. h j (omega arith))) (h n (omega arith))

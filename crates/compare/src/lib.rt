@@ -14,7 +14,6 @@ ghost use Rattle.compare.specs.Claims.{SaysLighter};
 ghost use Rattle.compare.specs.private.Columns.{label_of, priority_of, number_then, column, column_placed, row_by, overtakes_by, order_by};
 
 use checks::check;
-use judge::Checked;
 use laws::smaller;
 use names::{Label, Priority, Refusal, Row, SOURCES, STREAMS};
 use plan::{Sheet, Stream, Timing};
@@ -36,13 +35,6 @@ pub enum Reason {
     MoreNoise(u32),
 }
 
-// A reason, or that there is none.
-#[derive(Clone, Copy)]
-pub enum Change {
-    Of(Reason),
-    Nothing,
-}
-
 #[derive(Clone, Copy)]
 pub enum Compared {
     FirstRefused(Refusal),
@@ -52,13 +44,13 @@ pub enum Compared {
 }
 
 // A plan with slots is not held to one without, whatever their constants.
-fn kit(old: Timing, new: Timing) -> Change
+fn kit(old: Timing, new: Timing) -> Result<(), Reason>
     ensures { result ≡ rule.of_kit old new }
 {
     if (1 <= old.p) == (1 <= new.p) {
-        return Change::Nothing;
+        return Ok(());
     }
-    Change::Of(Reason::MasterNode)
+    Err(Reason::MasterNode)
 }
 
 // How many constants a plan's timing has.
@@ -71,17 +63,17 @@ fn constants_of(t: Timing) -> [u32; CONSTANTS]
 }
 
 // Each constant is held to its own: a greater TFCS is a change even below SWX.
-fn constants(old: Timing, new: Timing) -> Change
+fn constants(old: Timing, new: Timing) -> Result<(), Reason>
     ensures { result ≡ rule.of_constants old new }
 {
     let was = constants_of(old);
     let is = constants_of(new);
     for k in 0..CONSTANTS {
         if was[k] < is[k] {
-            return Change::Of(Reason::GreaterConstant(k));
+            return Err(Reason::GreaterConstant(k));
         }
     }
-    Change::Nothing
+    Ok(())
 }
 
 // A plan's labels, with 0 in the places after them. They are lent as plain numbers where each row is held to each, so that no sheet is
@@ -111,33 +103,33 @@ fn row_of(labels: &[u32], label: Label) -> Row
 }
 
 // A stream of the second plan beside the one that it stands in.
-fn eased(old: Stream, new: Stream) -> Change
+fn eased(old: Stream, new: Stream) -> Result<(), Reason>
     ensures { result ≡ rule.eased old new }
 {
     let label = new.label;
     if new.period < old.period {
-        return Change::Of(Reason::ShorterPeriod(label));
+        return Err(Reason::ShorterPeriod(label));
     }
     if old.jitter < new.jitter {
-        return Change::Of(Reason::LongerJitter(label));
+        return Err(Reason::LongerJitter(label));
     }
     if old.payload < new.payload {
-        return Change::Of(Reason::LongerPayload(label));
+        return Err(Reason::LongerPayload(label));
     }
     if new.deadline < old.deadline {
-        return Change::Of(Reason::ShorterDeadline(label));
+        return Err(Reason::ShorterDeadline(label));
     }
     if old.acknowledgement < new.acknowledgement {
-        return Change::Of(Reason::LongerAcknowledgement(label));
+        return Err(Reason::LongerAcknowledgement(label));
     }
-    Change::Nothing
+    Ok(())
 }
 
 // The streams of the second plan beside those that they stand in: the first change and, where there is none, the numbers of the priorities
 // that the rows had and have.
 #[derive(Clone, Copy)]
 struct Matched {
-    change: Change,
+    change: Result<(), Reason>,
     was: [u32; STREAMS],
     is: [u32; STREAMS],
 }
@@ -145,8 +137,8 @@ struct Matched {
 fn streams(old: Sheet, new: Sheet, labels: &[u32]) -> Matched
     requires { labels.now ≡ column label_of (plan_of old) }
     ensures change_value { result.change ≡ rule.of_streams (plan_of old) (plan_of new) }
-    ensures was_value { result.change ≡ Change.Nothing → result.was ≡ column_placed (number_then (plan_of old)) (plan_of new) }
-    ensures is_value { result.change ≡ Change.Nothing → result.is ≡ column_placed priority_of (plan_of new) }
+    ensures was_value { result.change ≡ Ok tt → result.was ≡ column_placed (number_then (plan_of old)) (plan_of new) }
+    ensures is_value { result.change ≡ Ok tt → result.is ≡ column_placed priority_of (plan_of new) }
 {
     let n = smaller(new.count, STREAMS);
     let mut was = [0; STREAMS];
@@ -157,21 +149,21 @@ fn streams(old: Sheet, new: Sheet, labels: &[u32]) -> Matched
         let row = row_of(labels, label);
         let r = row.0;
         if r == labels.len() {
-            let change = Change::Of(Reason::NewLabel(label));
+            let change = Err(Reason::NewLabel(label));
             return Matched { change, was, is };
         }
         let namesake = old.streams[r];
         match eased(namesake, s) {
-            Change::Of(why) => {
-                let change = Change::Of(why);
+            Err(why) => {
+                let change = Err(why);
                 return Matched { change, was, is };
             }
-            Change::Nothing => {}
+            Ok(()) => {}
         }
         was[k] = namesake.priority.0;
         is[k] = s.priority.0;
     }
-    let change = Change::Nothing;
+    let change = Ok(());
     Matched { change, was, is }
 }
 
@@ -193,7 +185,7 @@ fn overtaken<'a>(was: &'a [u32], is: &'a [u32], has: Priority, had: Priority) ->
 }
 
 // The first row that is overtaken, by the numbers of the priorities that the rows had and have.
-fn urgency<'a>(new: Sheet, was: &'a [u32], is: &'a [u32]) -> Change
+fn urgency<'a>(new: Sheet, was: &'a [u32], is: &'a [u32]) -> Result<(), Reason>
     requires was_len { length was.now ≡ length (plan_of new).streams }
     requires is_len { length is.now ≡ length (plan_of new).streams }
     ensures { result ≡ order_by was.now is.now (plan_of new) }
@@ -204,10 +196,10 @@ fn urgency<'a>(new: Sheet, was: &'a [u32], is: &'a [u32]) -> Change
         if overtaken(was, is, Priority(number), Priority(held)) {
             let s = new.streams[k];
             let label = s.label;
-            return Change::Of(Reason::LessUrgent(label));
+            return Err(Reason::LessUrgent(label));
         }
     }
-    Change::Nothing
+    Ok(())
 }
 
 // How many of the first m gaps are at most x.
@@ -224,7 +216,7 @@ fn at_most(gaps: [u32; SOURCES], m: usize, x: u32) -> usize
     n
 }
 
-fn noise(old: Sheet, new: Sheet) -> Change
+fn noise(old: Sheet, new: Sheet) -> Result<(), Reason>
     ensures { result ≡ rule.of_noise (plan_of old) (plan_of new) }
 {
     let m = smaller(new.sources, SOURCES);
@@ -235,59 +227,52 @@ fn noise(old: Sheet, new: Sheet) -> Change
         let gap = gaps[k];
         let wanted = at_most(gaps, m, gap);
         if at_most(held, partners, gap) < wanted {
-            return Change::Of(Reason::MoreNoise(gap));
+            return Err(Reason::MoreNoise(gap));
         }
     }
-    Change::Nothing
+    Ok(())
 }
 
 // The first condition of the lighter plan that does not hold between two plans, refused or not.
-pub fn changes(old: Sheet, new: Sheet) -> Change
+pub fn changes(old: Sheet, new: Sheet) -> Result<(), Reason>
     ensures { result ≡ rule.changes (plan_of old) (plan_of new) }
 {
     let held = old.timing;
     let timing = new.timing;
-    match kit(held, timing) {
-        Change::Of(why) => return Change::Of(why),
-        Change::Nothing => {}
-    }
-    match constants(held, timing) {
-        Change::Of(why) => return Change::Of(why),
-        Change::Nothing => {}
-    }
+    kit(held, timing)?;
+    constants(held, timing)?;
     let n = smaller(old.count, STREAMS);
     let m = smaller(new.count, STREAMS);
     let labels = labels_of(old);
     let matched = streams(old, new, &labels[..n]);
     let change = matched.change;
-    match change {
-        Change::Of(why) => return Change::Of(why),
-        Change::Nothing => {}
-    }
+    change?;
     let was = matched.was;
     let is = matched.is;
-    match urgency(new, &was[..m], &is[..m]) {
-        Change::Of(why) => return Change::Of(why),
-        Change::Nothing => {}
-    }
+    urgency(new, &was[..m], &is[..m])?;
     noise(old, new)
 }
 
 // The answer to two plans that were looked at already: the first is reported first.
-pub fn outcome(first: Checked, second: Checked, old: Sheet, new: Sheet) -> Compared
+pub fn outcome(
+    first: Result<(), Refusal>,
+    second: Result<(), Refusal>,
+    old: Sheet,
+    new: Sheet,
+) -> Compared
     ensures { result ≡ compared_as first second (rule.changes (plan_of old) (plan_of new)) }
 {
     match first {
-        Checked::Refused(r) => return Compared::FirstRefused(r),
-        Checked::Fine => {}
+        Err(r) => return Compared::FirstRefused(r),
+        Ok(()) => {}
     }
     match second {
-        Checked::Refused(r) => return Compared::SecondRefused(r),
-        Checked::Fine => {}
+        Err(r) => return Compared::SecondRefused(r),
+        Ok(()) => {}
     }
     match changes(old, new) {
-        Change::Of(r) => Compared::RunAgain(r),
-        Change::Nothing => Compared::Lighter,
+        Err(r) => Compared::RunAgain(r),
+        Ok(()) => Compared::Lighter,
     }
 }
 

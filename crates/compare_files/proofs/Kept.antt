@@ -7,7 +7,8 @@ use Prim.Native.Nat.{ℕ, ◌<◌}
 use native.Mathlib.Omega.{arith}
 use lib.Dec.{leb}
 use lib.ListN.{length, length-map, get_or-map}
-use Rattle.laws.specs.declared.Found.{Found, TheVariants.At, TheVariants.Nothing}
+use Rattle.std.specs.Prelude.{Option, Some, None, Ok, Err}
+use Rattle.judge.specs.Table.{Checked}
 use Rattle.bound.specs.declared.Verdict.{Verdict, TheVariants.Met, TheVariants.Missed, TheVariants.None}
 use Rattle.bound.specs.Terms.{Terms}
 use Rattle.bound.specs.Bound.{busy, bound, answer_for as answerFrom, answer, verdict_number}
@@ -16,7 +17,6 @@ use Rattle.plan.specs.declared.Sheet.{Sheet}
 use Rattle.plan.specs.Plan.{Plan, plan_of, blank, at}
 use Rattle.plan.specs.Rules.{terms}
 use Rattle.plan.specs.Evaluations.{row_searched, searches}
-use Rattle.judge.specs.declared.Checked.{Checked, TheVariants.Fine, TheVariants.Refused}
 use Rattle.judge.specs.Table.{judge}
 use Rattle.checks.specs.Checks.{lines}
 use Rattle.checks.proofs.Fine.{own_counts}
@@ -39,7 +39,7 @@ use Rattle.compare.proofs.Says.{said_exactly, said_kept}
 use Rattle.compare_files.specs.Files.{plan_from, compared_files, SaysLighterOfFiles, LabelsStand, KeptWords, WordsKept}
 
 -- ---- two files
-file_not_refused : (bs : List ℕ) → (file.read_of bs).answer ≡ Fine → NotRefused (plan_from bs)
+file_not_refused : (bs : List ℕ) → (file.read_of bs).answer ≡ Ok tt → NotRefused (plan_from bs)
 file_not_refused bs e =
     let f = fine_read bs e in
     let p = plan_read bs f in
@@ -60,20 +60,20 @@ said_of_files old new =
 
 -- ---- the words of a row
 -- the lent words begin with the plan's, where the answer is fine
-as_words : (c : Checked) (n : ℕ) (p : Plan) (out : List ℕ) → (answer_as Answers c n p out).0 ≡ Fine → (answer_as Answers c n p out).1 ≡ laid_in Answers p n out
-as_words Fine n p out e = refl
-as_words (Refused r) n p out e = absurd (let z : ◌≡◌ {A = ℕ} 0 1 = cc in omega arith)
+as_words : (c : Checked) (n : ℕ) (p : Plan) (out : List ℕ) → (answer_as Answers c n p out).0 ≡ Ok tt → (answer_as Answers c n p out).1 ≡ laid_in Answers p n out
+as_words (Ok _) n p out e = refl
+as_words (Err r) n p out e = absurd (let z : ◌≡◌ {A = ℕ} 0 1 = cc in omega arith)
 
-read_words : (c : Checked) (s : Sheet) (out : List ℕ) → (answer_read c s out).0 ≡ Fine
+read_words : (c : Checked) (s : Sheet) (out : List ℕ) → (answer_read c s out).0 ≡ Ok tt
     → (answer_read c s out).1 ≡ laid_in Answers (plan_of s) s.count out
 unfolding answer_of answer_with
-read_words Fine s out e =
+read_words (Ok _) s out e =
     as_words (judge (lines Three s.count s.sources (plainly (plan_of s)) ++ too_few Answers s.count out)) s.count (meant (plainly (plan_of s))) out e
     ∙ ap (λ p. laid_in Answers p s.count out) (meant_plainly (plan_of s))
-read_words (Refused r) s out e = absurd (let z : ◌≡◌ {A = ℕ} 0 1 = cc in omega arith)
+read_words (Err r) s out e = absurd (let z : ◌≡◌ {A = ℕ} 0 1 = cc in omega arith)
 
 -- the words of row r are the answer to its stream
-answer_said : (bs out : List ℕ) (r : ℕ) → (answer_file_of bs out).0 ≡ Fine → r < length (plan_from bs).streams
+answer_said : (bs out : List ℕ) (r : ℕ) → (answer_file_of bs out).0 ≡ Ok tt → r < length (plan_from bs).streams
     → let p = plan_from bs in RowSays (answer_file_of bs out).1 r (row_searched p (at p r))
 unfolding answer_file_of
 answer_said bs out r e h =
@@ -92,16 +92,16 @@ not_none true e = omega arith
 not_none false e = omega arith
 
 -- an answer that is not "none" has a busy period, and its bound
-bound_said : (t : Terms) (D : ℕ) → (verdict_number (answer t D).verdict ≡ 2 → ⊥) → (L : ℕ) × (busy t ≡ At L) × ((answer t D).bound ≡ bound t L)
+bound_said : (t : Terms) (D : ℕ) → (verdict_number (answer t D).verdict ≡ 2 → ⊥) → (L : ℕ) × (busy t ≡ Some L) × ((answer t D).bound ≡ bound t L)
 unfolding answer
 bound_said t D = go (busy t)
   where
-    go : (f : Found) → (verdict_number (answerFrom t D f).verdict ≡ 2 → ⊥) → (L : ℕ) × (f ≡ At L) × ((answerFrom t D f).bound ≡ bound t L)
-    go (At L) n = (L, refl, refl)
-    go Nothing n = absurd (n refl)
+    go : (f : Option ℕ) → (verdict_number (answerFrom t D f).verdict ≡ 2 → ⊥) → (L : ℕ) × (f ≡ Some L) × ((answerFrom t D f).bound ≡ bound t L)
+    go (Some L) n = (L, refl, refl)
+    go None n = absurd (n refl)
 
 -- .. and one that has a busy period is not "none"
-says_bound : (t : Terms) (D L : ℕ) → busy t ≡ At L → (verdict_number (answer t D).verdict ≡ 2 → ⊥) × ((answer t D).bound ≡ bound t L)
+says_bound : (t : Terms) (D L : ℕ) → busy t ≡ Some L → (verdict_number (answer t D).verdict ≡ 2 → ⊥) × ((answer t D).bound ≡ bound t L)
 unfolding answer
 says_bound t D L e = rw e (not_none (leb (bound t L) D), refl)
 

@@ -1,6 +1,6 @@
 -- The answer to two files: which is refused, or that the plan in the second is lighter, or why it is to be run again.
 use Rattle.std.specs.Prelude.{◌≡◌, List, ◌↔◌, ℕ, ◌≤◌, ◌<◌, length}
-use Rattle.judge.specs.declared.Checked.TheVariants.{Fine}
+use Rattle.std.specs.Prelude.{Ok}
 use Rattle.row_words.specs.RowWords.{verdict_at, bound_at}
 use Rattle.plan.specs.Plan.{Plan, plan_of, at}
 use Rattle.promise.specs.Lighter.{Namesakes, Lighter, Kept}
@@ -22,7 +22,7 @@ compared_files old new = compared_as (read_of old).answer (read_of new).answer (
 -- its streams stands in the first and keeps its promise
 pub record SaysLighterOfFiles (old new : List ℕ) (r : Compared) : Type 0 where
   pub is : r ≡ compared_files old new
-  pub exactly : (r ≡ Compared-as-Lighter) ↔ (((read_of old).answer ≡ Fine) × ((read_of new).answer ≡ Fine) × Lighter (plan_from old) (plan_from new))
+  pub exactly : (r ≡ Compared-as-Lighter) ↔ (((read_of old).answer ≡ Ok tt) × ((read_of new).answer ≡ Ok tt) × Lighter (plan_from old) (plan_from new))
   pub kept : r ≡ Compared-as-Lighter → (l : Lighter (plan_from old) (plan_from new)) (k : ℕ) (h : k < length (plan_from new).streams)
       → Kept (plan_from old) (plan_from new) k (l.row k h)
 
@@ -43,8 +43,8 @@ pub record KeptWords (before : List ℕ) (r : ℕ) (after : List ℕ) (k : ℕ) 
 abbrev pub WordsKept : Type 0
 WordsKept =
     (old new out out' : List ℕ) → compared_files old new ≡ Compared-as-Lighter
-    → (answer_file_of old out).0 ≡ Fine
-    → (answer_file_of new out').0 ≡ Fine
+    → (answer_file_of old out).0 ≡ Ok tt
+    → (answer_file_of new out').0 ≡ Ok tt
     → (k r : ℕ) → k < length (plan_from new).streams
     → r < length (plan_from old).streams
     → Namesakes (at (plan_from new) k) (at (plan_from old) r)

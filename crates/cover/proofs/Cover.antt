@@ -9,7 +9,7 @@ use lib.IntN.{pos}
 use lib.Signed.{le_z}
 use Rattle.names.specs.Limits.{ticks}
 use Rattle.laws.specs.Lists.{ceil, sum_of}
-use Rattle.laws.specs.declared.Found.TheVariants.{At}
+use Rattle.std.specs.Prelude.{Some}
 use Rattle.laws.proofs.Round.{ceil_mono, ceil_anti}
 use Rattle.laws.proofs.Chain.{settled, least_below}
 use Rattle.laws.proofs.Signed.{le_trans_Z}
@@ -49,16 +49,16 @@ module _ (r s : Terms) (c : Covers r s) where
   side_W_le q x =
       omega (arith, c.blocking, mul-le-mul_left q c.own.cost, demand_le (x + s.late + 1) (x + r.late + 1) (omega (arith, c.late)), E-le (x + s.own.C'') (x + r.own.C'') (omega (arith, c.own.cost)))
 
-  module _ (a : Sound r) (b : Sound s) (L : ℕ) (e : busy r ≡ At L) where
+  module _ (a : Sound r) (b : Sound s) (L : ℕ) (e : busy r ≡ Some L) where
     -- the busy period is found, and no longer
-    busy_le : (K : ℕ) × (busy s ≡ At K) × (K ≤ L)
+    busy_le : (K : ℕ) × (busy s ≡ Some K) × (K ≤ L)
     unfolding busy
     busy_le =
         let l = (busy_is_least r L).0 e in
         let (K, f, h, m) = settled (side_L s) (side_L_mono s) 1 ticks L (side_L_pos s b) l.1.above (omega (arith, l.0)) (le_trans (side_L_le L) (omega (arith, l.1.fixed))) in
         (K, f, h)
 
-    module _ (K : ℕ) (f : busy s ≡ At K) (h : K ≤ L) where
+    module _ (K : ℕ) (f : busy s ≡ Some K) (h : K ≤ L) where
       Q-le : Q s K ≤ Q r L
       Q-le = le_trans (ceil_anti (K + s.own.J) c.own.some c.own.period) (ceil_mono r.own.T (omega (arith, c.own.jitter)))
 

@@ -1,6 +1,6 @@
 -- When terms cover other terms, and what then carries over; proved in proofs/.
 use Rattle.std.specs.Prelude.{◌≡◌, List, [], ◌∷◌, ◌++◌, ◌↔◌, ℕ, ◌≤◌, ◌<◌, length, get_or}
-use Rattle.laws.specs.declared.Found.TheVariants.{At}
+use Rattle.std.specs.Prelude.{Some}
 use Rattle.bound.specs.Terms.{Share, Terms}
 use Rattle.bound.specs.Bound.{busy, bound}
 use Rattle.bound.specs.Claims.{Sound}
@@ -46,4 +46,4 @@ pub record Covers (r s : Terms) : Type 0 where
 -- what is covered has a busy period where the cover has one, and a bound that is no larger
 abbrev pub CoveredKeeps : Type 0
 CoveredKeeps =
-    (r s : Terms) → Sound r → Sound s → Covers r s → (L : ℕ) → busy r ≡ At L → (K : ℕ) × (busy s ≡ At K) × (K ≤ L) × (bound s K ≤ bound r L)
+    (r s : Terms) → Sound r → Sound s → Covers r s → (L : ℕ) → busy r ≡ Some L → (K : ℕ) × (busy s ≡ Some K) × (K ≤ L) × (bound s K ≤ bound r L)

@@ -13,15 +13,15 @@ use Rattle.plan.specs.Plan.{plan_of}
 use Rattle.words.specs.Words.{words_of}
 use Rattle.carried.specs.declared.Edition.TheVariants.{Three}
 use Rattle.carried.specs.Layout as layout
-use Rattle.judge.specs.declared.Checked.{Checked, TheVariants.Fine, TheVariants.Refused}
-use Rattle.file.specs.declared.Written.{Written, TheVariants.Bytes, TheVariants.Refused as Written-as-Refused}
+use Rattle.std.specs.Prelude.{Some, None, Result, Ok, Err}
+use Rattle.judge.specs.Table.{Checked}
+use Rattle.names.specs.declared.Refusal.{Refusal}
 use Rattle.file.specs.File.{file_of, edition_in, lag_in, size_right, read_of}
 use Rattle.file.proofs.Exactly.{refused_number}
 use Rattle.file.proofs.Reading.{said_size, counts_refused, fine_read}
 use Rattle.file.proofs.RoundTrip.{plan_read, right_read, length_file, file_is, means_the_same, same_bytes}
 use Rattle.rewriter.specs.Rewriter.{rewrite_of}
 use Rattle.rewriter.proofs.Same.{rewrite_refused, rewrite_no_room, rewrite_fine}
-use Rattle.text.specs.declared.Put.TheVariants.{At, Full}
 use Rattle.text.specs.Listing.{refused_of}
 use Rattle.text.specs.Put.{put, Puts}
 use Rattle.text.proofs.Laying.{all_put, none_put}
@@ -35,17 +35,17 @@ module _ (bs buf : List ℕ) where
   file_shown c e = ap (λ a. file_as a (plan_of (read_of bs).sheet)) e
 
   -- bytes that were written are the file, 6 is that it has no room, and any other refusal is that of reading
-  abbrev pub Shows : Written × List ℕ → Type 0
-  Shows (Bytes n, after) = Puts buf 0 (shown_file bs) (At n) after
-  Shows (Written-as-Refused r, after) =
-      (r.number ≡ 6 → Puts buf 0 (shown_file bs) Full after) × ((r.number ≡ 6 → ⊥) → (shown_file bs ≡ refused_of r) × (after ≡ buf))
+  abbrev pub Shows : Result ℕ Refusal × List ℕ → Type 0
+  Shows (Ok n, after) = Puts buf 0 (shown_file bs) (Some n) after
+  Shows (Err r, after) =
+      (r.number ≡ 6 → Puts buf 0 (shown_file bs) None after) × ((r.number ≡ 6 → ⊥) → (shown_file bs ≡ refused_of r) × (after ≡ buf))
 
   by_answer : (c : Checked) → (read_of bs).answer ≡ c → Shows (rewrite_of bs buf)
-  by_answer (Refused r) e =
-      rw (rewrite_refused bs buf r e) (λ six. absurd (refused_number bs r e six), λ other. (file_shown (Refused r) e, refl))
-  by_answer Fine e =
+  by_answer (Err r) e =
+      rw (rewrite_refused bs buf r e) (λ six. absurd (refused_number bs r e six), λ other. (file_shown (Err r) e, refl))
+  by_answer (Ok _) e =
       let file = file_of (plan_of (read_of bs).sheet) in
-      let s = ap (put buf 0) (file_shown Fine e) in
+      let s = ap (put buf 0) (file_shown (Ok tt) e) in
       elim (dec_le (length file) (length buf)) [
         | yes h ↦ let p = sym (s ∙ all_put file buf h) in rw (rewrite_fine bs buf e h) (ap (λ x. x.0) p, ap (λ x. x.1) p)
         | no g ↦
@@ -54,17 +54,17 @@ module _ (bs buf : List ℕ) where
             rw (rewrite_no_room bs buf e h) (λ six. (ap (λ x. x.0) p, ap (λ x. x.1) p), λ other. absurd (other refl))
       ]
 
-  pub shows : (w : Written) → (rewrite_of bs buf).0 ≡ w → Shows (w, (rewrite_of bs buf).1)
+  pub shows : (w : Result ℕ Refusal) → (rewrite_of bs buf).0 ≡ w → Shows (w, (rewrite_of bs buf).1)
   shows w e = subst (λ v. Shows (v, (rewrite_of bs buf).1)) e (by_answer (read_of bs).answer refl)
 
 -- ---- the file again
 pub same_file : SameFile
-same_file bs below fine three no_lag = file_shown bs [] Fine fine ∙ same_bytes bs below fine three no_lag
+same_file bs below fine three no_lag = file_shown bs [] (Ok tt) fine ∙ same_bytes bs below fine three no_lag
 
 pub same_meaning : SameMeaning
 same_meaning bs fine =
     let (edition, no_lag, meaning) = means_the_same bs fine in
-    let e = file_shown bs [] Fine fine in
+    let e = file_shown bs [] (Ok tt) fine in
     (ap (λ l. edition_in (words_of l)) e ∙ edition, ap (λ l. lag_in (words_of l)) e ∙ no_lag, ap read_of e ∙ meaning)
 
 pub file_fits : FileFits
@@ -73,7 +73,7 @@ file_fits bs buffer fine room =
     let r = right_read bs f in
     let file = shown_file bs in
     let long : length file ≡ layout.size Three (length (plan_read bs f).streams) (length (plan_read bs f).gaps) =
-    ap length (file_shown bs [] Fine fine ∙ file_is bs f) ∙ length_file (plan_read bs f) in
+    ap length (file_shown bs [] (Ok tt) fine ∙ file_is bs f) ∙ length_file (plan_read bs f) in
     ap (λ x. x.0) (all_put file buffer (omega (arith, long, r.within.count, r.within.sources)))
 
 pub line_is_no_plan : LineIsNoPlan

@@ -7,7 +7,8 @@ use lib.ListN.{replicate}
 use Rattle.names.specs.Limits.{streams}
 use Rattle.row_words.specs.RowWords.{words_per_row, words_per_wait}
 use Rattle.plan.specs.Plan.{plan_of}
-use Rattle.judge.specs.declared.Checked.{Checked, TheVariants.Fine}
+use Rattle.std.specs.Prelude.{Ok}
+use Rattle.judge.specs.Table.{Checked}
 use Rattle.checks.specs.Checks.{checked_of}
 use Rattle.file.specs.declared.ReadPlan.{ReadPlan}
 use Rattle.file.specs.File.{read_of}
@@ -22,7 +23,7 @@ use Rattle.file.proofs.RoundTrip.{sheet_fine}
 use Rattle.answers.proofs.Values.{rows_answered, waits_answered}
 
 -- a file that is fine holds a sheet that is fine
-read_checked : (bs : List ℕ) → (read_of bs).answer ≡ Fine → checked_of (read_of bs).sheet ≡ Fine
+read_checked : (bs : List ℕ) → (read_of bs).answer ≡ Ok tt → checked_of (read_of bs).sheet ≡ Ok tt
 read_checked bs e =
     let f = fine_read bs e in
     ap (λ x. checked_of x.sheet) f.read ∙ sheet_fine bs f
@@ -36,19 +37,19 @@ module _ (bs : List ℕ) (found : ReadPlan) (e : found ≡ read_of bs) where
   unfolding shown_waits
   waits_are k d = sym (ap (λ r. waits_as r.answer (plan_of r.sheet)) e) ∙ ap (λ a. waits_as a (plan_of found.sheet)) d
 
-  module _ (ws : List ℕ) (d : found.answer ≡ Fine) where
-    fine : checked_of found.sheet ≡ Fine
+  module _ (ws : List ℕ) (d : found.answer ≡ Ok tt) where
+    fine : checked_of found.sheet ≡ Ok tt
     fine = ap (λ x. checked_of x.sheet) e ∙ read_checked bs (sym (ap (λ x. x.answer) e) ∙ d)
 
     few : found.sheet.count ≤ streams
     few = let w = fine_within found.sheet fine in omega (arith, w.0.count, w.1)
 
     -- the answers in the words are listed as the plan's answers, ..
-    pub answers_shown : ws ≡ (answer_of Answers found.sheet (replicate (words_per_row * streams) 0)).1 → listing_in found.sheet ws ≡ shown_as Fine (plan_of found.sheet)
+    pub answers_shown : ws ≡ (answer_of Answers found.sheet (replicate (words_per_row * streams) 0)).1 → listing_in found.sheet ws ≡ shown_as (Ok tt) (plan_of found.sheet)
     answers_shown f =
         rw f (ap (listing_of (plan_of found.sheet)) (rows_answered found.sheet (replicate (words_per_row * streams) 0) fine (omega (arith, few))).0)
 
     -- .. and the waits as the plan's waits
-    pub waits_shown : ws ≡ (answer_of Waits found.sheet (replicate (words_per_wait * streams) 0)).1 → lines_in found.sheet ws ≡ waits_as Fine (plan_of found.sheet)
+    pub waits_shown : ws ≡ (answer_of Waits found.sheet (replicate (words_per_wait * streams) 0)).1 → lines_in found.sheet ws ≡ waits_as (Ok tt) (plan_of found.sheet)
     waits_shown f =
         rw f (ap (lines_of (plan_of found.sheet)) (waits_answered found.sheet (replicate (words_per_wait * streams) 0) fine (omega (arith, few))))

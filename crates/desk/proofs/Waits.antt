@@ -4,7 +4,7 @@ use mathlib.Core.List.{List, map}
 use Prim.Native.Nat.{ℕ, ◌+◌, ◌^◌, ◌≤◌, ◌<◌}
 use native.Mathlib.Omega.{arith}
 use lib.ListN.{length, get_or, length-map}
-use Rattle.judge.specs.declared.Checked.TheVariants.{Fine}
+use Rattle.std.specs.Prelude.{Ok}
 use Rattle.names.specs.Limits.{ticks}
 use Rattle.plan.specs.Plan.{Plan, plan_of, blank, at}
 use Rattle.plan.specs.Evaluations.{row_wait, waits}
@@ -40,7 +40,7 @@ module _ (n m : ℕ) (p : Plan) (r : Right n m p) where
   printed = record { count = r.within.count; label = r.label; evaluations = small_number; limit = small_limit }
 
 -- the plan of a file's sheet is the one that was read
-module _ (bs : List ℕ) (e : (read_of bs).answer ≡ Fine) where
+module _ (bs : List ℕ) (e : (read_of bs).answer ≡ Ok tt) where
   abbrev p : Plan
   p = plan_read bs (fine_read bs e)
 

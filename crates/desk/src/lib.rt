@@ -14,13 +14,11 @@ ghost use Rattle.desk.specs.Desk.{shown, shown_waits, shown_refusal, shown_file}
 
 use answers::{Told, answer_values};
 use carried::{CARRIED, CONTENTS, WORD};
-use file::Written;
-use judge::Checked;
 use names::STREAMS;
 use reader::read;
 use rewriter::rewrite;
 use row_words::{WORDS_PER_ROW, WORDS_PER_WAIT};
-use text::{Put, lay_text, listing, refused};
+use text::{lay_text, listing, refused};
 use wait_lines::waits;
 
 // The number of the refusal that a file is written by where its bytes have no room.
@@ -54,15 +52,15 @@ pub fn listing_buffer() -> [u8; LISTED]
 }
 
 // The listing of a file's plan, at the start of the buffer; the rest of it stays.
-pub fn show(bytes: &[u8], out: &mut [u8]) -> Put
+pub fn show(bytes: &[u8], out: &mut [u8]) -> Option<usize>
     ensures { Puts out.old 0 (shown bytes.now) result out.new }
 {
     let found = read(bytes);
     let answer = found.answer;
     let sheet = found.sheet;
     match answer {
-        Checked::Refused(r) => refused(r, out),
-        Checked::Fine => {
+        Err(r) => refused(r, out),
+        Ok(()) => {
             let mut answers = [0; WORDS_PER_ROW * STREAMS];
             answer_values(Told::Answers, sheet, &mut answers);
             listing(sheet, &answers, out)
@@ -71,15 +69,15 @@ pub fn show(bytes: &[u8], out: &mut [u8]) -> Put
 }
 
 // How many evaluations the search for each stream's L takes, and how many at most, at the start of the buffer; the rest of it stays.
-pub fn show_waits(bytes: &[u8], out: &mut [u8]) -> Put
+pub fn show_waits(bytes: &[u8], out: &mut [u8]) -> Option<usize>
     ensures { Puts out.old 0 (shown_waits bytes.now) result out.new }
 {
     let found = read(bytes);
     let answer = found.answer;
     let sheet = found.sheet;
     match answer {
-        Checked::Refused(r) => refused(r, out),
-        Checked::Fine => {
+        Err(r) => refused(r, out),
+        Ok(()) => {
             let mut words = [0; WORDS_PER_WAIT * STREAMS];
             answer_values(Told::Waits, sheet, &mut words);
             waits(sheet, &words, out)
@@ -87,37 +85,37 @@ pub fn show_waits(bytes: &[u8], out: &mut [u8]) -> Put
     }
 }
 
-fn fine(out: &mut [u8]) -> Put
+fn fine(out: &mut [u8]) -> Option<usize>
     ensures { Puts out.old 0 (ascii "fine\n") result out.new }
 {
     let text = b"fine\n";
     if out.len() < text.len() {
-        return Put::Full;
+        return None;
     }
-    Put::At(lay_text(out, 0, text))
+    Some(lay_text(out, 0, text))
 }
 
 // Whether a file is fine, at the start of the buffer.
-pub fn show_refusal(bytes: &[u8], out: &mut [u8]) -> Put
+pub fn show_refusal(bytes: &[u8], out: &mut [u8]) -> Option<usize>
     ensures { Puts out.old 0 (shown_refusal bytes.now) result out.new }
 {
     let found = read(bytes);
     let answer = found.answer;
     match answer {
-        Checked::Refused(r) => refused(r, out),
-        Checked::Fine => fine(out),
+        Err(r) => refused(r, out),
+        Ok(()) => fine(out),
     }
 }
 
 // A file's plan written again, at the start of the buffer. Room is looked for after all else, so where that is missing the plan is fine.
-pub fn show_file(bytes: &[u8], out: &mut [u8]) -> Put
+pub fn show_file(bytes: &[u8], out: &mut [u8]) -> Option<usize>
     ensures { Puts out.old 0 (shown_file bytes.now) result out.new }
 {
     match rewrite(bytes, out) {
-        Written::Bytes(n) => Put::At(n),
-        Written::Refused(r) => {
+        Ok(n) => Some(n),
+        Err(r) => {
             if r.number == NO_ROOM {
-                return Put::Full;
+                return None;
             }
             refused(r, out)
         }

@@ -9,7 +9,7 @@ use native.Mathlib.Omega.{arith}
 use borrow.Author.Tests.{leb-true}
 use lib.Dec.{leb}
 use lib.ListN.{length}
-use Rattle.laws.specs.declared.Found.{Found, TheVariants.At, TheVariants.Nothing}
+use Rattle.std.specs.Prelude.{Option, Some, None}
 use Rattle.laws.proofs.Tests.{both}
 use Rattle.fields.specs.Fields.{Field, inside, lowest, field_at, LowestOutside, AllInside, LowestExactly, NothingIfInside, InsideIfWithin}
 use Rattle.fields.proofs.Lowest.{within}
@@ -21,13 +21,13 @@ inside_if_within f = (
 )
 
 -- what an answer says
-abbrev Said : ℕ → List Field → Found → Type 0
-Said k fs (At p) = LowestOutside k fs p
-Said k fs Nothing = AllInside fs
+abbrev Said : ℕ → List Field → Option ℕ → Type 0
+Said k fs (Some p) = LowestOutside k fs p
+Said k fs None = AllInside fs
 
 -- one field more, in front
-more : (k : ℕ) (f : Field) (fs : List Field) (b : Bool) → inside f ≡ b → (r : Found) → Said (k + 1) fs r → Said k (f ∷ fs) (elim b [ true ↦ r | false ↦ At k ])
-more k f fs true e (At p) s =
+more : (k : ℕ) (f : Field) (fs : List Field) (b : Bool) → inside f ≡ b → (r : Option ℕ) → Said (k + 1) fs r → Said k (f ∷ fs) (elim b [ true ↦ r | false ↦ Some k ])
+more k f fs true e (Some p) s =
     record {
       i = suc s.i;
       among = omega (arith, s.among);
@@ -39,7 +39,7 @@ more k f fs true e (At p) s =
     before : (j : ℕ) → j < suc s.i → inside (field_at (f ∷ fs) j) ≡ true
     before zero h = e
     before (suc j) h = s.before j (omega arith)
-more k f fs true e Nothing s = all
+more k f fs true e None s = all
   where
     all : (i : ℕ) → i < length (f ∷ fs) → inside (field_at (f ∷ fs) i) ≡ true
     all zero h = e
@@ -55,17 +55,17 @@ said k (f ∷ fs) = more k f fs (inside f) refl (lowest (k + 1) fs) (said (k + 1
 not_below : (fs : List Field) (i j : ℕ) → inside (field_at fs j) ≡ false → (j < i → inside (field_at fs j) ≡ true) → i ≤ j
 not_below fs i j e f = elim (dec_le i j) [ yes h ↦ h | no h ↦ absurd (true≢false (sym (f (lt_of_not-le h)) ∙ e)) ]
 
-one : (k : ℕ) (fs : List Field) (r s : Found) → Said k fs r → Said k fs s → r ≡ s
-one k fs (At p) (At q) a b =
+one : (k : ℕ) (fs : List Field) (r s : Option ℕ) → Said k fs r → Said k fs s → r ≡ s
+one k fs (Some p) (Some q) a b =
     let x = not_below fs a.i b.i b.outside (a.before b.i) in
     let y = not_below fs b.i a.i a.outside (b.before a.i) in
-    ap At (omega (arith, a.counted, b.counted))
-one k fs (At p) Nothing a b = absurd (true≢false (sym (b a.i a.among) ∙ a.outside))
-one k fs Nothing (At q) a b = absurd (true≢false (sym (a b.i b.among) ∙ b.outside))
-one k fs Nothing Nothing a b = refl
+    ap Some (omega (arith, a.counted, b.counted))
+one k fs (Some p) None a b = absurd (true≢false (sym (b a.i a.among) ∙ a.outside))
+one k fs None (Some q) a b = absurd (true≢false (sym (a b.i b.among) ∙ b.outside))
+one k fs None None a b = refl
 
 pub at_the_lowest : LowestExactly
-at_the_lowest k fs p = (λ e. subst (Said k fs) e (said k fs), λ h. one k fs _ (At p) (said k fs) h)
+at_the_lowest k fs p = (λ e. subst (Said k fs) e (said k fs), λ h. one k fs _ (Some p) (said k fs) h)
 
 pub nothing_if_inside : NothingIfInside
-nothing_if_inside k fs = (λ e. subst (Said k fs) e (said k fs), λ h. one k fs _ Nothing (said k fs) h)
+nothing_if_inside k fs = (λ e. subst (Said k fs) e (said k fs), λ h. one k fs _ None (said k fs) h)

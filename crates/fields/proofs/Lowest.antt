@@ -11,7 +11,7 @@ use borrow.Author.Tests.{le-leb, lt-leb}
 use lib.Dec.{leb}
 use lib.ListN.{length, get_or, take, drop, replicate, drop_of_length-le}
 use lib.Seq.{drop-cons}
-use Rattle.laws.specs.declared.Found.TheVariants.{At, Nothing}
+use Rattle.std.specs.Prelude.{Some, None}
 use Rattle.laws.proofs.Tests.{apart}
 use Rattle.plan.specs.declared.Stream.{Stream}
 use Rattle.carried.specs.declared.Edition.{Edition}
@@ -40,27 +40,27 @@ pub pass : (k : ℕ) (f : Field) (fs : List Field) → inside f ≡ true → low
 unfolding lowest
 pass k f fs e = rw (lowest, e) refl
 
-pub stop : (k : ℕ) (f : Field) (fs : List Field) → inside f ≡ false → lowest k (f ∷ fs) ≡ At k
+pub stop : (k : ℕ) (f : Field) (fs : List Field) → inside f ≡ false → lowest k (f ∷ fs) ≡ Some k
 unfolding lowest
 stop k f fs e = rw (lowest, e) refl
 
 -- ---- fields after fields
-step : (k : ℕ) (f : Field) (fs gs : List Field) → lowest k (f ∷ fs) ≡ Nothing → (b : Bool) → inside f ≡ b → (lowest (k + 1) fs ≡ Nothing → lowest (k + 1) (fs ++ gs) ≡ lowest (k + 1 + length fs) gs) → lowest k (f ∷ fs ++ gs) ≡ lowest (k + length (f ∷ fs)) gs
+step : (k : ℕ) (f : Field) (fs gs : List Field) → lowest k (f ∷ fs) ≡ None → (b : Bool) → inside f ≡ b → (lowest (k + 1) fs ≡ None → lowest (k + 1) (fs ++ gs) ≡ lowest (k + 1 + length fs) gs) → lowest k (f ∷ fs ++ gs) ≡ lowest (k + length (f ∷ fs)) gs
 step k f fs gs e true d more =
     let n : k + 1 + length fs ≡ k + length (f ∷ fs) = omega arith in
     pass k f (fs ++ gs) d ∙ more (sym (pass k f fs d) ∙ e) ∙ ap (λ j. lowest j gs) n
 step k f fs gs e false d more = absurd (apart (sym (stop k f fs d) ∙ e))
 
-pub append_none : (k : ℕ) (fs gs : List Field) → lowest k fs ≡ Nothing → lowest k (fs ++ gs) ≡ lowest (k + length fs) gs
+pub append_none : (k : ℕ) (fs gs : List Field) → lowest k fs ≡ None → lowest k (fs ++ gs) ≡ lowest (k + length fs) gs
 append_none k [] gs e = ap (λ j. lowest j gs) (sym (add-zero k))
 append_none k (f ∷ fs) gs e = step k f fs gs e (inside f) refl (append_none (k + 1) fs gs)
 
-pub append_at : (k p : ℕ) (fs gs : List Field) → lowest k fs ≡ At p → lowest k (fs ++ gs) ≡ At p
+pub append_at : (k p : ℕ) (fs gs : List Field) → lowest k fs ≡ Some p → lowest k (fs ++ gs) ≡ Some p
 unfolding lowest
 append_at k p [] gs e = absurd (apart (sym e))
 append_at k p (f ∷ fs) gs e = go (inside f) refl (append_at (k + 1) p fs gs)
   where
-    go : (b : Bool) → inside f ≡ b → (lowest (k + 1) fs ≡ At p → lowest (k + 1) (fs ++ gs) ≡ At p) → lowest k (f ∷ fs ++ gs) ≡ At p
+    go : (b : Bool) → inside f ≡ b → (lowest (k + 1) fs ≡ Some p → lowest (k + 1) (fs ++ gs) ≡ Some p) → lowest k (f ∷ fs ++ gs) ≡ Some p
     go true d more = pass k f (fs ++ gs) d ∙ more (sym (pass k f fs d) ∙ e)
     go false d more = stop k f (fs ++ gs) d ∙ sym (stop k f fs d) ∙ e
 
@@ -71,16 +71,16 @@ module _ (nb : ℕ) (streams : List Stream) (r : ℕ) (d : Stream) (h : r < leng
   unfolding flat_map
   next_stream = rw (add-one r, drop-cons streams r d h) refl
 
-  pub stream_here : (p : ℕ) → lowest (layout.stream_at r) (stream_fields nb (get_or streams r d)) ≡ At p → lowest (layout.stream_at 0) (flat_map (stream_fields nb) streams) ≡ At p
+  pub stream_here : (p : ℕ) → lowest (layout.stream_at r) (stream_fields nb (get_or streams r d)) ≡ Some p → lowest (layout.stream_at 0) (flat_map (stream_fields nb) streams) ≡ Some p
   stream_here p e = so_far ∙ ap (lowest (layout.stream_at r)) next_stream ∙ append_at (layout.stream_at r) p (stream_fields nb (get_or streams r d)) _ e
 
-  pub stream_not_here : lowest (layout.stream_at r) (stream_fields nb (get_or streams r d)) ≡ Nothing
+  pub stream_not_here : lowest (layout.stream_at r) (stream_fields nb (get_or streams r d)) ≡ None
       → lowest (layout.stream_at 0) (flat_map (stream_fields nb) streams) ≡ lowest (layout.stream_at (r + 1)) (flat_map (stream_fields nb) (drop (r + 1) streams))
   stream_not_here e =
       let n : layout.stream_at r + layout.stream_length ≡ layout.stream_at (r + 1) = omega arith in
       so_far ∙ ap (lowest (layout.stream_at r)) next_stream ∙ append_none (layout.stream_at r) (stream_fields nb (get_or streams r d)) _ e ∙ ap (λ j. lowest j (flat_map (stream_fields nb) (drop (r + 1) streams))) n
 
-pub streams_done : (nb : ℕ) (streams : List Stream) (k r : ℕ) → length streams ≤ r → lowest k (flat_map (stream_fields nb) (drop r streams)) ≡ Nothing
+pub streams_done : (nb : ℕ) (streams : List Stream) (k r : ℕ) → length streams ≤ r → lowest k (flat_map (stream_fields nb) (drop r streams)) ≡ None
 unfolding flat_map lowest
 streams_done nb streams k r h = rw (drop_of_length-le streams h) refl
 
@@ -91,17 +91,17 @@ length_streams nb [] = refl
 length_streams nb (s ∷ streams) = omega (arith, length_streams nb streams)
 
 module _ (edition : Edition) (v : Entered) where
-  pub timing_here : (k : ℕ) → lowest 0 (timing_fields edition v.timing) ≡ At k → lowest 0 (fields edition v) ≡ At k
+  pub timing_here : (k : ℕ) → lowest 0 (timing_fields edition v.timing) ≡ Some k → lowest 0 (fields edition v) ≡ Some k
   unfolding fields
   timing_here k e = append_at 0 k (timing_fields edition v.timing) _ e
 
-  module _ (e : lowest 0 (timing_fields edition v.timing) ≡ Nothing) where
-    pub streams_here : (k : ℕ) → lowest (layout.stream_at 0) (flat_map (stream_fields v.timing.nb) v.streams) ≡ At k → lowest 0 (fields edition v) ≡ At k
+  module _ (e : lowest 0 (timing_fields edition v.timing) ≡ None) where
+    pub streams_here : (k : ℕ) → lowest (layout.stream_at 0) (flat_map (stream_fields v.timing.nb) v.streams) ≡ Some k → lowest 0 (fields edition v) ≡ Some k
     unfolding fields
     streams_here k d =
         append_none 0 (timing_fields edition v.timing) _ e ∙ append_at (layout.stream_at 0) k (flat_map (stream_fields v.timing.nb) v.streams) _ d
 
-    pub gaps_left : lowest (layout.stream_at 0) (flat_map (stream_fields v.timing.nb) v.streams) ≡ Nothing
+    pub gaps_left : lowest (layout.stream_at 0) (flat_map (stream_fields v.timing.nb) v.streams) ≡ None
         → lowest 0 (fields edition v) ≡ lowest (layout.stream_at (length v.streams)) (map gap_field v.gaps)
     unfolding fields
     gaps_left d =
@@ -121,13 +121,13 @@ module _ (words least most : List ℕ) where
     unfolding fields_of
     next = rw (add-one i, drop-cons words i 0 h, drop-cons least i 0 (omega arith), drop-cons most i 0 (omega arith)) refl
 
-    pub here : inside (get_or words i 0 from get_or least i 0 to get_or most i 0) ≡ false → lowest k (fields_of words least most) ≡ At (k + i)
+    pub here : inside (get_or words i 0 from get_or least i 0 to get_or most i 0) ≡ false → lowest k (fields_of words least most) ≡ Some (k + i)
     here e = so_far ∙ ap (lowest (k + i)) next ∙ stop (k + i) _ (rest (i + 1)) e
 
     pub not_here : inside (get_or words i 0 from get_or least i 0 to get_or most i 0) ≡ true → lowest k (fields_of words least most) ≡ lowest (k + (i + 1)) (rest (i + 1))
     not_here e = so_far ∙ ap (lowest (k + i)) next ∙ pass (k + i) _ (rest (i + 1)) e ∙ ap (λ j. lowest j (rest (i + 1))) (add_assoc k i 1)
 
-  pub nowhere : (k i : ℕ) → length words ≤ i → lowest k (rest i) ≡ Nothing
+  pub nowhere : (k i : ℕ) → length words ≤ i → lowest k (rest i) ≡ None
   unfolding fields_of lowest
   nowhere k i h = rw (drop_of_length-le words h) refl
 

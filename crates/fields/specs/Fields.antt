@@ -2,7 +2,7 @@
 use Rattle.std.specs.Prelude.{◌≡◌, Bool, true, false, ◌&&◌, ◌↔◌, ℕ, ◌+◌, ◌-◌, ◌^◌, ◌≤◌, ◌<◌, leb, length, get_or}
 use mathlib.Core.List.{List, [], ◌∷◌, ◌++◌, map, flat_map}
 use Rattle.names.specs.Limits.{constant, payload, acknowledgement, bits, slot, ticks}
-use Rattle.laws.specs.declared.Found.{Found, TheVariants.At, TheVariants.Nothing}
+use Rattle.std.specs.Prelude.{Option, Some, None}
 use Rattle.plan.specs.declared.Stream.{Stream}
 use Rattle.plan.specs.Plan.{blank, TimingWithin, StreamWithin, GapWithin}
 use Rattle.carried.specs.declared.Edition.{Edition, TheVariants.One, TheVariants.Two, TheVariants.Three}
@@ -71,9 +71,9 @@ abbrev pub inside : Field → Bool
 inside f = leb f.least f.word && leb f.word f.most
 
 -- the lowest field outside its limits, where the first of the fields is counted as k. Where it stands in a file is not said here
-unfoldable pub lowest : ℕ → List Field → Found
-lowest k [] = Nothing
-lowest k (f ∷ fs) = elim (inside f) [ true ↦ lowest (k + 1) fs | false ↦ At k ]
+unfoldable pub lowest : ℕ → List Field → Option ℕ
+lowest k [] = None
+lowest k (f ∷ fs) = elim (inside f) [ true ↦ lowest (k + 1) fs | false ↦ Some k ]
 
 -- ---- What is proved of the lowest field outside its limits; the proofs are in proofs/Inside.antt and proofs/Limits.antt.
 
@@ -89,14 +89,14 @@ pub record LowestOutside (k : ℕ) (fs : List Field) (p : ℕ) : Type 0 where
   pub before : (j : ℕ) → j < i → inside (field_at fs j) ≡ true
 
 abbrev pub LowestExactly : Type 0
-LowestExactly = (k : ℕ) (fs : List Field) (p : ℕ) → (lowest k fs ≡ At p) ↔ LowestOutside k fs p
+LowestExactly = (k : ℕ) (fs : List Field) (p : ℕ) → (lowest k fs ≡ Some p) ↔ LowestOutside k fs p
 
 -- nothing exactly if every field is inside
 abbrev pub AllInside : List Field → Type 0
 AllInside fs = (i : ℕ) → i < length fs → inside (field_at fs i) ≡ true
 
 abbrev pub NothingIfInside : Type 0
-NothingIfInside = (k : ℕ) (fs : List Field) → (lowest k fs ≡ Nothing) ↔ AllInside fs
+NothingIfInside = (k : ℕ) (fs : List Field) → (lowest k fs ≡ None) ↔ AllInside fs
 
 -- a field is inside exactly if its word is no less than the least and no more than the most
 abbrev pub InsideIfWithin : Type 0

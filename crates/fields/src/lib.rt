@@ -7,7 +7,6 @@
 ghost use Rattle.std.specs.Prelude.{◌≡◌, ◌+◌, ◌-◌, ◌^◌, ◌*◌, min, ◌≤◌, length};
 ghost use mathlib.Core.List.{map, flat_map};
 ghost use Rattle.names.specs.Limits as limit;
-ghost use Rattle.laws.specs.declared.Found.TheVariants.{At};
 ghost use Rattle.laws.specs.Lists.{rows};
 ghost use Rattle.carried.specs.Layout as layout;
 ghost use Rattle.carried.specs.Carried.{entered_timing_in, streams_in, gaps_in, entered_in};
@@ -15,14 +14,14 @@ ghost use Rattle.fields.specs.Fields.{slot_least, slot_most, timing_fields, stre
 ghost use Rattle.fields.specs.private.Bands.{fields_of};
 
 use carried::{CARRIED, Edition, STREAM, TIMING};
-use laws::{Found, smaller};
+use laws::smaller;
 use names::{ACKNOWLEDGEMENT, BITS, CONSTANT, PAYLOAD, SLOT, SOURCES, STREAMS, TICKS};
 
 // The timing's word that has the number of priority bits.
 const NB: usize = 8;
 
 // The lowest field outside its limits, of words that stand from word k on.
-fn words_outside<'a>(words: &'a [u32], least: &'a [u32], most: &'a [u32], k: usize) -> Found
+fn words_outside<'a>(words: &'a [u32], least: &'a [u32], most: &'a [u32], k: usize) -> Option<u64>
     requires least_len { length least.now ≡ length words.now }
     requires most_len { length most.now ≡ length words.now }
     requires words_bound { k + length words.now ≤ layout.largest }
@@ -30,13 +29,13 @@ fn words_outside<'a>(words: &'a [u32], least: &'a [u32], most: &'a [u32], k: usi
 {
     for i in 0..words.len() {
         if words[i] < least[i] {
-            return Found::At((k + i) as u64);
+            return Some((k + i) as u64);
         }
         if most[i] < words[i] {
-            return Found::At((k + i) as u64);
+            return Some((k + i) as u64);
         }
     }
-    Found::Nothing
+    None
 }
 
 // The least and the most that P may be: edition 1 has none, and edition 3 a plan with none.
@@ -63,7 +62,7 @@ fn slot_band(edition: Edition) -> Band
 }
 
 // F to LAG are at most 65,535, NB is 1 to 32, and P as its edition has it.
-fn timing_outside(edition: Edition, words: &[u32]) -> Found
+fn timing_outside(edition: Edition, words: &[u32]) -> Option<u64>
     requires { length words.now ≡ layout.largest }
     ensures { result ≡ lowest 0 (timing_fields edition (entered_timing_in words.now)) }
 {
@@ -85,7 +84,7 @@ fn largest_priority(nb: u32) -> u32
 }
 
 // The streams, which all have one row of limits. Every word is a label.
-fn streams_outside(words: &[u32], n: usize, nb: u32) -> Found
+fn streams_outside(words: &[u32], n: usize, nb: u32) -> Option<u64>
     requires words_len { length words.now ≡ layout.largest }
     requires n_le_streams { n ≤ limit.streams }
     requires nb_le_bits { nb ≤ limit.bits }
@@ -105,15 +104,15 @@ fn streams_outside(words: &[u32], n: usize, nb: u32) -> Found
     for r in 0..n {
         let at = TIMING + STREAM * r;
         match words_outside(&words[at..at + STREAM], &least, &most, at) {
-            Found::At(p) => return Found::At(p),
-            Found::Nothing => {}
+            Some(p) => return Some(p),
+            None => {}
         }
     }
-    Found::Nothing
+    None
 }
 
 // The gaps, which start where stream n would.
-fn gaps_outside(words: &[u32], n: usize, m: usize) -> Found
+fn gaps_outside(words: &[u32], n: usize, m: usize) -> Option<u64>
     requires words_len { length words.now ≡ layout.largest }
     requires n_le_streams { n ≤ limit.streams }
     requires m_le_sources { m ≤ limit.sources }
@@ -127,18 +126,18 @@ fn gaps_outside(words: &[u32], n: usize, m: usize) -> Found
 
 // The lowest field that is outside its limits in an edition, counted from 0, of what is entered in the words of n streams and m gaps; of
 // counts past the limits there are as many as there may be. No number is raised to the power NB before NB is known to be in its limits.
-pub fn outside(edition: Edition, words: &[u32; CARRIED], n: usize, m: usize) -> Found
+pub fn outside(edition: Edition, words: &[u32; CARRIED], n: usize, m: usize) -> Option<u64>
     ensures { result ≡ lowest 0 (fields edition (entered_in (min n limit.streams) (min m limit.sources) words.now)) }
 {
     let rows = smaller(n, STREAMS);
     match timing_outside(edition, words) {
-        Found::At(p) => return Found::At(p),
-        Found::Nothing => {}
+        Some(p) => return Some(p),
+        None => {}
     }
     let nb = words[NB];
     match streams_outside(words, rows, nb) {
-        Found::At(p) => return Found::At(p),
-        Found::Nothing => {}
+        Some(p) => return Some(p),
+        None => {}
     }
     gaps_outside(words, rows, smaller(m, SOURCES))
 }

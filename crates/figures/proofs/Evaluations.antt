@@ -3,7 +3,7 @@ use mathlib.Core.Path.{◌≡◌, refl, ap₂}
 use Prim.Native.Nat.{ℕ, ◌+◌, ◌/◌}
 use native.Mathlib.Omega.{arith}
 use Rattle.names.specs.Limits.{ticks}
-use Rattle.laws.specs.declared.Found.TheVariants.{Nothing}
+use Rattle.std.specs.Prelude.{None}
 use Rattle.laws.specs.Lists.{sum_of, largest_of, smallest_of, those}
 use Rattle.laws.specs.Search.{first}
 use Rattle.bound.specs.Terms.{Terms}
@@ -18,7 +18,7 @@ use Rattle.figures.specs.Plans.{P5, P5Before, blocked}
 use Rattle.figures.specs.Evaluations.{Takes, Evaluations}
 
 -- ---- a row that is none: its number, and the limit by the last tick
-none_takes : (r : Terms) (number : ℕ) → (busy r ≡ Nothing) × (evaluations r ≡ number) → wait r ≡ record { evaluations = number; limit = ticks / c r + 1 }
+none_takes : (r : Terms) (number : ℕ) → (busy r ≡ None) × (evaluations r ≡ number) → wait r ≡ record { evaluations = number; limit = ticks / c r + 1 }
 unfolding limit X
 none_takes r number (e, d) = ap₂ (λ n f. record { evaluations = n; limit = or_ticks f / c r + 1 }) d e
 

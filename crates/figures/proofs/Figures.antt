@@ -9,7 +9,7 @@ use native.Mathlib.Omega.{arith}
 use borrow.Author.Tests.{leb-true, ltb-true}
 use lib.Dec.{leb, ltb}
 use lib.ListN.{length}
-use Rattle.laws.specs.declared.Found.{Found, TheVariants.Nothing}
+use Rattle.std.specs.Prelude.{Option, None}
 use Rattle.laws.specs.Lists.{sum_of, largest_of, those, rows}
 use Rattle.laws.specs.Search.{first}
 use Rattle.laws.specs.Signed.{largest_to, first_largest}
@@ -41,8 +41,8 @@ use Rattle.figures.proofs.Load.{full_is_none}
 full : Terms → ℕ → Bool
 full r d = leb d (load r d) && ltb d (load r d + delayed r d)
 
-abbrev sought : Terms → Bool → Found
-sought r b = cond b Nothing (busy r)
+abbrev sought : Terms → Bool → Option ℕ
+sought r b = cond b None (busy r)
 
 is_busy : (r : Terms) → sought r (full r r.own.T) ≡ busy r
 unfolding full

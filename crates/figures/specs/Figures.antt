@@ -4,7 +4,8 @@
 -- documents.
 use Rattle.std.specs.Prelude.{◌≡◌, Bool, true, false, List, [], ◌∷◌, ◌++◌, ℕ, ℤ, pos, length, take}
 use Rattle.names.specs.declared.Priority.{Priority}
-use Rattle.laws.specs.declared.Found.{Found, TheVariants.At, TheVariants.Nothing}
+use Rattle.std.specs.Prelude.{Option, Some, None, Ok, Err}
+use Rattle.judge.specs.Table.{Checked}
 use Rattle.laws.specs.Lists.{rows}
 use Rattle.bound.specs.declared.Answer.{Answer}
 use Rattle.bound.specs.declared.Verdict.TheVariants.{Met, Missed, None}
@@ -15,7 +16,6 @@ use Rattle.plan.specs.Rules.{«V», U, C'', terms, row_answer, answers}
 use Rattle.carried.specs.declared.Edition.TheVariants.{Three}
 use Rattle.carried.specs.declared.EnteredTiming.{EnteredTiming}
 use Rattle.carried.specs.Carried.{Entered, meant_timing, meant}
-use Rattle.judge.specs.declared.Checked.{Checked, TheVariants.Fine, TheVariants.Refused}
 use Rattle.judge.specs.Table.{judge}
 use Rattle.checks.specs.Checks.{lines}
 use Rattle.file.specs.File.{entered_file, file_of, read_of}
@@ -36,7 +36,7 @@ pub data Entry : Type 0 where
   -- a plan as it is entered: the answer to its values, and to its file
   of_plan : Entered → Checked → Checked → Entry
   -- a plan and a row: C'', L or none, Q, w(q) and the term of q for q from 0 to Q - 1, and the answer
-  of_row : Entered → ℕ → ℕ → Found → ℕ → List (ℕ × ℤ) → Answer → Entry
+  of_row : Entered → ℕ → ℕ → Option ℕ → ℕ → List (ℕ × ℤ) → Answer → Entry
   -- a plan: how many bytes its file has, and the whole listing
   of_listing : Entered → ℕ → List ℕ → Entry
   -- a plan: how many bytes its file of edition 1 has, and the answer to it
@@ -54,12 +54,12 @@ abbrev pub file : List ℕ → Checked
 file bs = (read_of bs).answer
 
 abbrev pub refusal : ℕ → ℕ → Checked
-refusal number place = Refused (record { number = number; place = place })
+refusal number place = Err (record { number = number; place = place })
 
 -- Q, which is 0 for none; and of an instance w(q), and the bound that q alone gives
-abbrev pub instances : Terms → Found → ℕ
-instances r (At L) = Q r L
-instances r Nothing = 0
+abbrev pub instances : Terms → Option ℕ → ℕ
+instances r (Some L) = Q r L
+instances r None = 0
 
 abbrev pub of_instance : Terms → ℕ → ℕ × ℤ
 of_instance r q = (w r q, term r q)
@@ -131,38 +131,38 @@ table =
     -- base constants: V = 8 and U = 12
     of_timing base 8 12
     -- P1: C'' is 25, 27, 22; the file has 168 bytes, and of edition 1 152; the whole listing
-    ∷ of_plan P1 Fine Fine
-    ∷ of_row P1 0 25 (At 43) 1 (18 gives 43 ∷ []) (met 43 0)
-    ∷ of_row P1 1 27 (At 65) 1 (38 gives 75 ∷ []) (met 75 0)
-    ∷ of_row P1 2 22 (At 74) 1 (52 gives 74 ∷ []) (met 74 0)
+    ∷ of_plan P1 (Ok tt) (Ok tt)
+    ∷ of_row P1 0 25 (Some 43) 1 (18 gives 43 ∷ []) (met 43 0)
+    ∷ of_row P1 1 27 (Some 65) 1 (38 gives 75 ∷ []) (met 75 0)
+    ∷ of_row P1 2 22 (Some 74) 1 (52 gives 74 ∷ []) (met 74 0)
     ∷ of_listing P1 168 listing_of_P1
-    ∷ of_older P1 152 Fine
+    ∷ of_older P1 152 (Ok tt)
     -- P2: bounds 68 (missed), 102, 101
-    ∷ of_plan P2 Fine Fine
-    ∷ of_row P2 0 25 (At 68) 1 (43 gives 68 ∷ []) (missed 68 0)
-    ∷ of_row P2 1 27 (At 92) 1 (65 gives 102 ∷ []) (met 102 0)
-    ∷ of_row P2 2 22 (At 126) 1 (79 gives 101 ∷ []) (met 101 0)
+    ∷ of_plan P2 (Ok tt) (Ok tt)
+    ∷ of_row P2 0 25 (Some 68) 1 (43 gives 68 ∷ []) (missed 68 0)
+    ∷ of_row P2 1 27 (Some 92) 1 (65 gives 102 ∷ []) (met 102 0)
+    ∷ of_row P2 2 22 (Some 126) 1 (79 gives 101 ∷ []) (met 101 0)
     -- P3: L = 25, bound 25
-    ∷ of_plan P3 Fine Fine
-    ∷ of_row P3 0 25 (At 25) 1 (0 gives 25 ∷ []) (met 25 0)
+    ∷ of_plan P3 (Ok tt) (Ok tt)
+    ∷ of_row P3 0 25 (Some 25) 1 (0 gives 25 ∷ []) (met 25 0)
     -- P4: none
-    ∷ of_plan P4 Fine Fine
-    ∷ of_row P4 0 25 Nothing 0 [] no_bound
+    ∷ of_plan P4 (Ok tt) (Ok tt)
+    ∷ of_row P4 0 25 None 0 [] no_bound
     -- P5: none
-    ∷ of_plan P5 Fine Fine
-    ∷ of_row P5 0 25 Nothing 0 [] no_bound
+    ∷ of_plan P5 (Ok tt) (Ok tt)
+    ∷ of_row P5 0 25 None 0 [] no_bound
     -- P3, P4 and P5 with the T and J that document 01 gave them: C'' is above T now, and there is none
-    ∷ of_row (alone 23 0) 0 25 Nothing 0 [] no_bound
-    ∷ of_row (alone 22 0) 0 25 Nothing 0 [] no_bound
-    ∷ of_row (alone 23 23) 0 25 Nothing 0 [] no_bound
+    ∷ of_row (alone 23 0) 0 25 None 0 [] no_bound
+    ∷ of_row (alone 22 0) 0 25 None 0 [] no_bound
+    ∷ of_row (alone 23 23) 0 25 None 0 [] no_bound
     -- P6: L = 150, Q = 6, bound 55
-    ∷ of_plan P6 Fine Fine
-    ∷ of_row P6 0 25 (At 150) 6 (0 gives 55 ∷ 25 gives 50 ∷ 50 gives 45 ∷ 75 gives 40 ∷ 100 gives 35 ∷ 125 gives 30 ∷ []) (met 55 0)
+    ∷ of_plan P6 (Ok tt) (Ok tt)
+    ∷ of_row P6 0 25 (Some 150) 6 (0 gives 55 ∷ 25 gives 50 ∷ 50 gives 45 ∷ 75 gives 40 ∷ 100 gives 35 ∷ 125 gives 30 ∷ []) (met 55 0)
     -- P7, the last: L = 70, w(0) = 20, w(1) = 60, bound 35 at q = 1, where the first instance alone gives 30
-    ∷ of_plan P7 Fine Fine
-    ∷ of_row P7 0 10 (At 19) 1 (9 gives 19 ∷ []) (met 19 0)
-    ∷ of_row P7 1 10 (At 49) 2 (19 gives 29 ∷ 39 gives 14 ∷ []) (met 29 0)
-    ∷ of_row P7 2 10 (At 70) 2 (20 gives 30 ∷ 60 gives 35 ∷ []) (met 35 1)
+    ∷ of_plan P7 (Ok tt) (Ok tt)
+    ∷ of_row P7 0 10 (Some 19) 1 (9 gives 19 ∷ []) (met 19 0)
+    ∷ of_row P7 1 10 (Some 49) 2 (19 gives 29 ∷ 39 gives 14 ∷ []) (met 29 0)
+    ∷ of_row P7 2 10 (Some 70) 2 (20 gives 30 ∷ 60 gives 35 ∷ []) (met 35 1)
     -- P8: refused 4 at row 1
     ∷ of_plan P8 (refusal 4 1) (refusal 4 1)
     -- P9: still 4
@@ -173,28 +173,28 @@ table =
     ∷ of_plan P11 (refusal 3 100) (refusal 3 100)
     ∷ of_older P11 152 (refusal 3 96)
     -- P12: row 1 wins; rows 0 and 2 go silent at the second bit from the top
-    ∷ of_tournament 4 3 P12 Fine Fine
+    ∷ of_tournament 4 3 P12 (Ok tt) (Ok tt)
     ((AtBit 1, three) ∷ (AtBit 2, three) ∷ (AtBit 3, row1) ∷ (AtBit 4, row1) ∷ (Finished (record { 0 = 1 }), row1) ∷ [])
     -- in slots of 30 ticks: C'' is 18, 20, 15, each message costs 30, B is 29; the file has 168 bytes; the whole listing
-    ∷ of_plan (slots 30) Fine Fine
-    ∷ of_row (slots 30) 0 18 (At 59) 1 (29 gives 47 ∷ []) (met 47 0)
-    ∷ of_row (slots 30) 1 20 (At 89) 1 (59 gives 89 ∷ []) (met 89 0)
-    ∷ of_row (slots 30) 2 15 (At 179) 1 (89 gives 104 ∷ []) (met 104 0)
+    ∷ of_plan (slots 30) (Ok tt) (Ok tt)
+    ∷ of_row (slots 30) 0 18 (Some 59) 1 (29 gives 47 ∷ []) (met 47 0)
+    ∷ of_row (slots 30) 1 20 (Some 89) 1 (59 gives 89 ∷ []) (met 89 0)
+    ∷ of_row (slots 30) 2 15 (Some 179) 1 (89 gives 104 ∷ []) (met 104 0)
     ∷ of_listing (slots 30) 168 listing_in_slots
     -- in slots of 19: refused 10 at row 1, whose C'' is 20
     ∷ of_plan (slots 19) (refusal 10 1) (refusal 10 1)
     -- two instances that are equally late: the earlier one is named
-    ∷ of_plan equally_late Fine Fine
-    ∷ of_row equally_late 0 10 (At 19) 1 (9 gives 19 ∷ []) (met 19 0)
-    ∷ of_row equally_late 1 10 (At 49) 2 (19 gives 29 ∷ 39 gives 19 ∷ []) (met 29 0)
-    ∷ of_row equally_late 2 10 (At 120) 3 (20 gives 30 ∷ 70 gives 40 ∷ 110 gives 40 ∷ []) (met 40 1)
+    ∷ of_plan equally_late (Ok tt) (Ok tt)
+    ∷ of_row equally_late 0 10 (Some 19) 1 (9 gives 19 ∷ []) (met 19 0)
+    ∷ of_row equally_late 1 10 (Some 49) 2 (19 gives 29 ∷ 39 gives 19 ∷ []) (met 29 0)
+    ∷ of_row equally_late 2 10 (Some 120) 3 (20 gives 30 ∷ 70 gives 40 ∷ 110 gives 40 ∷ []) (met 40 1)
     -- P1 with acknowledgements: C'' is 28, 29, 22
-    ∷ of_plan waits Fine Fine
-    ∷ of_row waits 0 28 (At 48) 1 (20 gives 48 ∷ []) (met 48 0)
-    ∷ of_row waits 1 29 (At 70) 1 (41 gives 80 ∷ []) (met 80 0)
-    ∷ of_row waits 2 22 (At 79) 1 (57 gives 79 ∷ []) (met 79 0)
+    ∷ of_plan waits (Ok tt) (Ok tt)
+    ∷ of_row waits 0 28 (Some 48) 1 (20 gives 48 ∷ []) (met 48 0)
+    ∷ of_row waits 1 29 (Some 70) 1 (41 gives 80 ∷ []) (met 80 0)
+    ∷ of_row waits 2 22 (Some 79) 1 (57 gives 79 ∷ []) (met 79 0)
     -- P1 with ETG + LAG at 65,535: fine; a tick more: refused 11 at byte 68, and in edition 1; a LAG that is itself too great: 3 at byte 72
-    ∷ of_plan (lagging 65534 1) Fine Fine
+    ∷ of_plan (lagging 65534 1) (Ok tt) (Ok tt)
     ∷ of_plan (lagging 65535 1) (refusal 11 68) (refusal 11 68)
     ∷ of_older (lagging 65535 1) 152 (refusal 11 68)
     ∷ of_plan (lagging 65535 65536) (refusal 3 72) (refusal 3 72)

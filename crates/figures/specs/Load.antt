@@ -1,6 +1,6 @@
 -- A full load: terms that have no busy period, shown without a search. Rows without a bound are proved so (P4 and P5).
 use Rattle.std.specs.Prelude.{◌≡◌, ◌∷◌, ℕ, ◌+◌, ◌*◌, ◌/◌, ◌≤◌, ◌<◌}
-use Rattle.laws.specs.declared.Found.TheVariants.{Nothing}
+use Rattle.std.specs.Prelude.{None}
 use Rattle.laws.specs.Lists.{sum_of}
 use Rattle.bound.specs.Terms.{Share, Terms}
 use Rattle.bound.specs.Bound.{busy}
@@ -24,4 +24,4 @@ pub record Full (r : Terms) (d : ℕ) : Type 0 where
 
 -- then there is no busy period
 abbrev pub FullIsNone : Type 0
-FullIsNone = (r : Terms) (d : ℕ) → Full r d → busy r ≡ Nothing
+FullIsNone = (r : Terms) (d : ℕ) → Full r d → busy r ≡ None

@@ -12,7 +12,8 @@ use Rattle.carried.specs.declared.Edition.{Edition, TheVariants.Three}
 use Rattle.carried.specs.Layout as layout
 use Rattle.carried.specs.Carried.{Entered, meant, plainly, entered_in, sheet_of}
 use Rattle.carried.proofs.Plans.{one_sheet}
-use Rattle.judge.specs.declared.Checked.{Checked, TheVariants.Fine, TheVariants.Refused}
+use Rattle.std.specs.Prelude.{Ok, Err}
+use Rattle.judge.specs.Table.{Checked}
 use Rattle.judge.specs.Table.{judge}
 use Rattle.checks.specs.Checks.{lines}
 use Rattle.file.specs.declared.Counts.TheVariants.{Of, Refused as Counts-as-Refused}
@@ -23,9 +24,9 @@ use Rattle.file.proofs.Reading.{counts_refused, counts_are, counts_right, counts
 -- `read` is what is done with an answer and its sheet: by the counts and the plan where it is fine, as entered in edition 3, and else by the
 -- refusal alone; and what is fine is done alike in every edition, and with a LAG as with none
 module _ {A : Type 0} (read : Checked → Sheet → A) (no : Refusal → A) (by : Edition → ℕ → ℕ → Entered → A)
-    (fine : (s : Sheet) → read Fine s ≡ by Three s.count s.sources (plainly (plan_of s))) (not : (r : Refusal) (s : Sheet) → read (Refused r) s ≡ no r)
-    (refused : (edition : Edition) (n m : ℕ) (v : Entered) (r : Refusal) → judge (lines edition n m v) ≡ Refused r → by edition n m v ≡ no r)
-    (alike : (edition : Edition) (n m : ℕ) (v : Entered) → judge (lines edition n m v) ≡ Fine → by Three n m (plainly (meant v)) ≡ by edition n m v) where
+    (fine : (s : Sheet) → read (Ok tt) s ≡ by Three s.count s.sources (plainly (plan_of s))) (not : (r : Refusal) (s : Sheet) → read (Err r) s ≡ no r)
+    (refused : (edition : Edition) (n m : ℕ) (v : Entered) (r : Refusal) → judge (lines edition n m v) ≡ Err r → by edition n m v ≡ no r)
+    (alike : (edition : Edition) (n m : ℕ) (v : Entered) → judge (lines edition n m v) ≡ Ok tt → by Three n m (plainly (meant v)) ≡ by edition n m v) where
   pub not_counted : (bs : List ℕ) (r : Refusal) → counts_of bs ≡ Counts-as-Refused r → read (read_of bs).answer (read_of bs).sheet ≡ no r
   not_counted bs r e = ap (λ f. read f.answer f.sheet) (counts_refused bs r e) ∙ not r _
 
@@ -36,7 +37,7 @@ module _ {A : Type 0} (read : Checked → Sheet → A) (no : Refusal → A) (by 
     abbrev p : Plan
     p = plan_at edition n m bs
 
-    own : judge (lines edition n m v) ≡ Fine → read Fine (sheet_of p) ≡ by edition n m v
+    own : judge (lines edition n m v) ≡ Ok tt → read (Ok tt) (sheet_of p) ≡ by edition n m v
     own d =
         let (n-is, m-is) = length_at edition n m (drop layout.contents_length (words_of bs)) in
         let (some, few, quiet) = counts_right bs edition n m e in
@@ -44,8 +45,8 @@ module _ {A : Type 0} (read : Checked → Sheet → A) (no : Refusal → A) (by 
         fine (sheet_of p) ∙ ap₂ (λ i j. by Three i j (plainly (plan_of (sheet_of p)))) n-is m-is ∙ ap (λ q. by Three n m (plainly q)) sheet ∙ alike edition n m v d
 
     as_read : (c : Checked) → judge (lines edition n m v) ≡ c → read (read_as c p).answer (read_as c p).sheet ≡ by edition n m v
-    as_read Fine d = own d
-    as_read (Refused r) d = not r _ ∙ sym (refused edition n m v r d)
+    as_read (Ok _) d = own d
+    as_read (Err r) d = not r _ ∙ sym (refused edition n m v r d)
 
     pub by_words : {ws : List ℕ} → ws ≡ carried_of bs (replicate layout.largest 0) → read (read_of bs).answer (read_of bs).sheet ≡ by edition n m (entered_in n m ws)
     by_words d =

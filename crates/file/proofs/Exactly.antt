@@ -9,7 +9,8 @@ use Rattle.words.specs.Words.{words_of}
 use Rattle.plan.specs.Plan.{Plan}
 use Rattle.carried.specs.declared.Edition.{Edition}
 use Rattle.carried.specs.Carried.{Entered}
-use Rattle.judge.specs.declared.Checked.{Checked, TheVariants.Fine, TheVariants.Refused}
+use Rattle.std.specs.Prelude.{Ok, Err}
+use Rattle.judge.specs.Table.{Checked}
 use Rattle.judge.specs.Table.{Line, judge, line_at}
 use Rattle.checks.specs.Checks.{value_lines}
 use Rattle.judge.proofs.Table.{fine_then, refused_by_the_first}
@@ -19,12 +20,12 @@ use Rattle.file.specs.Claims.{ContentsRefused}
 use Rattle.file.proofs.Reading.{as_refused, counts_refused, first_fine}
 
 -- the answer to a reading is that to its lines
-answer_refused : (c : Checked) (p : Plan) (r : Refusal) → (read_as c p).answer ≡ Refused r → c ≡ Refused r
-answer_refused Fine p r e = e
-answer_refused (Refused q) p r e = e
+answer_refused : (c : Checked) (p : Plan) (r : Refusal) → (read_as c p).answer ≡ Err r → c ≡ Err r
+answer_refused (Ok _) p r e = e
+answer_refused (Err q) p r e = e
 
 -- a refusal has the number of one of its lines
-number_of : (P : ℕ → Type 0) (ls : List Line) (r : Refusal) → ((i : ℕ) → i < length ls → P (line_at ls i).number) → judge ls ≡ Refused r → P r.number
+number_of : (P : ℕ → Type 0) (ls : List Line) (r : Refusal) → ((i : ℕ) → i < length ls → P (line_at ls i).number) → judge ls ≡ Err r → P r.number
 number_of P ls r h e = let g = (refused_by_the_first ls r).0 e in subst P g.number (h g.i g.among)
 
 first_number : (edition : Edition) (n m : ℕ) (bs : List ℕ) (i : ℕ) → i < 3 → (line_at (contents_lines edition n m bs) i).number ≤ 2
@@ -51,31 +52,31 @@ module _ (bs : List ℕ) (r : Refusal) where
       let m = sources_in (words_of bs) in
       number_of (λ k. k ≤ 2) (contents_lines x n m bs) r (first_number x n m bs) (as_refused x n m (judge (contents_lines x n m bs)) r e)
 
-  by_values : (x : Edition) (n m : ℕ) → counts_of bs ≡ Of x n m → (read_of bs).answer ≡ Refused r → (3 ≤ r.number) × (r.number ≡ 6 → ⊥)
+  by_values : (x : Edition) (n m : ℕ) → counts_of bs ≡ Of x n m → (read_of bs).answer ≡ Err r → (3 ≤ r.number) × (r.number ≡ 6 → ⊥)
   unfolding read_of
   by_values x n m e d =
       let (x-is, n-is, m-is, fine) = first_fine bs x n m e in
       let v = entered_at x n m bs in
       let p = plan_at x n m bs in
-      let j : judge (lines_in x n m bs) ≡ Refused r = answer_refused (judge (lines_in x n m bs)) p r (rw (x-is, n-is, m-is) at d) in
+      let j : judge (lines_in x n m bs) ≡ Err r = answer_refused (judge (lines_in x n m bs)) p r (rw (x-is, n-is, m-is) at d) in
       number_of (λ k. (3 ≤ k) × (k ≡ 6 → ⊥)) (value_lines x v) r (value_number x v) (sym (fine_then (contents_lines x n m bs) (value_lines x v) fine) ∙ j)
 
-  only : (c : Counts) → counts_of bs ≡ c → ((read_of bs).answer ≡ Refused r) × (r.number ≤ 2) → counts_of bs ≡ Counts-as-Refused r
+  only : (c : Counts) → counts_of bs ≡ c → ((read_of bs).answer ≡ Err r) × (r.number ≤ 2) → counts_of bs ≡ Counts-as-Refused r
   only (Of x n m) e (d, h) = absurd (omega (arith, (by_values x n m e d).0))
   only (Counts-as-Refused q) e (d, h) =
-      let same : ◌≡◌ {A = Checked} (Refused q) (Refused r) = sym (ap (λ f. f.answer) (counts_refused bs q e)) ∙ d in
+      let same : ◌≡◌ {A = Checked} (Err q) (Err r) = sym (ap (λ f. f.answer) (counts_refused bs q e)) ∙ d in
       let s : q ≡ r = cc in
       e ∙ ap Counts-as-Refused s
 
   -- reading never says 6
-  never_six : (c : Counts) → counts_of bs ≡ c → (read_of bs).answer ≡ Refused r → r.number ≡ 6 → ⊥
+  never_six : (c : Counts) → counts_of bs ≡ c → (read_of bs).answer ≡ Err r → r.number ≡ 6 → ⊥
   never_six (Of x n m) e d six = (by_values x n m e d).1 six
   never_six (Counts-as-Refused q) e d six =
-      let same : ◌≡◌ {A = Checked} (Refused q) (Refused r) = sym (ap (λ f. f.answer) (counts_refused bs q e)) ∙ d in
+      let same : ◌≡◌ {A = Checked} (Err q) (Err r) = sym (ap (λ f. f.answer) (counts_refused bs q e)) ∙ d in
       let s : q ≡ r = cc in
       omega (arith, small (e ∙ ap Counts-as-Refused s))
 
-pub refused_number : (bs : List ℕ) (r : Refusal) → (read_of bs).answer ≡ Refused r → r.number ≡ 6 → ⊥
+pub refused_number : (bs : List ℕ) (r : Refusal) → (read_of bs).answer ≡ Err r → r.number ≡ 6 → ⊥
 refused_number bs r d = never_six bs r (counts_of bs) refl d
 
 pub contents_refused : ContentsRefused

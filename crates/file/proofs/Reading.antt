@@ -12,7 +12,8 @@ use Rattle.names.specs.declared.Refusal.{Refusal}
 use Rattle.laws.proofs.Tests.{both}
 use Rattle.words.specs.Words.{words_of}
 use Rattle.words.proofs.Laws.{laid_on_zeros}
-use Rattle.judge.specs.declared.Checked.{Checked, TheVariants.Fine, TheVariants.Refused}
+use Rattle.std.specs.Prelude.{Ok, Err}
+use Rattle.judge.specs.Table.{Checked}
 use Rattle.judge.specs.Table.{judge, unless}
 use Rattle.judge.proofs.Table.{given, passed, not_given, refused_then, unless_not}
 use Rattle.plan.specs.Plan.{Plan}
@@ -56,11 +57,11 @@ module _ (bs : List ℕ) (edition : Edition) (n m : ℕ) (x : edition_in (words_
   unfolding counts_of
   past_contents two = rw (x, e, d) (ap (λ c. counts_as c edition n m) (passed _ _ (ap unless one) ∙ passed _ _ (ap unless two)))
 
-  pub said_counts : contents_right edition n m bs ≡ true → judge (range_lines edition n m) ≡ Fine → counts_of bs ≡ Of edition n m
+  pub said_counts : contents_right edition n m bs ≡ true → judge (range_lines edition n m) ≡ Ok tt → counts_of bs ≡ Of edition n m
   said_counts two three = past_contents two ∙ ap (λ c. counts_as c edition n m) three
 
   -- 2, by the ranges, whatever the contents
-  pub said_ranges : (r : Refusal) → judge (range_lines edition n m) ≡ Refused r → counts_of bs ≡ Counts-as-Refused r
+  pub said_ranges : (r : Refusal) → judge (range_lines edition n m) ≡ Err r → counts_of bs ≡ Counts-as-Refused r
   said_ranges r three = go (contents_right edition n m bs) refl
     where
       go : (b : Bool) → contents_right edition n m bs ≡ b → counts_of bs ≡ Counts-as-Refused r
@@ -74,16 +75,16 @@ module _ (bs : List ℕ) (edition : Edition) (n m : ℕ) (x : edition_in (words_
       rw (x, e, d) (ap (λ c. read_as c (plan_at edition n m bs)) (passed _ _ (ap unless one) ∙ passed _ _ (ap unless two) ∙ at_counts edition n m bs))
 
 -- ---- an answer with its edition and its counts
-pub as_refused : (edition : Edition) (n m : ℕ) (c : Checked) (r : Refusal) → counts_as c edition n m ≡ Counts-as-Refused r → c ≡ Refused r
-as_refused edition n m Fine r e = absurd (let z : ◌≡◌ {A = ℕ} 0 1 = cc in omega arith)
-as_refused edition n m (Refused q) r e = cc
+pub as_refused : (edition : Edition) (n m : ℕ) (c : Checked) (r : Refusal) → counts_as c edition n m ≡ Counts-as-Refused r → c ≡ Err r
+as_refused edition n m (Ok _) r e = absurd (let z : ◌≡◌ {A = ℕ} 0 1 = cc in omega arith)
+as_refused edition n m (Err q) r e = cc
 
-as_fine : (edition : Edition) (n m : ℕ) (c : Checked) (x : Edition) (a b : ℕ) → counts_as c edition n m ≡ Of x a b → (c ≡ Fine) × (edition ≡ x) × (n ≡ a) × (m ≡ b)
-as_fine edition n m Fine x a b e = (refl, cc, cc, cc)
-as_fine edition n m (Refused q) x a b e = absurd (let z : ◌≡◌ {A = ℕ} 0 1 = cc in omega arith)
+as_fine : (edition : Edition) (n m : ℕ) (c : Checked) (x : Edition) (a b : ℕ) → counts_as c edition n m ≡ Of x a b → (c ≡ Ok tt) × (edition ≡ x) × (n ≡ a) × (m ≡ b)
+as_fine edition n m (Ok _) x a b e = (refl, cc, cc, cc)
+as_fine edition n m (Err q) x a b e = absurd (let z : ◌≡◌ {A = ℕ} 0 1 = cc in omega arith)
 
 -- a refusal of the contents is that of the file
-pub counts_refused : (bs : List ℕ) (r : Refusal) → counts_of bs ≡ Counts-as-Refused r → read_of bs ≡ record { answer = Refused r; sheet = no_sheet }
+pub counts_refused : (bs : List ℕ) (r : Refusal) → counts_of bs ≡ Counts-as-Refused r → read_of bs ≡ record { answer = Err r; sheet = no_sheet }
 unfolding counts_of read_of
 counts_refused bs r e =
     let edition = edition_in (words_of bs) in
@@ -101,7 +102,7 @@ right_contents edition n m bs e =
 
 module _ (bs : List ℕ) (edition : Edition) (n m : ℕ) (e : counts_of bs ≡ Of edition n m) where
   -- the edition, n and m are what they say
-  pub first_fine : (edition_in (words_of bs) ≡ edition) × (count_in edition (words_of bs) ≡ n) × (sources_in (words_of bs) ≡ m) × (judge (contents_lines edition n m bs) ≡ Fine)
+  pub first_fine : (edition_in (words_of bs) ≡ edition) × (count_in edition (words_of bs) ≡ n) × (sources_in (words_of bs) ≡ m) × (judge (contents_lines edition n m bs) ≡ Ok tt)
   unfolding counts_of
   first_fine =
       let z = edition_in (words_of bs) in
@@ -110,7 +111,7 @@ module _ (bs : List ℕ) (edition : Edition) (n m : ℕ) (e : counts_of bs ≡ O
       let (j, x, p, q) = as_fine z a b (judge (contents_lines z a b bs)) edition n m e in
       (x, ap (λ x. count_in x (words_of bs)) (sym x) ∙ p, q, sym (ap (λ z. judge (contents_lines z a b bs)) x ∙ ap₂ (λ x y. judge (contents_lines edition x y bs)) p q) ∙ j)
 
-  two_fine : (size_right bs ≡ true) × (contents_right edition n m bs ≡ true) × (judge (range_lines edition n m) ≡ Fine)
+  two_fine : (size_right bs ≡ true) × (contents_right edition n m bs ≡ true) × (judge (range_lines edition n m) ≡ Ok tt)
   two_fine =
       let (x, p, q, j) = first_fine in
       let (one, j₁) = not_given _ _ j in
@@ -146,14 +147,14 @@ pub record ReadFine (bs : List ℕ) : Type 0 where
   pub m : ℕ
   pub size : length bs ≡ layout.size edition n m
   pub contents : take layout.contents_length (words_of bs) ≡ contents edition n m
-  pub values : judge (lines edition n m (entered_at edition n m bs)) ≡ Fine
-  pub read : read_of bs ≡ record { answer = Fine; sheet = sheet_of (plan_at edition n m bs) }
+  pub values : judge (lines edition n m (entered_at edition n m bs)) ≡ Ok tt
+  pub read : read_of bs ≡ record { answer = Ok tt; sheet = sheet_of (plan_at edition n m bs) }
 
-answer_of_lem : (c : Checked) (p : Plan) → (read_as c p).answer ≡ Fine → c ≡ Fine
-answer_of_lem Fine p e = refl
-answer_of_lem (Refused r) p e = e
+answer_of_lem : (c : Checked) (p : Plan) → (read_as c p).answer ≡ Ok tt → c ≡ Ok tt
+answer_of_lem (Ok _) p e = refl
+answer_of_lem (Err r) p e = e
 
-pub fine_read : (bs : List ℕ) → (read_of bs).answer ≡ Fine → ReadFine bs
+pub fine_read : (bs : List ℕ) → (read_of bs).answer ≡ Ok tt → ReadFine bs
 unfolding read_of
 fine_read bs e =
     let edition = edition_in (words_of bs) in

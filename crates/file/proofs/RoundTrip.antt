@@ -20,13 +20,14 @@ use Rattle.carried.specs.Layout as layout
 use Rattle.carried.specs.Carried.{Entered, meant, plain_timing, plainly, timing_words, stream_words, entered_words, values_of, sheet_of}
 use Rattle.carried.proofs.Plans.{meant_plainly, plainly_meant, one_sheet, entered_back}
 use Rattle.fields.proofs.All.{none, next, All, shown, all_both, flat_all}
-use Rattle.judge.specs.declared.Checked.{Checked, TheVariants.Fine, TheVariants.Refused}
+use Rattle.std.specs.Prelude.{Result, Ok, Err}
+use Rattle.judge.specs.Table.{Checked}
+use Rattle.names.specs.declared.Refusal.{Refusal}
 use Rattle.judge.specs.Table.{judge}
 use Rattle.checks.specs.Checks.{lines, checked_of, Right}
 use Rattle.judge.proofs.Table.{fine_parts}
 use Rattle.checks.proofs.Fine.{meant_is_right, right_is_fine, fine_is_right, fine_when_meant, own_counts}
 use Rattle.file.specs.declared.ReadPlan.{ReadPlan}
-use Rattle.file.specs.declared.Written.{Written, TheVariants.Bytes}
 use Rattle.file.specs.File.{contents, file_words, entered_file, file_of, edition_in, count_in, sources_in, lag_in, entered_in_bodies, entered_at, plan_at, read_as, read_of, lines_out, write_as, write_with, write_of}
 use Rattle.file.specs.Claims.{ReadsAsItsValues, ReadsWhatWasWritten, file_read, WritesWhatWasRead, MeansTheSame, SameBytes, ReadsOneSheet}
 use Rattle.file.proofs.Same.{same_refl}
@@ -109,12 +110,12 @@ reads_as_its_values v few quiet fits =
     (rw head (rw (same_refl (contents Three n m)) (eq-eqb _ _ long)))
     ∙ ap (λ q. read_as (judge (lines Three n m q)) (meant q)) back
 
-pub read_file : (p : Plan) → Right (length p.streams) (length p.gaps) p → read_of (file_of p) ≡ record { answer = Fine; sheet = sheet_of p }
+pub read_file : (p : Plan) → Right (length p.streams) (length p.gaps) p → read_of (file_of p) ≡ record { answer = Ok tt; sheet = sheet_of p }
 read_file p w =
     reads_as_its_values (plainly p) w.within.count w.within.sources (words_fit p w)
     ∙ ap₂ read_as (right_is_fine (length p.streams) (length p.gaps) p w) (meant_plainly p)
 
-same_count : (a b : ℕ) → ◌≡◌ {A = Written} (Bytes a) (Bytes b) → a ≡ b
+same_count : (a b : ℕ) → ◌≡◌ {A = Result ℕ Refusal} (Ok a) (Ok b) → a ≡ b
 same_count a b e = cc
 
 pub reads_what_was_written : ReadsWhatWasWritten
@@ -125,16 +126,16 @@ reads_what_was_written s buf n e = go (judge (lines_out Three s.count s.sources 
     q : Plan
     q = meant (plainly (plan_of s))
 
-    go : (c : Checked) → judge (lines_out Three s.count s.sources (plainly (plan_of s)) buf) ≡ c → (write_as c s.count s.sources q buf).0 ≡ Bytes n
-        → read_of (take n (write_as c s.count s.sources q buf).1) ≡ record { answer = Fine; sheet = sheet_of (plan_of s) }
-    go Fine j e =
+    go : (c : Checked) → judge (lines_out Three s.count s.sources (plainly (plan_of s)) buf) ≡ c → (write_as c s.count s.sources q buf).0 ≡ Ok n
+        → read_of (take n (write_as c s.count s.sources q buf).1) ≡ record { answer = Ok tt; sheet = sheet_of (plan_of s) }
+    go (Ok _) j e =
         let p = plan_of s in
         let r = fine_is_right s.count s.sources p (fine_parts (lines Three s.count s.sources (plainly p)) _ j).0 in
         let long : length (file_of p) ≡ n = length_file p ∙ ap₂ (layout.size Three) r.count r.sources ∙ same_count _ n e in
         ap (λ x. read_of (take n (file_of x ++ drop (layout.size Three s.count s.sources) buf))) (meant_plainly p)
         ∙ ap read_of (take_at (file_of p) _ n long)
         ∙ read_file p (own_counts s.count s.sources p r)
-    go (Refused r) j e = absurd (let z : ◌≡◌ {A = ℕ} 0 1 = cc in omega arith)
+    go (Err r) j e = absurd (let z : ◌≡◌ {A = ℕ} 0 1 = cc in omega arith)
 
 -- ---- from a file to its plan and back
 -- the plan of a file that is not refused
@@ -158,7 +159,7 @@ pub file_is : (bs : List ℕ) (f : ReadFine bs) → file_read bs ≡ file_of (pl
 file_is bs f = ap (λ (r : ReadPlan). file_of (plan_of r.sheet)) f.read ∙ ap file_of (own_sheet bs f)
 
 -- the answer to the sheet of what was read
-pub sheet_fine : (bs : List ℕ) (f : ReadFine bs) → checked_of (sheet_of (plan_read bs f)) ≡ Fine
+pub sheet_fine : (bs : List ℕ) (f : ReadFine bs) → checked_of (sheet_of (plan_read bs f)) ≡ Ok tt
 sheet_fine bs f =
     let r = right_read bs f in
     checked_sheet f.n f.m (plan_read bs f) r.count r.sources (omega (arith, r.count, r.within.count)) (omega (arith, r.sources, r.within.sources))
@@ -175,7 +176,7 @@ writes_what_was_read bs buf e h =
     let long : layout.size Three n m ≡ length (file_read bs) = sym (ap length (file_is bs f) ∙ length_file p) in
     ap (λ (r : ReadPlan). write_of r.sheet buf) f.read
     ∙ write_fine Three n m (plainly q) buf (sheet_fine bs f) (omega arith)
-    ∙ ap₂ (λ k (bytes : List ℕ). (Bytes k, bytes ++ drop k buf)) long (ap file_of (meant_plainly q ∙ own_sheet bs f) ∙ sym (file_is bs f))
+    ∙ ap₂ (λ k (bytes : List ℕ). (Ok k, bytes ++ drop k buf)) long (ap file_of (meant_plainly q ∙ own_sheet bs f) ∙ sym (file_is bs f))
 
 pub means_the_same : MeansTheSame
 means_the_same bs e =

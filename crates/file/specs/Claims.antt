@@ -10,11 +10,10 @@ use Rattle.carried.specs.declared.Edition.{Edition, TheVariants.One, TheVariants
 use Rattle.carried.specs.Layout as layout
 use Rattle.carried.specs.Carried.{Entered, meant, sheet_of}
 use Rattle.fields.specs.Fields.{fields, field_at}
-use Rattle.judge.specs.declared.Checked.TheVariants.{Fine, Refused as Checked-as-Refused}
+use Rattle.std.specs.Prelude.{Ok, Err}
 use Rattle.judge.specs.Table.{judge}
 use Rattle.checks.specs.Checks.{lines}
 use Rattle.file.specs.declared.Counts.TheVariants.{Of, Refused as Counts-as-Refused}
-use Rattle.file.specs.declared.Written.TheVariants.{Bytes, Refused as Written-as-Refused}
 use Rattle.file.specs.File.{contents, file_words, entered_file, file_of, edition_in, lag_in, entered_at, counts_of, read_as, read_of}
 use Rattle.file.specs.File.{write_with, write_of}
 
@@ -27,8 +26,8 @@ ReadsAsItsValues =
 -- reading what was written gives the same plan, for every sheet that is not refused
 abbrev pub ReadsWhatWasWritten : Type 0
 ReadsWhatWasWritten =
-    (s : Sheet) (buf : List ℕ) (n : ℕ) → (write_of s buf).0 ≡ Bytes n
-    → read_of (take n (write_of s buf).1) ≡ record { answer = Fine; sheet = sheet_of (plan_of s) }
+    (s : Sheet) (buf : List ℕ) (n : ℕ) → (write_of s buf).0 ≡ Ok n
+    → read_of (take n (write_of s buf).1) ≡ record { answer = Ok tt; sheet = sheet_of (plan_of s) }
 
 -- the file of the plan that was read
 abbrev pub file_read : List ℕ → List ℕ
@@ -37,35 +36,35 @@ file_read bs = file_of (plan_of (read_of bs).sheet)
 -- writing what was read gives that file, for every file that is not refused, ..
 abbrev pub WritesWhatWasRead : Type 0
 WritesWhatWasRead =
-    (bs buf : List ℕ) → (read_of bs).answer ≡ Fine → length (file_read bs) ≤ length buf
-    → write_of (read_of bs).sheet buf ≡ (Bytes (length (file_read bs)), file_read bs ++ drop (length (file_read bs)) buf)
+    (bs buf : List ℕ) → (read_of bs).answer ≡ Ok tt → length (file_read bs) ≤ length buf
+    → write_of (read_of bs).sheet buf ≡ (Ok (length (file_read bs)), file_read bs ++ drop (length (file_read bs)) buf)
 
 -- .. which has edition 3, a LAG of 0 and the same meaning: what is read of it is what was read, ..
 abbrev pub MeansTheSame : Type 0
 MeansTheSame =
-    (bs : List ℕ) → (read_of bs).answer ≡ Fine
+    (bs : List ℕ) → (read_of bs).answer ≡ Ok tt
     → (edition_in (words_of (file_read bs)) ≡ Three) × (lag_in (words_of (file_read bs)) ≡ 0) × (read_of (file_read bs) ≡ read_of bs)
 
 -- .. and is the same byte for byte, if the file that was read has edition 3 and a LAG of 0
 abbrev pub SameBytes : Type 0
 SameBytes =
-    (bs : List ℕ) → Below 256 bs → (read_of bs).answer ≡ Fine → edition_in (words_of bs) ≡ Three → lag_in (words_of bs) ≡ 0 → file_read bs ≡ bs
+    (bs : List ℕ) → Below 256 bs → (read_of bs).answer ≡ Ok tt → edition_in (words_of bs) ≡ Three → lag_in (words_of bs) ≡ 0 → file_read bs ≡ bs
 
 -- counts out of range are refused 2 at 0, whatever else is wrong, and the lent bytes are as they were
 abbrev pub WrongCounts : Type 0
 WrongCounts =
     (edition : Edition) (n m : ℕ) (v : Entered) (buf : List ℕ)
-    → let refused_2 = write_with edition n m v buf ≡ (Written-as-Refused (record { number = 2; place = 0 }), buf) in
+    → let refused_2 = write_with edition n m v buf ≡ (Err (record { number = 2; place = 0 }), buf) in
     (n < 1 → refused_2) × (layout.most_streams edition < n → refused_2) × (sources < m → refused_2)
 
 -- the contents are refused exactly where the file is refused 1 or 2, and then as the file is
 abbrev pub ContentsRefused : Type 0
 ContentsRefused =
-    (bs : List ℕ) (r : Refusal) → (counts_of bs ≡ Counts-as-Refused r) ↔ (((read_of bs).answer ≡ Checked-as-Refused r) × (r.number ≤ 2))
+    (bs : List ℕ) (r : Refusal) → (counts_of bs ≡ Counts-as-Refused r) ↔ (((read_of bs).answer ≡ Err r) × (r.number ≤ 2))
 
 -- what was read is the one sheet of its plan
 abbrev pub ReadsOneSheet : Type 0
-ReadsOneSheet = (bs : List ℕ) → (read_of bs).answer ≡ Fine → (read_of bs).sheet ≡ sheet_of (plan_of (read_of bs).sheet)
+ReadsOneSheet = (bs : List ℕ) → (read_of bs).answer ≡ Ok tt → (read_of bs).sheet ≡ sheet_of (plan_of (read_of bs).sheet)
 
 -- the contents are the words of the documents, ..
 abbrev pub ContentsAre : Type 0

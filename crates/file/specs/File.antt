@@ -3,7 +3,9 @@
 use Rattle.std.specs.Prelude.{Bool, true, false, cond, ◌&&◌, List, [], ◌∷◌, ◌++◌, ℕ, ◌+◌, ◌*◌, ◌/◌, leb, eqb, length, get_or, take, drop}
 use Rattle.laws.specs.Lists.{rows}
 use Rattle.words.specs.Words.{words_of, laid_onto, bytes_of}
-use Rattle.judge.specs.declared.Checked.{Checked, TheVariants.Fine, TheVariants.Refused}
+use Rattle.std.specs.Prelude.{Result, Ok, Err}
+use Rattle.judge.specs.Table.{Checked}
+use Rattle.names.specs.declared.Refusal.{Refusal}
 use Rattle.judge.specs.Table.{Line, judge, unless}
 use Rattle.plan.specs.declared.Stream.{Stream}
 use Rattle.plan.specs.declared.Sheet.{Sheet}
@@ -14,7 +16,6 @@ use Rattle.carried.specs.Carried.{Entered, meant, plainly, entered_timing_in, st
 use Rattle.checks.specs.Checks.{range_lines, value_lines, lines}
 use Rattle.file.specs.declared.ReadPlan.{ReadPlan}
 use Rattle.file.specs.declared.Counts.{Counts, TheVariants.Of, TheVariants.Refused as Counts-as-Refused}
-use Rattle.file.specs.declared.Written.{Written, TheVariants.Bytes, TheVariants.Refused as Written-as-Refused}
 
 -- ---- a plan's file, and what is entered in one
 
@@ -103,8 +104,8 @@ contents_lines edition n m bs =
 
 -- an answer with the edition and the counts that it is about
 abbrev pub counts_as : Checked → Edition → ℕ → ℕ → Counts
-counts_as Fine edition n m = Of edition n m
-counts_as (Refused r) edition n m = Counts-as-Refused r
+counts_as (Ok _) edition n m = Of edition n m
+counts_as (Err r) edition n m = Counts-as-Refused r
 
 -- what the contents of any bytes at all say: the edition, and n and m are what they count
 unfoldable pub counts_of : List ℕ → Counts
@@ -128,8 +129,8 @@ lines_in edition n m bs = contents_lines edition n m bs ++ value_lines edition (
 
 -- an answer with the plan that it is about; the sheet of a refused file is all zero
 abbrev pub read_as : Checked → Plan → ReadPlan
-read_as Fine p = record { answer = Fine; sheet = sheet_of p }
-read_as (Refused r) p = record { answer = Refused r; sheet = no_sheet }
+read_as (Ok _) p = record { answer = Ok tt; sheet = sheet_of p }
+read_as (Err r) p = record { answer = Err r; sheet = no_sheet }
 
 -- what reading gives for any bytes at all
 unfoldable pub read_of : List ℕ → ReadPlan
@@ -148,14 +149,14 @@ lines_out edition n m v buf =
     lines edition n m v ++ (record { number = 6; place = unless (leb (layout.size Three n m) (length buf)) } ∷ [])
 
 -- the answer, and the lent bytes after it: the plan's file at the start and the rest as it was, or all as it was
-abbrev pub write_as : Checked → ℕ → ℕ → Plan → List ℕ → Written × List ℕ
-write_as Fine n m p buf = (Bytes (layout.size Three n m), file_of p ++ drop (layout.size Three n m) buf)
-write_as (Refused r) n m p buf = (Written-as-Refused r, buf)
+abbrev pub write_as : Checked → ℕ → ℕ → Plan → List ℕ → Result ℕ Refusal × List ℕ
+write_as (Ok _) n m p buf = (Ok (layout.size Three n m), file_of p ++ drop (layout.size Three n m) buf)
+write_as (Err r) n m p buf = (Err r, buf)
 
 -- what writing gives for any edition, any two counts, whatever is entered and any buffer, ..
-unfoldable pub write_with : Edition → ℕ → ℕ → Entered → List ℕ → Written × List ℕ
+unfoldable pub write_with : Edition → ℕ → ℕ → Entered → List ℕ → Result ℕ Refusal × List ℕ
 write_with edition n m v buf = write_as (judge (lines_out edition n m v buf)) n m (meant v) buf
 
 -- .. and for any sheet: its counts and its plan, with the places of edition 3
-unfoldable pub write_of : Sheet → List ℕ → Written × List ℕ
+unfoldable pub write_of : Sheet → List ℕ → Result ℕ Refusal × List ℕ
 write_of s buf = write_with Three s.count s.sources (plainly (plan_of s)) buf

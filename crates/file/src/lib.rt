@@ -9,14 +9,13 @@ ghost use Rattle.carried.specs.Layout as layout;
 ghost use Rattle.file.specs.File as spec;
 
 use carried::{CONTENTS, Edition, WORD, record_at, timing_body};
-use judge::Checked;
 use names::Refusal;
 use plan::Sheet;
 
 // What a reader hands back. The sheet of a refused file is all zero.
 #[derive(Clone, Copy)]
 pub struct ReadPlan {
-    pub answer: Checked,
+    pub answer: Result<(), Refusal>,
     pub sheet: Sheet,
 }
 
@@ -24,13 +23,6 @@ pub struct ReadPlan {
 #[derive(Clone, Copy)]
 pub enum Counts {
     Of(Edition, usize, usize),
-    Refused(Refusal),
-}
-
-// What a writer hands back: how many bytes it wrote, or why none.
-#[derive(Clone, Copy)]
-pub enum Written {
-    Bytes(usize),
     Refused(Refusal),
 }
 

@@ -8,16 +8,9 @@ ghost use Rattle.std.specs.Prelude.{◌≡◌};
 
 use names::Refusal;
 
-// Whether what was offered is fine, or why not.
-#[derive(Clone, Copy)]
-pub enum Checked {
-    Fine,
-    Refused(Refusal),
-}
-
 // The refusal of that number, at that place.
-pub fn refused(number: u32, place: usize) -> Checked
-    ensures { result ≡ Checked.Refused (record { number = number; place = place }) }
+pub fn refused(number: u32, place: usize) -> Result<(), Refusal>
+    ensures { result ≡ Err (record { number = number; place = place }) }
 {
-    Checked::Refused(Refusal { number, place })
+    Err(Refusal { number, place })
 }

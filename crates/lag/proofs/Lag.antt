@@ -10,7 +10,8 @@ use Rattle.laws.specs.Lists.{largest_of}
 use Rattle.laws.specs.Search.{first}
 use Rattle.bound.specs.Terms.{Terms}
 use Rattle.bound.specs.Bound.{answer}
-use Rattle.judge.specs.declared.Checked.{Checked, TheVariants.Fine, TheVariants.Refused}
+use Rattle.std.specs.Prelude.{Ok, Err}
+use Rattle.judge.specs.Table.{Checked}
 use Rattle.judge.specs.Table.{Line, judge, unless, ◌then◌}
 use Rattle.judge.proofs.Table.{refused_not_fine, judged_in_turn, fine_then, fine_parts}
 use Rattle.plan.specs.declared.Stream.{Stream}
@@ -82,14 +83,14 @@ same_of_file bs edition n m e fine =
     let v = entered_at edition n m bs in
     go (judge (lines edition n m v)) refl (ap (λ (r : ReadPlan). r.answer) (sym (counts_are bs edition n m e)) ∙ fine) ∙ same_answers v
   where
-    go : (c : Checked) → judge (lines edition n m (entered_at edition n m bs)) ≡ c → (read_as c (meant (entered_at edition n m bs))).answer ≡ Fine
+    go : (c : Checked) → judge (lines edition n m (entered_at edition n m bs)) ≡ c → (read_as c (meant (entered_at edition n m bs))).answer ≡ Ok tt
         → answers (plan_of (read_of bs).sheet) ≡ answers (meant (entered_at edition n m bs))
-    go Fine j a =
+    go (Ok _) j a =
         let p = meant (entered_at edition n m bs) in
         let right = meant_is_right edition n m (entered_at edition n m bs) j in
         ap (λ (r : ReadPlan). answers (plan_of r.sheet)) (counts_are bs edition n m e ∙ ap (λ c. read_as c p) j)
         ∙ ap answers (one_sheet p right.within.count right.within.sources)
-    go (Refused r) j a = absurd (refused_not_fine a)
+    go (Err r) j a = absurd (refused_not_fine a)
 
 -- ---- the refusals: up to 3 the two tables are one, and so are they from 4 on
 module _ (edition : Edition) (n m : ℕ) (v : Entered) where

@@ -1,7 +1,7 @@
 -- What is proved of a LAG that is added to ETG; the proofs are in proofs/Lag.antt.
 use Rattle.std.specs.Prelude.{◌≡◌, List, ℕ, ◌+◌, ◌≤◌, ◌<◌}
 use Rattle.names.specs.Limits.{constant}
-use Rattle.judge.specs.declared.Checked.TheVariants.{Fine, Refused}
+use Rattle.std.specs.Prelude.{Ok, Err}
 use Rattle.judge.specs.Table.{judge}
 use Rattle.plan.specs.Plan.{plan_of}
 use Rattle.plan.specs.Rules.{answers}
@@ -19,7 +19,7 @@ SameAnswers = (v : Entered) → answers (meant v) ≡ answers₀₅ v
 -- .. so of a file, in whatever edition, that is not refused: its plan has the answers that the older rule gives on the words as they stand
 abbrev pub SameOfFile : Type 0
 SameOfFile =
-    (bs : List ℕ) (edition : Edition) (n m : ℕ) → counts_of bs ≡ Of edition n m → (read_of bs).answer ≡ Fine
+    (bs : List ℕ) (edition : Edition) (n m : ℕ) → counts_of bs ≡ Of edition n m → (read_of bs).answer ≡ Ok tt
     → answers (plan_of (read_of bs).sheet) ≡ answers₀₅ (entered_at edition n m bs)
 
 -- nor does a refusal, where ETG + LAG is at most 65,535, ..
@@ -31,5 +31,5 @@ SameRefusals =
 -- .. and where it is more, what was not refused is refused 11 at byte 68
 abbrev pub NewlyRefused : Type 0
 NewlyRefused =
-    (edition : Edition) (n m : ℕ) (v : Entered) → constant < v.timing.etg + v.timing.lag → judge (lines₀₅ edition n m v) ≡ Fine
-    → judge (lines edition n m v) ≡ Refused (record { number = 11; place = 68 })
+    (edition : Edition) (n m : ℕ) (v : Entered) → constant < v.timing.etg + v.timing.lag → judge (lines₀₅ edition n m v) ≡ Ok tt
+    → judge (lines edition n m v) ≡ Err (record { number = 11; place = 68 })

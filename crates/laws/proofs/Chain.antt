@@ -6,7 +6,7 @@ use Prim.Native.Nat.{ℕ, zero, suc, ◌+◌, ◌-◌, ◌≤◌, ◌<◌}
 use native.Mathlib.Nat.{le_refl, le_trans, le_antisymm, lt_of_not-le, eq-or-lt_of_le}
 use native.Mathlib.Omega.{arith}
 use native.Mathlib.Decide.{dec_le}
-use Rattle.laws.specs.declared.Found.{Found, TheVariants.At, TheVariants.Nothing}
+use Rattle.std.specs.Prelude.{Option, Some, None}
 use Rattle.laws.specs.Search.{first_fixed, Least}
 use Rattle.laws.proofs.Search.{finds_least, finds_none, le_unless}
 
@@ -38,11 +38,11 @@ climb_more f m lo x y e c =
 pub climb_least : (f : ℕ → ℕ) (lo x : ℕ) → f x ≡ x → Climb f lo x → Least f lo x
 climb_least f lo x e c = record { above = c.above; fixed = e; least = λ y a g. le_unless (λ b. c.clear y a b g) }
 
-pub climb_found : (f : ℕ → ℕ) (lo n x y : ℕ) → y ≡ f x → y ≡ x → x < lo + n → Climb f lo x → first_fixed f lo n ≡ At x
+pub climb_found : (f : ℕ → ℕ) (lo n x y : ℕ) → y ≡ f x → y ≡ x → x < lo + n → Climb f lo x → first_fixed f lo n ≡ Some x
 climb_found f lo n x y e d h c = (finds_least f lo n x).1 (h, climb_least f lo x (sym e ∙ d) c)
 
 -- it has passed the last number: there is none
-pub climb_none : (f : ℕ → ℕ) (lo n x : ℕ) → lo + n ≤ x → Climb f lo x → first_fixed f lo n ≡ Nothing
+pub climb_none : (f : ℕ → ℕ) (lo n x : ℕ) → lo + n ≤ x → Climb f lo x → first_fixed f lo n ≡ None
 climb_none f lo n x h c = (finds_none f lo n).1 (λ y a b g. c.clear y a (omega arith) g)
 
 -- ---- where f does not rise at z, the chain from s ≤ z stays at or below z, and there is a fixed point there
@@ -56,15 +56,15 @@ settles f m (suc k) s z h r a d =
     (λ l. let (x, p, q, e) = settles f m k (f s) z (omega arith) (m s (f s) r) (stays f m s z a d) d in (x, le_trans r p, q, e))
     (eq-or-lt_of_le r)
 
-pub settled : (f : ℕ → ℕ) → Mono f → (s n z : ℕ) → s ≤ f s → s ≤ z → z < s + n → f z ≤ z → (x : ℕ) × (first_fixed f s n ≡ At x) × (x ≤ z) × Least f s x
+pub settled : (f : ℕ → ℕ) → Mono f → (s n z : ℕ) → s ≤ f s → s ≤ z → z < s + n → f z ≤ z → (x : ℕ) × (first_fixed f s n ≡ Some x) × (x ≤ z) × Least f s x
 settled f m s n z r a b d = go (first_fixed f s n) refl
   where
-    go : (g : Found) → first_fixed f s n ≡ g → (x : ℕ) × (first_fixed f s n ≡ At x) × (x ≤ z) × Least f s x
-    go (At x) e =
+    go : (g : Option ℕ) → first_fixed f s n ≡ g → (x : ℕ) × (first_fixed f s n ≡ Some x) × (x ≤ z) × Least f s x
+    go (Some x) e =
         let h = (finds_least f s n x).0 e in
         let (y, p, q, g) = settles f m (z - s) s z (le_refl _) r a d in
         (x, e, le_trans (h.1.least y p g) q, h.1)
-    go Nothing e =
+    go None e =
         let (y, p, q, g) = settles f m (z - s) s z (le_refl _) r a d in
         absurd ((finds_none f s n).0 e y p (omega arith) g)
 

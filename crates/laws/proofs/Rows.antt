@@ -9,7 +9,7 @@ use native.Mathlib.Decide.{dec_le}
 use native.Mathlib.Numerals.{add-one}
 use native.Mathlib.Omega.{arith}
 use borrow.Author.Count.{below_none, below_more}
-use Rattle.laws.specs.declared.Found.{Found, TheVariants.At, TheVariants.Nothing}
+use Rattle.std.specs.Prelude.{Option, Some, None}
 use Rattle.laws.specs.Search.{first}
 use Rattle.laws.specs.Rows.{some, Lowest, SomePasses, FindsLowest, FindsNothing}
 
@@ -50,21 +50,21 @@ some_passes t n = (passing t n, λ (i, l, e). passed t n i l e)
 
 -- ---- the lowest that passes
 -- what an answer of the search says
-abbrev Said : (ℕ → Bool) → ℕ → ℕ → Found → Type 0
-Said t lo n (At x) = Lowest t lo n x
-Said t lo n Nothing = (y : ℕ) → lo ≤ y → y < lo + n → t y ≡ false
+abbrev Said : (ℕ → Bool) → ℕ → ℕ → Option ℕ → Type 0
+Said t lo n (Some x) = Lowest t lo n x
+Said t lo n None = (y : ℕ) → lo ≤ y → y < lo + n → t y ≡ false
 
 -- one number more, in front
-more : (t : ℕ → Bool) (n lo : ℕ) (b : Bool) → t lo ≡ b → (r : Found) → Said t (suc lo) n r → Said t lo (suc n) (elim b [ true ↦ At lo | false ↦ r ])
+more : (t : ℕ → Bool) (n lo : ℕ) (b : Bool) → t lo ≡ b → (r : Option ℕ) → Said t (suc lo) n r → Said t lo (suc n) (elim b [ true ↦ Some lo | false ↦ r ])
 more t n lo true q r s = record { above = le_refl lo; below = omega arith; passes = q; lowest = λ y a b. absurd (omega arith) }
-more t n lo false q (At x) s =
+more t n lo false q (Some x) s =
     record {
       above = omega (arith, s.above);
       below = omega (arith, s.below);
       passes = s.passes;
       lowest = λ y a b. ⊎_elim (λ (e : lo ≡ y). rw (← e) q) (λ h. s.lowest y h b) (eq-or-lt_of_le a);
     }
-more t n lo false q Nothing s = λ y a b. ⊎_elim (λ (e : lo ≡ y). rw (← e) q) (λ h. s y h (omega arith)) (eq-or-lt_of_le a)
+more t n lo false q None s = λ y a b. ⊎_elim (λ (e : lo ≡ y). rw (← e) q) (λ h. s y h (omega arith)) (eq-or-lt_of_le a)
 
 said : (t : ℕ → Bool) (n lo : ℕ) → Said t lo n (first t lo n)
 unfolding first
@@ -75,18 +75,18 @@ said t (suc n) lo = more t n lo (t lo) refl (first t (suc lo) n) (said t n (suc 
 pub not_below : {b : Bool} {x y : ℕ} → b ≡ true → (y < x → b ≡ false) → x ≤ y
 not_below {b} {x} {y} p f = elim (dec_le x y) [ yes h ↦ h | no h ↦ absurd (true≢false (sym p ∙ f (lt_of_not-le h))) ]
 
-one : (t : ℕ → Bool) (n lo : ℕ) (r s : Found) → Said t lo n r → Said t lo n s → r ≡ s
-one t n lo (At x) (At y) a b =
-    ap At (le_antisymm (not_below b.passes (a.lowest y b.above)) (not_below a.passes (b.lowest x a.above)))
-one t n lo (At x) Nothing a b = absurd (true≢false (sym a.passes ∙ b x a.above a.below))
-one t n lo Nothing (At x) a b = absurd (true≢false (sym b.passes ∙ a x b.above b.below))
-one t n lo Nothing Nothing a b = refl
+one : (t : ℕ → Bool) (n lo : ℕ) (r s : Option ℕ) → Said t lo n r → Said t lo n s → r ≡ s
+one t n lo (Some x) (Some y) a b =
+    ap Some (le_antisymm (not_below b.passes (a.lowest y b.above)) (not_below a.passes (b.lowest x a.above)))
+one t n lo (Some x) None a b = absurd (true≢false (sym a.passes ∙ b x a.above a.below))
+one t n lo None (Some x) a b = absurd (true≢false (sym b.passes ∙ a x b.above b.below))
+one t n lo None None a b = refl
 
 pub finds_lowest : FindsLowest
-finds_lowest t lo n x = (λ e. subst (Said t lo n) e (said t n lo), λ h. one t n lo _ (At x) (said t n lo) h)
+finds_lowest t lo n x = (λ e. subst (Said t lo n) e (said t n lo), λ h. one t n lo _ (Some x) (said t n lo) h)
 
 pub finds_nothing : FindsNothing
-finds_nothing t lo n = (λ e. subst (Said t lo n) e (said t n lo), λ h. one t n lo _ Nothing (said t n lo) h)
+finds_nothing t lo n = (λ e. subst (Said t lo n) e (said t n lo), λ h. one t n lo _ None (said t n lo) h)
 
 -- ---- a loop that leaves at the first row that passes: what it knows of the rows behind it
 abbrev pub NoneBelow : (ℕ → Bool) → ℕ → Type 0
@@ -98,10 +98,10 @@ none_yet t = below_none (λ k. t k ≡ false)
 pub none_more : (t : ℕ → Bool) (i : ℕ) → NoneBelow t i → t i ≡ false → NoneBelow t (i + 1)
 none_more t = below_more (λ k. t k ≡ false)
 
-pub found_at : (t : ℕ → Bool) (n i : ℕ) → NoneBelow t i → i < n → t i ≡ true → first t 0 n ≡ At i
+pub found_at : (t : ℕ → Bool) (n i : ℕ) → NoneBelow t i → i < n → t i ≡ true → first t 0 n ≡ Some i
 found_at t n i h l e = (finds_lowest t 0 n i).1 (record { above = omega arith; below = omega arith; passes = e; lowest = λ y a b. h y b })
 
-pub found_none : (t : ℕ → Bool) (n i : ℕ) → NoneBelow t i → n ≤ i → first t 0 n ≡ Nothing
+pub found_none : (t : ℕ → Bool) (n i : ℕ) → NoneBelow t i → n ≤ i → first t 0 n ≡ None
 found_none t n i h l = (finds_nothing t 0 n).1 (λ y a b. h y (omega arith))
 
 pub some_at : (t : ℕ → Bool) (n i : ℕ) → i < n → t i ≡ true → some t n ≡ true

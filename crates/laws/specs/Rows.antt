@@ -1,6 +1,6 @@
 -- Whether some row passes a test, and what it is to be the lowest that does. `first` of laws searches for it.
 use Rattle.std.specs.Prelude.{◌≡◌, Bool, true, false, ◌||◌, ◌↔◌, ℕ, zero, suc, ◌+◌, ◌≤◌, ◌<◌}
-use Rattle.laws.specs.declared.Found.TheVariants.{At, Nothing}
+use Rattle.std.specs.Prelude.{Some, None}
 use Rattle.laws.specs.Search.{first}
 
 -- some row of 0, .., n - 1 passes the test
@@ -21,8 +21,8 @@ SomePasses = (t : ℕ → Bool) (n : ℕ) → (some t n ≡ true) ↔ ((i : ℕ)
 
 -- .. `first` gives x exactly if x is the lowest that passes, ..
 abbrev pub FindsLowest : Type 0
-FindsLowest = (t : ℕ → Bool) (lo n x : ℕ) → (first t lo n ≡ At x) ↔ Lowest t lo n x
+FindsLowest = (t : ℕ → Bool) (lo n x : ℕ) → (first t lo n ≡ Some x) ↔ Lowest t lo n x
 
 -- .. and nothing exactly if none passes
 abbrev pub FindsNothing : Type 0
-FindsNothing = (t : ℕ → Bool) (lo n : ℕ) → (first t lo n ≡ Nothing) ↔ ((y : ℕ) → lo ≤ y → y < lo + n → t y ≡ false)
+FindsNothing = (t : ℕ → Bool) (lo n : ℕ) → (first t lo n ≡ None) ↔ ((y : ℕ) → lo ≤ y → y < lo + n → t y ≡ false)

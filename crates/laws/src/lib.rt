@@ -7,13 +7,6 @@
 
 ghost use Rattle.std.specs.Prelude.{◌≡◌, min};
 
-// What a search found: the number, or that there is none.
-#[derive(Clone, Copy)]
-pub enum Found {
-    At(u64),
-    Nothing,
-}
-
 // The smaller of two counts: how many of the places of an array are used, whatever is said.
 pub fn smaller(a: usize, b: usize) -> usize
     ensures { result ≡ min a b }

@@ -13,7 +13,6 @@ ghost use Rattle.carried.specs.Layout.{largest_file};
 use console::{Input, arg, arg_count, first, open, print, print_first, print_unreadable, read};
 use std::io::Read;
 use std::rt::{Env, Files};
-use text::Put;
 
 // The longest list of pairs, in bytes.
 const LIST: usize = 65536;
@@ -28,9 +27,9 @@ fn tell(rt: &impl Print, was: &[u8], n: usize, is: &[u8], m: usize)
 {
     let mut out = [0u8; NAME];
     match chief::told(first(was, n), first(is, m), &mut out) {
-        Put::At(k) => print_first(rt, &out, k),
+        Some(k) => print_first(rt, &out, k),
         // 64 bytes hold every line (LargestLine, in chief's claims).
-        Put::Full => {}
+        None => {}
     }
 }
 

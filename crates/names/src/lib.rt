@@ -14,13 +14,6 @@ pub struct Priority(pub u32);
 #[derive(Clone, Copy)]
 pub struct Row(pub usize);
 
-// A row that was looked for, the lowest of its kind, or that there is none.
-#[derive(Clone, Copy)]
-pub enum FoundRow {
-    At(Row),
-    Nothing,
-}
-
 // group * 65,536 + number, painted on the node as group.number.
 #[repr(C)]
 #[derive(Clone, Copy)]

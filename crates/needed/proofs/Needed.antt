@@ -23,7 +23,8 @@ use Rattle.carried.specs.declared.Edition.TheVariants.{Three}
 use Rattle.carried.specs.Carried.{plainly}
 use Rattle.cover.specs.Cover.{Partnered}
 use Rattle.fields.specs.Fields.{fields, lowest}
-use Rattle.judge.specs.declared.Checked.{Checked, TheVariants.Fine, TheVariants.Refused}
+use Rattle.std.specs.Prelude.{Ok, Err}
+use Rattle.judge.specs.Table.{Checked}
 use Rattle.judge.specs.Table.{judge}
 use Rattle.checks.specs.Checks.{lines}
 use Rattle.checks.proofs.Fine.{fine_is_right}
@@ -37,8 +38,8 @@ second false b e n = e
 
 -- ---- not refused
 abbrev is_fine : Checked → Bool
-is_fine Fine = true
-is_fine (Refused r) = false
+is_fine (Ok _) = true
+is_fine (Err r) = false
 
 abbrev fine : Plan → Bool
 fine p = is_fine (judge (lines Three (length p.streams) (length p.gaps) (plainly p)))
@@ -46,9 +47,9 @@ fine p = is_fine (judge (lines Three (length p.streams) (length p.gaps) (plainly
 fine_says : (p : Plan) → fine p ≡ true → NotRefused p
 fine_says p e = fine_is_right _ _ p (go _ e)
   where
-    go : (c : Checked) → is_fine c ≡ true → c ≡ Fine
-    go Fine d = refl
-    go (Refused r) d = absurd (true≢false (sym d))
+    go : (c : Checked) → is_fine c ≡ true → c ≡ Ok tt
+    go (Ok _) d = refl
+    go (Err r) d = absurd (true≢false (sym d))
 
 -- ---- condition i alone is broken
 abbrev broken : ℕ → Plan → Plan → Bool

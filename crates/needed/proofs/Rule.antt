@@ -8,12 +8,11 @@ use native.Mathlib.Omega.{arith}
 use borrow.Author.Tests.{leb-true, le-leb}
 use lib.Dec.{leb}
 use lib.ListN.{length, get_or}
-use Rattle.laws.specs.declared.Found.{Found, TheVariants.At as Found-as-At, TheVariants.Nothing as Found-as-Nothing}
+use Rattle.std.specs.Prelude.{Option, Some, None, Ok}
 use Rattle.laws.proofs.Lists.{every_each, every_all}
 use Rattle.plan.specs.declared.Stream.{Stream}
 use Rattle.plan.specs.Plan.{Plan, at}
 use Rattle.promise.specs.Lighter.{NoGreater, Eased}
-use Rattle.compare.specs.declared.Change.TheVariants.{Nothing}
 use Rattle.compare.specs.Changes.{row_of, in_row}
 use Rattle.compare.proofs.First.{of_not_nothing, must_nothing, must_true}
 use Rattle.compare.proofs.Exactly.{no_greater, constants_nothing, eases, eased_nothing, Unbroken, unbroken, no_changes}
@@ -32,26 +31,26 @@ each_true (e and a) (suc j) h = each_true a j (omega arith)
 
 -- ---- a stream of the second plan: conditions 10 to 15 of its row
 module _ (old : Plan) (s : Stream) where
-  in_row_lem : (f : Found) → stands s f ≡ true
+  in_row_lem : (f : Option ℕ) → stands s f ≡ true
       → holds (λ a b. leb a.period b.period) old s f ≡ true
       → holds (λ a b. leb b.jitter a.jitter) old s f ≡ true
       → holds (λ a b. leb b.payload a.payload) old s f ≡ true
       → holds (λ a b. leb a.deadline b.deadline) old s f ≡ true
       → holds (λ a b. leb b.acknowledgement a.acknowledgement) old s f ≡ true
-      → in_row old s f ≡ Nothing
-  in_row_lem (Found-as-At r) e t j c d k =
+      → in_row old s f ≡ Ok tt
+  in_row_lem (Some r) e t j c d k =
       eased_nothing (at old r) s
       (record { period = leb-true _ _ t; deadline = leb-true _ _ d; jitter = leb-true _ _ j; payload = leb-true _ _ c; acknowledgement = leb-true _ _ k })
-  in_row_lem Found-as-Nothing e t j c d k = absurd (true≢false (sym e))
+  in_row_lem None e t j c d k = absurd (true≢false (sym e))
 
   -- and back
-  it_stands : (f : Found) → in_row old s f ≡ Nothing → stands s f ≡ true
-  it_stands (Found-as-At r) e = refl
-  it_stands Found-as-Nothing e = absurd (of_not_nothing e)
+  it_stands : (f : Option ℕ) → in_row old s f ≡ Ok tt → stands s f ≡ true
+  it_stands (Some r) e = refl
+  it_stands None e = absurd (of_not_nothing e)
 
-  it_holds : (t : Stream → Stream → Bool) → ((a : Stream) → Eased a s → t a s ≡ true) → (f : Found) → in_row old s f ≡ Nothing → holds t old s f ≡ true
-  it_holds t h (Found-as-At r) e = h (at old r) (eases (at old r) s e)
-  it_holds t h Found-as-Nothing e = absurd (of_not_nothing e)
+  it_holds : (t : Stream → Stream → Bool) → ((a : Stream) → Eased a s → t a s ≡ true) → (f : Option ℕ) → in_row old s f ≡ Ok tt → holds t old s f ≡ true
+  it_holds t h (Some r) e = h (at old r) (eases (at old r) s e)
+  it_holds t h None e = absurd (of_not_nothing e)
 
 -- ---- all the conditions
 module _ (old new : Plan) where

@@ -2,7 +2,7 @@
 -- and a stream loses its promise. Proved in proofs/Needed.antt. That the conditions are the rule is proved in proofs/Rule.antt.
 use Rattle.std.specs.Prelude.{◌≡◌, Bool, true, false, not, ◌↔◌, List, [], ◌∷◌, ℕ, ◌<◌, leb, length, get_or}
 use Rattle.std.specs.Bool.{beq}
-use Rattle.laws.specs.declared.Found.{Found, TheVariants.At as Found-as-At, TheVariants.Nothing as Found-as-Nothing}
+use Rattle.std.specs.Prelude.{Option, Some, None, Ok}
 use Rattle.laws.specs.Lists.{every}
 use Rattle.laws.specs.Rows.{some}
 use Rattle.plan.specs.declared.Stream.{Stream}
@@ -11,25 +11,24 @@ use Rattle.plan.specs.Rules.{has_master}
 use Rattle.carried.specs.declared.EnteredTiming.{EnteredTiming}
 use Rattle.carried.specs.Carried.{meant}
 use Rattle.promise.specs.Lighter.{Namesakes, Lighter, NotRefused, Kept}
-use Rattle.compare.specs.declared.Change.TheVariants.{Nothing}
 use Rattle.compare.specs.Changes.{row_of, overtakes, at_most, changes}
 use Rattle.figures.specs.Plans.{timed, constants, pulsing, acknowledged, stream, enter, base}
 
 -- ---- the conditions
 
 -- every stream of the second plan, beside the row of its label in the first, passes a test
-abbrev pub each_beside : (Stream → Found → Bool) → Plan → Plan → Bool
+abbrev pub each_beside : (Stream → Option ℕ → Bool) → Plan → Plan → Bool
 each_beside t old new = every (length new.streams) (λ k. t (at new k) (row_of old (at new k).label))
 
 -- the label stands in the first plan
-abbrev pub stands : Stream → Found → Bool
-stands s (Found-as-At r) = true
-stands s Found-as-Nothing = false
+abbrev pub stands : Stream → Option ℕ → Bool
+stands s (Some r) = true
+stands s None = false
 
 -- if it does, the stream under it there, a, and this one, b, pass a test
-abbrev pub holds : (Stream → Stream → Bool) → Plan → Stream → Found → Bool
-holds t old s (Found-as-At r) = t (at old r) s
-holds t old s Found-as-Nothing = true
+abbrev pub holds : (Stream → Stream → Bool) → Plan → Stream → Option ℕ → Bool
+holds t old s (Some r) = t (at old r) s
+holds t old s None = true
 
 unfoldable pub conditions : Plan → Plan → List Bool
 conditions old new =
@@ -139,7 +138,7 @@ pair i = get_or all_pairs i (one_under base becomes one_under base)
 
 -- the 18 conditions are the rule: all hold exactly if the test of two plans finds no change
 abbrev pub AllHoldExactly : Type 0
-AllHoldExactly = (old new : Plan) → ((j : ℕ) → j < how_many → get_or (conditions old new) j false ≡ true) ↔ (changes old new ≡ Nothing)
+AllHoldExactly = (old new : Plan) → ((j : ℕ) → j < how_many → get_or (conditions old new) j false ≡ true) ↔ (changes old new ≡ Ok tt)
 
 -- condition i does not hold, and all others do
 pub record Broken (i : ℕ) (old new : Plan) : Type 0 where

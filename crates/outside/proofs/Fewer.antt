@@ -4,7 +4,8 @@ use mathlib.Core.List.{List}
 use Prim.Native.Nat.{ℕ, ◌≤◌, ◌<◌}
 use borrow.Author.Tests.{le-leb, lt-leb}
 use lib.ListN.{length}
-use Rattle.judge.specs.declared.Checked.{Checked, TheVariants.Refused}
+use Rattle.std.specs.Prelude.{Err}
+use Rattle.judge.specs.Table.{Checked}
 use Rattle.judge.specs.Table.{judge, unless}
 use Rattle.judge.proofs.Table.{given, passed}
 use Rattle.tournament.specs.declared.Outcome.{Outcome}
@@ -19,7 +20,7 @@ use Rattle.outside.specs.Outside.{stepped, stepped_by, lent_lines, start_from, s
 
 -- refused 6, with the state as it was
 abbrev pub refused_six : Checked
-refused_six = Refused (record { number = 6; place = 0 })
+refused_six = Err (record { number = 6; place = 0 })
 
 abbrev pub six : Tournament → Outcome
 six before = record { tournament = before; checked = refused_six }

@@ -8,7 +8,8 @@ use native.Mathlib.Nat.{lt_of_not-le}
 use native.Mathlib.Decide.{dec_le}
 use native.Mathlib.Omega.{arith}
 use lib.ListN.{length, get_or}
-use Rattle.judge.specs.declared.Checked.{Checked, TheVariants.Fine, TheVariants.Refused}
+use Rattle.std.specs.Prelude.{Ok, Err}
+use Rattle.judge.specs.Table.{Checked}
 use Rattle.judge.specs.Table.{judge}
 use Rattle.tournament.specs.Answers.{outcome}
 use Rattle.tournament.specs.Rule.{next_at, next}
@@ -32,8 +33,8 @@ six_first NB ps bs phase = (
 )
 
 checked_if : {T : Type 0} (c : Checked) (before after : Tournament) → (c ≡ refused_six) ↔ T → ((outcome c before after).checked ≡ refused_six) ↔ T
-checked_if Fine before after h = h
-checked_if (Refused r) before after h = h
+checked_if (Ok _) before after h = h
+checked_if (Err r) before after h = h
 
 pub start_six : StartSix
 unfolding start_from
@@ -46,12 +47,12 @@ step_six NB phase at ps bs = checked_if _ _ _ (six_first NB ps bs (phase_from ph
 -- ---- bytes that a step keeps
 -- a step has the contenders that it is lent, and a finished state is the one that is lent
 kept_outcome : (P : Tournament → Type 0) (c : Checked) (before after : Tournament) → P before → P after → P (outcome c before after).tournament
-kept_outcome P Fine before after p q = q
-kept_outcome P (Refused r) before after p q = p
+kept_outcome P (Ok _) before after p q = q
+kept_outcome P (Err r) before after p q = p
 
 kept_unless : (P : List ℕ → Type 0) (c : Checked) (after found : List ℕ) → P after → P found → P (bytes_unless c after found)
-kept_unless P Fine after found p q = p
-kept_unless P (Refused r) after found p q = q
+kept_unless P (Ok _) after found p q = p
+kept_unless P (Err r) after found p q = q
 
 module _ (NB phase at : ℕ) (ps bs : List ℕ) where
   counted : (step_from NB phase at ps bs).tournament.count ≡ length ps

@@ -1,7 +1,8 @@
 -- What is handed to a caller in another language: numbers, with 0 for "not refused" and document 01's numbers else.
 use Rattle.std.specs.Prelude.{◌≡◌, cond, List, ◌∷◌, ◌↔◌, ℕ, ◌+◌, ◌≤◌, ◌<◌, leb, ltb, eqb, length, get_or}
 use Rattle.names.specs.declared.Refusal.{Refusal}
-use Rattle.judge.specs.declared.Checked.{Checked, TheVariants.Fine, TheVariants.Refused}
+use Rattle.std.specs.Prelude.{Result, Ok, Err}
+use Rattle.judge.specs.Table.{Checked}
 use Rattle.judge.specs.Table.{Line, judge, unless}
 use Rattle.plan.specs.declared.Timing.{Timing}
 use Rattle.plan.specs.declared.Stream.{Stream}
@@ -14,7 +15,6 @@ use Rattle.compare.specs.declared.Reason.TheVariants.{MasterNode, GreaterConstan
 use Rattle.compare.specs.declared.Reason.TheVariants.{LongerPayload, ShorterDeadline, LongerAcknowledgement, LessUrgent, MoreNoise}
 use Rattle.compare.specs.declared.Compared.{Compared}
 use Rattle.compare.specs.declared.Compared.TheVariants.{FirstRefused, SecondRefused, Lighter, RunAgain}
-use Rattle.file.specs.declared.Written.{Written, TheVariants.Bytes, TheVariants.Refused as Written-as-Refused}
 use Rattle.file.specs.File.{write_with}
 use Rattle.tournament_state.specs.declared.Phase.{Phase, TheVariants.AtBit, TheVariants.Finished, TheVariants.NoWinner}
 use Rattle.tournament_state.specs.Refusals.{state_lines}
@@ -37,13 +37,13 @@ abbrev pub done : ℕ → Said
 done v = record { refusal = 0; value = v }
 
 abbrev pub checked : Checked → Said
-checked Fine = done 0
-checked (Refused r) = refused r
+checked (Ok _) = done 0
+checked (Err r) = refused r
 
 -- how many bytes were written
-abbrev pub written : Written → Said
-written (Bytes n) = done n
-written (Written-as-Refused r) = refused r
+abbrev pub written : Result ℕ Refusal → Said
+written (Ok n) = done n
+written (Err r) = refused r
 
 -- the bit
 abbrev pub parting : Parting → Said
@@ -51,7 +51,7 @@ parting (At k) = done k
 parting (Parting-as-Refused r) = refused r
 
 -- the file of the plan that is meant by lent values, which have the places of edition 3, and what the lent bytes end with
-abbrev pub write_from : ℕ → ℕ → List ℕ → List ℕ → Written × List ℕ
+abbrev pub write_from : ℕ → ℕ → List ℕ → List ℕ → Result ℕ Refusal × List ℕ
 write_from n m values out = write_with Three n m (entered_in n m values) out
 
 -- what is said of lent streams, with the timing that is entered in the first ten words and these noise gaps, and what the lent words end with
@@ -100,8 +100,8 @@ phase_at NoWinner = 0
 
 -- a start or a step: the refusal, and the phase of the state that is handed back
 abbrev pub stepped : Checked → Phase → Stepped
-stepped Fine phase = record { refusal = 0; place = 0; phase = phase_number phase; at = phase_at phase }
-stepped (Refused r) phase = record { refusal = r.number; place = r.place; phase = phase_number phase; at = phase_at phase }
+stepped (Ok _) phase = record { refusal = 0; place = 0; phase = phase_number phase; at = phase_at phase }
+stepped (Err r) phase = record { refusal = r.number; place = r.place; phase = phase_number phase; at = phase_at phase }
 
 abbrev pub stepped_by : Outcome → Stepped
 stepped_by o = stepped o.checked o.tournament.phase
@@ -122,8 +122,8 @@ step_from NB phase at ps bs =
 
 -- the lent bytes after a call: as they were if it is refused, ..
 abbrev pub bytes_unless : Checked → List ℕ → List ℕ → List ℕ
-bytes_unless Fine after found = after
-bytes_unless (Refused r) after found = found
+bytes_unless (Ok _) after found = after
+bytes_unless (Err r) after found = found
 
 -- .. after a start 1 for each contender and 0 for each unused place, ..
 abbrev pub start_bytes : Outcome → List ℕ → List ℕ
@@ -151,13 +151,13 @@ ConstantInFile =
 
 -- 6 is given exactly when fewer marks than priorities are lent, by a start ..
 abbrev pub StartSix : Type 0
-StartSix = (NB : ℕ) (ps bs : List ℕ) → ((start_from NB ps bs).checked ≡ Refused (record { number = 6; place = 0 })) ↔ (length bs < length ps)
+StartSix = (NB : ℕ) (ps bs : List ℕ) → ((start_from NB ps bs).checked ≡ Err (record { number = 6; place = 0 })) ↔ (length bs < length ps)
 
 -- .. and by a step
 abbrev pub StepSix : Type 0
 StepSix =
     (NB phase at : ℕ) (ps bs : List ℕ)
-    → ((step_from NB phase at ps bs).checked ≡ Refused (record { number = 6; place = 0 })) ↔ (length bs < length ps)
+    → ((step_from NB phase at ps bs).checked ≡ Err (record { number = 6; place = 0 })) ↔ (length bs < length ps)
 
 -- where enough are, a start is the tournament's own, ..
 abbrev pub StartEnough : Type 0

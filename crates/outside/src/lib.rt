@@ -17,8 +17,6 @@ use answer_files::answer_file;
 use carried::{Edition, LAG, SLOT, timing_from, words_from};
 use compare::{Compared, Reason};
 use compare_files::lighter_files;
-use file::Written;
-use judge::Checked;
 use names::{Label, Priority, Refusal};
 use plan::Stream;
 use rewriter::rewrite;
@@ -71,12 +69,12 @@ fn done(value: u64) -> Said
     Said { refusal: 0, value }
 }
 
-fn checked(verdict: Checked) -> Said
+fn checked(verdict: Result<(), Refusal>) -> Said
     ensures { result ≡ number.checked verdict }
 {
     match verdict {
-        Checked::Fine => done(0),
-        Checked::Refused(r) => refused(r),
+        Ok(()) => done(0),
+        Err(r) => refused(r),
     }
 }
 
@@ -94,8 +92,8 @@ pub fn livnakesh_rewrite(file: &[u8], out: &mut [u8]) -> Said
     ensures out_after { out.new ≡ (rewrite_of file.now out.old).1 }
 {
     match rewrite(file, out) {
-        Written::Bytes(bytes) => done(bytes as u64),
-        Written::Refused(r) => refused(r),
+        Ok(bytes) => done(bytes as u64),
+        Err(r) => refused(r),
     }
 }
 
@@ -106,8 +104,8 @@ pub fn livnakesh_write(n: usize, m: usize, values: &[u32], out: &mut [u8]) -> Sa
 {
     let placed = words_from(values);
     match write_words(Edition::Three, &placed, n, m, out) {
-        Written::Bytes(bytes) => done(bytes as u64),
-        Written::Refused(r) => refused(r),
+        Ok(bytes) => done(bytes as u64),
+        Err(r) => refused(r),
     }
 }
 
@@ -235,11 +233,11 @@ fn begun(outcome: Outcome, marks: &mut [u8]) -> Stepped
     let left = tournament.marks;
     let phase = tournament.phase;
     match checked {
-        Checked::Fine => {
+        Ok(()) => {
             marks_into(left, marks);
             at_phase(0, 0, phase)
         }
-        Checked::Refused(r) => at_phase(r.number as u64, r.place as u64, phase),
+        Err(r) => at_phase(r.number as u64, r.place as u64, phase),
     }
 }
 
@@ -253,11 +251,11 @@ fn gone_on(outcome: Outcome, marks: &mut [u8]) -> Stepped
     let left = tournament.marks;
     let phase = tournament.phase;
     match checked {
-        Checked::Fine => {
+        Ok(()) => {
             mark_out(tournament.count, left, marks);
             at_phase(0, 0, phase)
         }
-        Checked::Refused(r) => at_phase(r.number as u64, r.place as u64, phase),
+        Err(r) => at_phase(r.number as u64, r.place as u64, phase),
     }
 }
 

@@ -9,7 +9,7 @@ use lib.Dec.{leb}
 use lib.ListN.{get_or}
 use Rattle.laws.specs.Lists.{ceil, sum_of}
 use Rattle.laws.specs.Search.{Least}
-use Rattle.laws.specs.declared.Found.{Found, TheVariants.At, TheVariants.Nothing}
+use Rattle.std.specs.Prelude.{Option, Some, None}
 use Rattle.laws.proofs.Lists.{sum_same}
 use Rattle.bound.specs.declared.Verdict.TheVariants.{Met, Missed, None}
 use Rattle.bound.specs.Bound.{E, demand, side_L, side_W, busy, w, bound, answer_for, answer, verdict_number}
@@ -51,7 +51,7 @@ least_same f g s x e l = record { above = l.above; fixed = sym (e x) ∙ l.fixed
 
 module _ (p : Plan) (i : Stream) where
   -- the busy period of the terms
-  pub busy_of : (L : ℕ) → BusyPeriod p i L → busy (terms p i) ≡ At L
+  pub busy_of : (L : ℕ) → BusyPeriod p i L → busy (terms p i) ≡ Some L
   busy_of L (h, l) = (busy_is_least (terms p i) L).1 (h, least_same (right_L p i) (side_L (terms p i)) 1 L (λ y. sym ((right_sides p i).0 y)) l)
 
   -- "none" is the verdict exactly where no busy period is found
@@ -59,11 +59,11 @@ module _ (p : Plan) (i : Stream) where
   not_none true e = omega (arith, ap verdict_number e)
   not_none false e = omega (arith, ap verdict_number e)
 
-  found_none : (f : Found) → busy (terms p i) ≡ f → (answer_for (terms p i) i.deadline f).verdict ≡ None → busy (terms p i) ≡ Nothing
-  found_none (At L) e d = absurd (not_none (leb (bound (terms p i) L) i.deadline) d)
-  found_none Nothing e d = e
+  found_none : (f : Option ℕ) → busy (terms p i) ≡ f → (answer_for (terms p i) i.deadline f).verdict ≡ None → busy (terms p i) ≡ None
+  found_none (Some L) e d = absurd (not_none (leb (bound (terms p i) L) i.deadline) d)
+  found_none None e d = e
 
-  none : ((row_answer p i).verdict ≡ None) ↔ (busy (terms p i) ≡ Nothing)
+  none : ((row_answer p i).verdict ≡ None) ↔ (busy (terms p i) ≡ None)
   unfolding answer
   none = (found_none (busy (terms p i)) refl, λ e. ap (λ f. (answer_for (terms p i) i.deadline f).verdict) e)
 

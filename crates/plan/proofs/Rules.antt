@@ -7,7 +7,7 @@ use native.Mathlib.Decide.{dec_le}
 use native.Mathlib.Omega.{arith}
 use borrow.Author.Tests.{eq-eqb, ne_eqb}
 use Rattle.names.specs.Limits.{ticks}
-use Rattle.laws.specs.declared.Found.{Found, TheVariants.At, TheVariants.Nothing}
+use Rattle.std.specs.Prelude.{Option, Some, None}
 use Rattle.bound.specs.Bound.{busy, answer_for, answer}
 use Rattle.bound.proofs.Sides.{busy_is_least}
 use Rattle.bound.proofs.Largest.{bound_within, worst_within}
@@ -72,10 +72,10 @@ pub row_within : RowWithin
 unfolding answer terms
 row_within p i s fits = go (busy (terms p i)) refl
   where
-    go : (f : Found) → busy (terms p i) ≡ f
+    go : (f : Option ℕ) → busy (terms p i) ≡ f
         → ((answer_for (terms p i) i.deadline f).bound ≤ ticks + ticks) × ((answer_for (terms p i) i.deadline f).instance < ticks)
-    go (At L) e =
+    go (Some L) e =
         let sound = terms_sound p i s fits in
         let small = ((busy_is_least (terms p i) L).0 e).0 in
         (omega (arith, bound_within (terms p i) sound L e, small, s.jitter), omega (arith, worst_within (terms p i) sound L e, small))
-    go Nothing e = (omega arith, omega arith)
+    go None e = (omega arith, omega arith)

@@ -8,7 +8,7 @@ use native.Mathlib.Omega.{arith}
 use borrow.Author.Tests.{ltb-true, lt-ltb, leb-true, le-leb}
 use lib.Dec.{leb}
 use lib.ListN.{length}
-use Rattle.laws.specs.declared.Found.{Found, TheVariants.At, TheVariants.Nothing}
+use Rattle.std.specs.Prelude.{Option, Some, None}
 use Rattle.laws.specs.Lists.{largest_of, those}
 use Rattle.bound.specs.declared.Verdict.{Verdict, TheVariants.Met, TheVariants.Missed, TheVariants.None}
 use Rattle.bound.specs.Bound.{busy, bound, answer, answer_for}
@@ -45,7 +45,7 @@ either_le old new kit {x} {y} {a} {b} h g =
     ]
 
 -- "met" says that there is a bound, and that it is at most D
-met_says : (p : Plan) (s : Stream) → (rule.row_answer p s).verdict ≡ Met → (L : ℕ) × (busy (rule.terms p s) ≡ At L) × (bound (rule.terms p s) L ≤ s.deadline)
+met_says : (p : Plan) (s : Stream) → (rule.row_answer p s).verdict ≡ Met → (L : ℕ) × (busy (rule.terms p s) ≡ Some L) × (bound (rule.terms p s) L ≤ s.deadline)
 unfolding answer
 met_says p s e = go (busy (rule.terms p s)) refl e
   where
@@ -59,12 +59,12 @@ met_says p s e = go (busy (rule.terms p s)) refl e
     within L true q d = leb-true _ _ q
     within L false q d = absurd (not_both Missed refl d)
 
-    go : (f : Found) → busy (rule.terms p s) ≡ f → (answer_for (rule.terms p s) s.deadline f).verdict ≡ Met → (L : ℕ) × (busy (rule.terms p s) ≡ At L) × (bound (rule.terms p s) L ≤ s.deadline)
-    go (At L) q d = (L, q, within L (leb (bound (rule.terms p s) L) s.deadline) refl d)
-    go Nothing q d = absurd (never None refl d)
+    go : (f : Option ℕ) → busy (rule.terms p s) ≡ f → (answer_for (rule.terms p s) s.deadline f).verdict ≡ Met → (L : ℕ) × (busy (rule.terms p s) ≡ Some L) × (bound (rule.terms p s) L ≤ s.deadline)
+    go (Some L) q d = (L, q, within L (leb (bound (rule.terms p s) L) s.deadline) refl d)
+    go None q d = absurd (never None refl d)
 
 -- and is said where that is so
-says_met : (p : Plan) (s : Stream) (L : ℕ) → busy (rule.terms p s) ≡ At L → bound (rule.terms p s) L ≤ s.deadline → (rule.row_answer p s).verdict ≡ Met
+says_met : (p : Plan) (s : Stream) (L : ℕ) → busy (rule.terms p s) ≡ Some L → bound (rule.terms p s) L ≤ s.deadline → (rule.row_answer p s).verdict ≡ Met
 unfolding answer
 says_met p s L e g = ap (λ f. (answer_for (rule.terms p s) s.deadline f).verdict) e ∙ ap (λ t. cond t Met Missed) (le-leb _ _ g)
 
@@ -157,7 +157,7 @@ module _ (old new : Plan) (a : NotRefused old) (b : NotRefused new) (l : Lighter
           last = C''-le was is l.kit l.timing i j (partner k h);
         }
 
-    kept_bound : (L : ℕ) → busy (rule.terms old j) ≡ At L → (K : ℕ) × (busy (rule.terms new i) ≡ At K) × (bound (rule.terms new i) K ≤ bound (rule.terms old j) L)
+    kept_bound : (L : ℕ) → busy (rule.terms old j) ≡ Some L → (K : ℕ) × (busy (rule.terms new i) ≡ Some K) × (bound (rule.terms new i) K ≤ bound (rule.terms old j) L)
     kept_bound L e =
         let among = (l.stands k h).among in
         let sound = terms_sound old j (a.within.stream (l.row k h) among) (a.slots (l.row k h) among) in

@@ -1,7 +1,7 @@
 -- When a second plan, `new`, is lighter than a first, `old`, and what that promises; proved in proofs/Promise.antt, and for fewer rows in
 -- proofs/Fewer.antt.
 use Rattle.std.specs.Prelude.{◌≡◌, List, ◌∷◌, ◌++◌, ◌↔◌, ℕ, ◌≤◌, ◌<◌, length}
-use Rattle.laws.specs.declared.Found.TheVariants.{At}
+use Rattle.std.specs.Prelude.{Some}
 use Rattle.bound.specs.Bound.{busy, bound}
 use Rattle.bound.specs.declared.Verdict.TheVariants.{Met}
 use Rattle.cover.specs.Cover.{Partnered}
@@ -63,8 +63,8 @@ NotRefused p = Right (length p.streams) (length p.gaps) p
 
 -- each stream of the second that has a bound in the first has one in the second, no larger, and "met" stays "met"
 pub record Kept (old new : Plan) (k r : ℕ) : Type 0 where
-  pub bound : (L : ℕ) → busy (terms old (at old r)) ≡ At L
-      → (K : ℕ) × (busy (terms new (at new k)) ≡ At K) × (bound (terms new (at new k)) K ≤ bound (terms old (at old r)) L)
+  pub bound : (L : ℕ) → busy (terms old (at old r)) ≡ Some L
+      → (K : ℕ) × (busy (terms new (at new k)) ≡ Some K) × (bound (terms new (at new k)) K ≤ bound (terms old (at old r)) L)
   pub met : (row_answer old (at old r)).verdict ≡ Met → (row_answer new (at new k)).verdict ≡ Met
 
 abbrev pub LighterKeeps : Type 0

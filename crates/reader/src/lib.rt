@@ -8,7 +8,6 @@
 ghost use Rattle.std.specs.Prelude.{◌≡◌, cond, ◌+◌, ◌≤◌, ◌<◌, length, get_or, take};
 ghost use Rattle.names.specs.Limits as limit;
 ghost use Rattle.words.specs.Words.{words_of, laid_onto};
-ghost use Rattle.judge.specs.declared.Checked.TheVariants.{Refused as CheckedRefused};
 ghost use Rattle.carried.specs.Layout as layout;
 ghost use Rattle.carried.specs.Carried.{entered_words, no_sheet};
 ghost use Rattle.file.specs.declared.Counts.TheVariants.{Refused as CountsRefused};
@@ -19,7 +18,6 @@ use carried::{
 };
 use checks::{check_counts, check_words};
 use file::{Counts, ReadPlan, contents, size};
-use judge::Checked;
 use names::{Refusal, SOURCES, STREAMS};
 use words::{word_at, words_into};
 
@@ -80,8 +78,8 @@ fn counts(bytes: &[u8]) -> Counts
     let n = word_at(bytes, STREAMS_LENGTH) as usize / (WORD * stream_body(edition));
     let m = word_at(bytes, NOISE_LENGTH) as usize / WORD;
     match check_counts(edition, n, m) {
-        Checked::Refused(r) => return Counts::Refused(r),
-        Checked::Fine => {}
+        Err(r) => return Counts::Refused(r),
+        Ok(()) => {}
     }
     if !contents_in(bytes, edition, n, m) {
         return refused_counts(2);
@@ -146,11 +144,11 @@ pub fn carry(bytes: &[u8], words: &mut [u32; CARRIED]) -> Counts
 }
 
 fn refused(r: Refusal) -> ReadPlan
-    ensures { result ≡ record { answer = CheckedRefused r; sheet = no_sheet } }
+    ensures { result ≡ record { answer = Err r; sheet = no_sheet } }
 {
     let nothing = [0; CARRIED];
     ReadPlan {
-        answer: Checked::Refused(r),
+        answer: Err(r),
         sheet: sheet_in(&nothing, 0, 0),
     }
 }
@@ -163,11 +161,11 @@ pub fn read(bytes: &[u8]) -> ReadPlan
     match carry(bytes, &mut words) {
         Counts::Refused(r) => refused(r),
         Counts::Of(edition, n, m) => match check_words(edition, &words, n, m) {
-            Checked::Fine => ReadPlan {
-                answer: Checked::Fine,
+            Ok(()) => ReadPlan {
+                answer: Ok(()),
                 sheet: sheet_in(&words, n, m),
             },
-            Checked::Refused(r) => refused(r),
+            Err(r) => refused(r),
         },
     }
 }

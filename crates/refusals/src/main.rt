@@ -8,7 +8,6 @@ ghost use Rattle.std.specs.Prelude.{◌<◌, length};
 ghost use Rattle.carried.specs.Layout.{largest_file};
 
 use console::{Input, first, print_first, print_unreadable, read};
-use text::Put;
 
 // Of the n bytes that were read. The buffer has room for more than the largest file, so that no part of a file passes for all of it.
 fn show(rt: &impl Print, file: &[u8], n: usize)
@@ -16,9 +15,9 @@ fn show(rt: &impl Print, file: &[u8], n: usize)
 {
     let mut out = desk::file_buffer();
     match desk::show_refusal(first(file, n), &mut out) {
-        Put::At(k) => print_first(rt, &out, k),
+        Some(k) => print_first(rt, &out, k),
         // It holds every refusal (LargestRefusal, in text's claims).
-        Put::Full => {}
+        None => {}
     }
 }
 

@@ -12,8 +12,7 @@ use borrow.Author.Tests.{eqb-true, eq-eqb}
 use lib.Dec.{eqb}
 use lib.ListN.{length, get_or}
 use Rattle.names.specs.declared.Row.{Row}
-use Rattle.laws.specs.declared.Found.{Found, TheVariants.At as Found-as-At, TheVariants.Nothing as Found-as-Nothing}
-use Rattle.names.specs.declared.FoundRow.TheVariants.{At, Nothing}
+use Rattle.std.specs.Prelude.{Option, Some, None}
 use Rattle.repeats.specs.Repeats.{repeats_at, as_row, first_repeat, Repeats, AtTheLowest, NothingIfDistinct}
 use Rattle.laws.proofs.Rows.{is_false, not_below, some_passes, finds_lowest, finds_nothing}
 
@@ -26,24 +25,24 @@ repeated : (xs : List ℕ) (i : ℕ) → Repeats xs i → repeats_at xs i ≡ tr
 repeated xs i r = (some_passes (λ j. eqb (get_or xs j 0) (get_or xs i 0)) i).1 (r.j, r.earlier, eq-eqb _ _ r.same)
 
 -- a row comes from the number that was found
-pub at_found : (f : Found) (r : Row) → as_row f ≡ At r → f ≡ Found-as-At r.0
-at_found (Found-as-At i) r e = let q : ◌≡◌ {A = Row} (record { 0 = i }) r = cc in ap (λ (x : Row). Found-as-At x.0) q
-at_found Found-as-Nothing r e = absurd (let z : ◌≡◌ {A = ℕ} 0 1 = cc in omega arith)
+pub at_found : (f : Option ℕ) (r : Row) → as_row f ≡ Some r → f ≡ Some r.0
+at_found (Some i) r e = let q : ◌≡◌ {A = Row} (record { 0 = i }) r = cc in ap (λ (x : Row). Some x.0) q
+at_found None r e = absurd (let z : ◌≡◌ {A = ℕ} 0 1 = cc in omega arith)
 
-pub nothing_found : (f : Found) → as_row f ≡ Nothing → f ≡ Found-as-Nothing
-nothing_found (Found-as-At i) e = absurd (let z : ◌≡◌ {A = ℕ} 0 1 = cc in omega arith)
-nothing_found Found-as-Nothing e = refl
+pub nothing_found : (f : Option ℕ) → as_row f ≡ None → f ≡ None
+nothing_found (Some i) e = absurd (let z : ◌≡◌ {A = ℕ} 0 1 = cc in omega arith)
+nothing_found None e = refl
 
 pub at_the_lowest : AtTheLowest
 unfolding first_repeat
 at_the_lowest xs r = (to, from)
   where
-    to : first_repeat xs ≡ At r → Repeats xs r.0 × ((i : ℕ) → Repeats xs i → r.0 ≤ i)
+    to : first_repeat xs ≡ Some r → Repeats xs r.0 × ((i : ℕ) → Repeats xs i → r.0 ≤ i)
     to e =
         let l = (finds_lowest (repeats_at xs) 0 (length xs) r.0).0 (at_found _ r e) in
         (repeats xs r.0 (omega (arith, l.below)) l.passes, λ i p. not_below (repeated xs i p) (l.lowest i (omega arith)))
 
-    from : Repeats xs r.0 × ((i : ℕ) → Repeats xs i → r.0 ≤ i) → first_repeat xs ≡ At r
+    from : Repeats xs r.0 × ((i : ℕ) → Repeats xs i → r.0 ≤ i) → first_repeat xs ≡ Some r
     from h =
         ap as_row
         ((finds_lowest (repeats_at xs) 0 (length xs) r.0).1
@@ -58,7 +57,7 @@ pub nothing_if_distinct : NothingIfDistinct
 unfolding first_repeat
 nothing_if_distinct xs = (to, from)
   where
-    to : first_repeat xs ≡ Nothing → (i j : ℕ) → i < length xs → j < length xs → get_or xs i 0 ≡ get_or xs j 0 → i ≡ j
+    to : first_repeat xs ≡ None → (i j : ℕ) → i < length xs → j < length xs → get_or xs i 0 ≡ get_or xs j 0 → i ≡ j
     to e i j a b s =
         let none = (finds_nothing (repeats_at xs) 0 (length xs)).0 (nothing_found _ e) in
         let apart : (k l : ℕ) → k < l → l < length xs → get_or xs k 0 ≡ get_or xs l 0 → ⊥ =
@@ -68,7 +67,7 @@ nothing_if_distinct xs = (to, from)
           | no h ↦ absurd (apart j i (lt_of_not-le h) a (sym s))
         ]
 
-    from : ((i j : ℕ) → i < length xs → j < length xs → get_or xs i 0 ≡ get_or xs j 0 → i ≡ j) → first_repeat xs ≡ Nothing
+    from : ((i j : ℕ) → i < length xs → j < length xs → get_or xs i 0 ≡ get_or xs j 0 → i ≡ j) → first_repeat xs ≡ None
     from h =
         ap as_row
         ((finds_nothing (repeats_at xs) 0 (length xs)).1

@@ -1,9 +1,8 @@
 -- The lowest row that repeats an earlier row.
 use Rattle.std.specs.Prelude.{◌≡◌, Bool, List, ◌↔◌, ℕ, ◌≤◌, ◌<◌, eqb, length, get_or}
 use Rattle.names.specs.declared.Row.{Row}
-use Rattle.laws.specs.declared.Found.{Found, TheVariants.At as Found-as-At, TheVariants.Nothing as Found-as-Nothing}
+use Rattle.std.specs.Prelude.{Option, Some, None}
 use Rattle.laws.specs.Search.{first}
-use Rattle.names.specs.declared.FoundRow.{FoundRow, TheVariants.At, TheVariants.Nothing}
 use Rattle.laws.specs.Rows.{some}
 
 -- row i has the value of an earlier row
@@ -11,12 +10,12 @@ abbrev pub repeats_at : List ℕ → ℕ → Bool
 repeats_at xs i = some (λ j. eqb (get_or xs j 0) (get_or xs i 0)) i
 
 -- a number that was found, as a row
-abbrev pub as_row : Found → FoundRow
-as_row (Found-as-At i) = At (record { 0 = i })
-as_row Found-as-Nothing = Nothing
+abbrev pub as_row : Option ℕ → Option Row
+as_row (Some i) = Some (record { 0 = i })
+as_row None = None
 
 -- the lowest row that does
-unfoldable pub first_repeat : List ℕ → FoundRow
+unfoldable pub first_repeat : List ℕ → Option Row
 first_repeat xs = as_row (first (repeats_at xs) 0 (length xs))
 
 -- What it means, proved in proofs/Repeats.antt. Row i repeats an earlier row j:
@@ -28,11 +27,11 @@ pub record Repeats (xs : List ℕ) (i : ℕ) : Type 0 where
 
 -- it is at r exactly if r is the lowest row that repeats an earlier row, ..
 abbrev pub AtTheLowest : Type 0
-AtTheLowest = (xs : List ℕ) (r : Row) → (first_repeat xs ≡ At r) ↔ (Repeats xs r.0 × ((i : ℕ) → Repeats xs i → r.0 ≤ i))
+AtTheLowest = (xs : List ℕ) (r : Row) → (first_repeat xs ≡ Some r) ↔ (Repeats xs r.0 × ((i : ℕ) → Repeats xs i → r.0 ≤ i))
 
 -- .. and nothing exactly if no two rows have one value
 abbrev pub Distinct : List ℕ → Type 0
 Distinct xs = (i j : ℕ) → i < length xs → j < length xs → get_or xs i 0 ≡ get_or xs j 0 → i ≡ j
 
 abbrev pub NothingIfDistinct : Type 0
-NothingIfDistinct = (xs : List ℕ) → (first_repeat xs ≡ Nothing) ↔ Distinct xs
+NothingIfDistinct = (xs : List ℕ) → (first_repeat xs ≡ None) ↔ Distinct xs

@@ -8,7 +8,7 @@ ghost use Rattle.std.specs.Prelude.{◌≡◌, false, ◌<◌, length};
 ghost use Rattle.repeats.specs.Repeats.{repeats_at, first_repeat};
 ghost use Rattle.repeats.specs.private.Buckets.{bucket_of};
 
-use names::{FEW, FoundRow, Row};
+use names::{FEW, Row};
 
 // Values are kept apart in so many buckets, and rows are held against each other only where two are in one.
 const BUCKETS: usize = 1024;
@@ -50,7 +50,7 @@ fn again(values: &[u32], i: usize, met: bool) -> bool
 }
 
 // The lowest row that has the value of an earlier row. A bucket may be met from the start: then only more rows are held against each other.
-fn first_by_buckets(values: &[u32], met: &mut [bool]) -> FoundRow
+fn first_by_buckets(values: &[u32], met: &mut [bool]) -> Option<Row>
     requires { 0 < length met.old }
     ensures { result ≡ first_repeat values.now }
 {
@@ -60,16 +60,16 @@ fn first_by_buckets(values: &[u32], met: &mut [bool]) -> FoundRow
     while i < n {
         let b = bucket(values[i], buckets);
         if again(values, i, met[b]) {
-            return FoundRow::At(Row(i));
+            return Some(Row(i));
         }
         met[b] = true;
         i += 1;
     }
-    FoundRow::Nothing
+    None
 }
 
 // The lowest row that has the value of an earlier row, or that all rows differ. A few rows have one bucket, met from the start.
-pub fn first_repeat(values: &[u32]) -> FoundRow
+pub fn first_repeat(values: &[u32]) -> Option<Row>
     ensures { result ≡ first_repeat values.now }
 {
     if values.len() <= FEW {

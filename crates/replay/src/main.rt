@@ -10,7 +10,7 @@ use replay_screen::SHOWN;
 use replay_words::{first_end, has_word, replay};
 use std::io::Read;
 use std::rt::Env;
-use text::{Put, lay_text};
+use text::lay_text;
 
 // How many bytes are read.
 const INPUT: usize = 65536;
@@ -20,7 +20,7 @@ const WORD: usize = 64;
 
 fn show(rt: &impl Print, text: &[u8]) {
     let mut out = [0u8; SHOWN];
-    if let Put::At(n) = replay(text, &mut out) {
+    if let Some(n) = replay(text, &mut out) {
         print_first(rt, &out, n);
     }
 }

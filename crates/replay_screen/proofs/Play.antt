@@ -12,7 +12,7 @@ use Rattle.names.specs.declared.Refusal.{Refusal}
 use Rattle.names.specs.Limits.{contenders}
 use Rattle.tournament_state.specs.declared.Phase.TheVariants.{AtBit}
 use Rattle.tournament_state.specs.declared.Tournament.{Tournament}
-use Rattle.judge.specs.declared.Checked.TheVariants.{Fine, Refused}
+use Rattle.std.specs.Prelude.{Ok, Err}
 use Rattle.tournament_state.specs.Refusals.{none, verdict_of}
 use Rattle.tournament_state.proofs.Meaning.{fine_passed}
 use Rattle.text.specs.Listing.{refused_of}
@@ -35,7 +35,7 @@ module _ (NB n : ℕ) (places : List Priority) (long : length places ≡ contend
       let enough : length (take n places) ≡ n = omega (arith, length-take n places) in
       rw (take-append-le n (take n places) (replicate (contenders - n) none) (omega arith), take_all n (take n places) (omega arith)) refl
 
-  pub begun_fine : verdict_of NB n places (AtBit 1) ≡ Fine → Begun (begun_of NB n places)
+  pub begun_fine : verdict_of NB n places (AtBit 1) ≡ Ok tt → Begun (begun_of NB n places)
   begun_fine e =
       let few = (fine_passed NB n places (AtBit 1) e).few in
       record {
@@ -44,25 +44,25 @@ module _ (NB n : ℕ) (places : List Priority) (long : length places ≡ contend
         start = again few ∙ ap₂ (λ b c. begun_of b c (begun_of NB n places).priorities) (sym (start_bits NB n places)) (sym (start_count NB n places));
       }
 
-  begun_start : (start_of NB n places).checked ≡ Fine → Begun (start_of NB n places).tournament
+  begun_start : (start_of NB n places).checked ≡ Ok tt → Begun (start_of NB n places).tournament
   begun_start e = let (d, s) = start_fine NB n places e in rw s (begun_fine d)
 
 -- the same of what a call handed back, with what is shown of it
 module _ (NB n : ℕ) (places : List Priority) (o : Outcome) (e : o ≡ start_of NB n places) where
-  pub begun_of_lem : length places ≡ contenders → o.checked ≡ Fine → Begun o.tournament
+  pub begun_of_lem : length places ≡ contenders → o.checked ≡ Ok tt → Begun o.tournament
   begun_of_lem long d = rw e (begun_start NB n places long (rw e at d))
 
-  pub shown_fine : o.checked ≡ Fine → played_of o.tournament ≡ shown_of NB n places
+  pub shown_fine : o.checked ≡ Ok tt → played_of o.tournament ≡ shown_of NB n places
   unfolding shown_of
   shown_fine d = sym (ap (λ a. shown_by a o.tournament) d) ∙ ap (λ (o : Outcome). shown_by o.checked o.tournament) e
 
-  pub shown_refused : (r : Refusal) → o.checked ≡ Refused r → refused_of r ≡ shown_of NB n places
+  pub shown_refused : (r : Refusal) → o.checked ≡ Err r → refused_of r ≡ shown_of NB n places
   unfolding shown_of
   shown_refused r d = sym (ap (λ a. shown_by a o.tournament) d) ∙ ap (λ (o : Outcome). shown_by o.checked o.tournament) e
 
 -- ---- its steps, and what is heard at each
 module _ (t : Tournament) (b : Begun t) where
-  pub judged_steps : (k : ℕ) → judged_of (steps k t) ≡ Fine
+  pub judged_steps : (k : ℕ) → judged_of (steps k t) ≡ Ok tt
   judged_steps k = steps-judged t b.long b.judged k
 
   at_bit : (k : ℕ) → k < t.bits → (steps k t).phase ≡ AtBit (k + 1)

@@ -12,7 +12,8 @@ use Rattle.names.specs.declared.Priority.{Priority}
 use Rattle.names.specs.declared.Row.{Row}
 use Rattle.names.specs.Limits.{contenders, bits, ticks}
 use Rattle.laws.specs.Lists.{rows, those}
-use Rattle.judge.specs.declared.Checked.{Checked, TheVariants.Fine, TheVariants.Refused}
+use Rattle.std.specs.Prelude.{Ok, Err}
+use Rattle.judge.specs.Table.{Checked}
 use Rattle.decimal.specs.Decimal.{digits_of, digits}
 use Rattle.decimal.proofs.Decimal.{few_digits}
 use Rattle.text.proofs.Size.{largest_refusal}
@@ -120,10 +121,10 @@ largest_shown NB n places l = by_verdict (verdict_of NB n places (AtBit 1)) refl
   where
     by_verdict : (c : Checked) → verdict_of NB n places (AtBit 1) ≡ c
         → length (shown_by (outcome c nobody (begun_of NB n places)).checked (outcome c nobody (begun_of NB n places)).tournament) ≤ most_shown
-    by_verdict Fine e =
+    by_verdict (Ok _) e =
         played_size (begun_of NB n places) (begun_fine NB n places l.long e)
         (begun_small NB n places (omega (arith, (fine_passed NB n places (AtBit 1) e).few, l.long)) l.small)
-    by_verdict (Refused r) e =
+    by_verdict (Err r) e =
         let (above, below, place) = refusal_range NB n places (AtBit 1) r e in
         omega (arith, largest_refusal r (omega arith) (omega (arith, l.long)))
 

@@ -16,7 +16,6 @@ ghost use Rattle.replay_screen.specs.Shown.{marked, rows_text, carrier_text};
 ghost use Rattle.replay_screen.specs.Shown.{bit_line, wins_line, winner_line, played_of, shown_of};
 ghost use Rattle.replay_screen.specs.private.Begun.{Begun, is_heard, won_with, silent_bit, silent_at};
 
-use judge::Checked;
 use names::{BITS, CONTENDERS, Priority, Row};
 use text::{lay_number, lay_refusal, lay_text};
 use tournament::{Carrier, Parting, listen, parting_bit, run, start, step};
@@ -219,7 +218,7 @@ pub fn lay_shown(
     let begun = start(bits, count, priorities);
     let checked = begun.checked;
     match checked {
-        Checked::Fine => lay_played(out, at, begun.tournament),
-        Checked::Refused(no) => lay_refusal(out, at, no),
+        Ok(()) => lay_played(out, at, begun.tournament),
+        Err(no) => lay_refusal(out, at, no),
     }
 }

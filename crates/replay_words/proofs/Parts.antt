@@ -9,7 +9,7 @@ use native.Mathlib.Omega.{arith}
 use lib.Dec.{eqb}
 use lib.ListN.{length, get_or, take}
 use lib.Seq.{take-suc}
-use Rattle.laws.specs.declared.Found.{Found, TheVariants.At, TheVariants.Nothing}
+use Rattle.std.specs.Prelude.{Option, Some, None}
 use Rattle.laws.specs.Search.{first}
 use Rattle.laws.proofs.Rows.{finds_lowest}
 use Rattle.replay_words.specs.Handwritten.{separates}
@@ -70,9 +70,9 @@ pub end_within : EndWithin
 unfolding first_end
 end_within text = by_found (first (λ end. over (take end text)) 0 (length text)) refl
   where
-    by_found : (f : Found) → first (λ end. over (take end text)) 0 (length text) ≡ f → or_all f (length text) ≤ length text
-    by_found (At end) e = omega (arith, ((finds_lowest (λ end. over (take end text)) 0 (length text) end).0 e).below)
-    by_found Nothing e = omega arith
+    by_found : (f : Option ℕ) → first (λ end. over (take end text)) 0 (length text) ≡ f → or_all f (length text) ≤ length text
+    by_found (Some end) e = omega (arith, ((finds_lowest (λ end. over (take end text)) 0 (length text) end).0 e).below)
+    by_found None e = omega arith
 
 -- before the first byte nothing is over
 not_at_once : (text : List ℕ) (end : ℕ) → over (take end text) ≡ true → 1 ≤ end
@@ -89,6 +89,6 @@ pub end_goes_on : EndGoesOn
 unfolding first_end
 end_goes_on text h = by_found (first (λ end. over (take end text)) 0 (length text)) refl
   where
-    by_found : (f : Found) → first (λ end. over (take end text)) 0 (length text) ≡ f → 1 ≤ or_all f (length text)
-    by_found (At end) e = not_at_once text end ((finds_lowest (λ end. over (take end text)) 0 (length text) end).0 e).passes
-    by_found Nothing e = some_bytes text h
+    by_found : (f : Option ℕ) → first (λ end. over (take end text)) 0 (length text) ≡ f → 1 ≤ or_all f (length text)
+    by_found (Some end) e = not_at_once text end ((finds_lowest (λ end. over (take end text)) 0 (length text) end).0 e).passes
+    by_found None e = some_bytes text h

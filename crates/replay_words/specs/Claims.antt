@@ -2,7 +2,7 @@
 use Rattle.std.specs.Prelude.{◌≡◌, true, false, List, ◌∷◌, ◌++◌, ℕ, ◌≤◌, ◌<◌, length, get_or}
 use Rattle.names.specs.Limits.{ticks}
 use Rattle.decimal.specs.Decimal.{digits}
-use Rattle.text.specs.declared.Put.TheVariants.{At}
+use Rattle.std.specs.Prelude.{Some}
 use Rattle.text.specs.Put.{last_place, put}
 use Rattle.replay_screen.specs.Claims.{most_shown}
 use Rattle.replay_words.specs.Handwritten.{separates, text_words, is_number, number_of, replay_of}
@@ -22,7 +22,7 @@ WordRead =
 abbrev pub ReplayFits : Type 0
 ReplayFits =
     (text buffer : List ℕ) → length text ≤ last_place → most_shown ≤ length buffer
-    → (put buffer 0 (replay_of (text_words text))).0 ≡ At (length (replay_of (text_words text)))
+    → (put buffer 0 (replay_of (text_words text))).0 ≡ Some (length (replay_of (text_words text)))
 
 -- the first tournament's text is a part of the text, and where there is a word, it is some of it
 abbrev pub EndWithin : Type 0

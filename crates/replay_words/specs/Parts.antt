@@ -1,6 +1,6 @@
 -- The tournaments of a text, which blank lines part: where the first one's text ends.
 use Rattle.std.specs.Prelude.{Bool, false, not, cond, ◌&&◌, ◌||◌, List, [], ◌∷◌, ℕ, ◌+◌, leb, eqb, length, take}
-use Rattle.laws.specs.declared.Found.{Found, TheVariants.At, TheVariants.Nothing}
+use Rattle.std.specs.Prelude.{Option, Some, None}
 use Rattle.laws.specs.Search.{first}
 use Rattle.ascii.specs.Ascii.{newline}
 use Rattle.replay_words.specs.Handwritten.{separates}
@@ -23,9 +23,9 @@ ends_after n (b ∷ text) = ends_after (ends_with n b) text
 unfoldable pub over : List ℕ → Bool
 over text = has_word text && leb 2 (ends_after 0 text)
 
-abbrev pub or_all : Found → ℕ → ℕ
-or_all (At end) all = end
-or_all Nothing all = all
+abbrev pub or_all : Option ℕ → ℕ → ℕ
+or_all (Some end) all = end
+or_all None all = all
 
 -- where the text of the first tournament ends
 unfoldable pub first_end : List ℕ → ℕ

@@ -13,7 +13,7 @@ ghost use Rattle.replay_words.specs.private.Reading.{closed as Reading·closed, 
 
 use names::{CONTENDERS, Priority, TICKS};
 use replay_screen::lay_shown;
-use text::{Put, lay_number, lay_text};
+use text::{lay_number, lay_text};
 
 // What is read of a text: so many words, the first as the bit count, the others as priorities, and the place of the first that
 // is no number, from 1 on, or 0. Then whether a word has begun, and its value; more than TICKS stands for no number.
@@ -192,15 +192,15 @@ fn lay_replay(out: &mut [u8], at: usize, text: &[u8]) -> usize
 }
 
 // What is shown of the one tournament of a text, at the start of the buffer.
-pub fn replay(text: &[u8], out: &mut [u8]) -> Put
+pub fn replay(text: &[u8], out: &mut [u8]) -> Option<usize>
     ensures { Puts out.old 0 (replay_of (text_words text.now)) result out.new }
 {
     let size = out.len();
     let bytes = lay_replay(out, size, text) - size;
     if size < bytes {
-        return Put::Full;
+        return None;
     }
-    Put::At(lay_replay(out, 0, text))
+    Some(lay_replay(out, 0, text))
 }
 
 // Whether a text has a word.

@@ -8,10 +8,9 @@ use Rattle.names.specs.declared.Refusal.{Refusal}
 use Rattle.plan.specs.Plan.{plan_of}
 use Rattle.carried.specs.declared.Edition.TheVariants.{Three}
 use Rattle.carried.specs.Carried.{plainly, sheet_of}
-use Rattle.judge.specs.declared.Checked.TheVariants.{Fine, Refused}
+use Rattle.std.specs.Prelude.{Ok, Err}
 use Rattle.checks.specs.Checks.{checked_of}
 use Rattle.file.specs.declared.ReadPlan.{ReadPlan}
-use Rattle.file.specs.declared.Written.TheVariants.{Bytes, Refused as Written-as-Refused}
 use Rattle.file.specs.File.{read_of, write_of}
 use Rattle.file.specs.Claims.{file_read}
 use Rattle.file.proofs.Reading.{fine_read}
@@ -21,17 +20,17 @@ use Rattle.rewriter.specs.Rewriter.{rewrite_as, rewrite_of, RewritesTheSame, Rew
 
 module _ (bs buf : List ℕ) where
   -- a refused file
-  pub rewrite_refused : (r : Refusal) → (read_of bs).answer ≡ Refused r → rewrite_of bs buf ≡ (Written-as-Refused r, buf)
+  pub rewrite_refused : (r : Refusal) → (read_of bs).answer ≡ Err r → rewrite_of bs buf ≡ (Err r, buf)
   unfolding rewrite_of
   rewrite_refused r e = ap (λ c. rewrite_as c (read_of bs).sheet buf) e
 
-  module _ (fine : (read_of bs).answer ≡ Fine) where
+  module _ (fine : (read_of bs).answer ≡ Ok tt) where
     written : rewrite_of bs buf ≡ write_of (read_of bs).sheet buf
     unfolding rewrite_of
     written = ap (λ c. rewrite_as c (read_of bs).sheet buf) fine
 
     -- a plan that is fine, without the room for its file ..
-    pub rewrite_no_room : length buf < length (file_read bs) → rewrite_of bs buf ≡ (Written-as-Refused (record { number = 6; place = 0 }), buf)
+    pub rewrite_no_room : length buf < length (file_read bs) → rewrite_of bs buf ≡ (Err (record { number = 6; place = 0 }), buf)
     unfolding write_of checked_of
     rewrite_no_room h =
         let f = fine_read bs fine in
@@ -41,13 +40,13 @@ module _ (bs buf : List ℕ) where
         ∙ write_no_room Three (length p.streams) (length p.gaps) (plainly (plan_of (sheet_of p))) buf (sheet_fine bs f) (omega (arith, ap length (file_is bs f) ∙ length_file p))
 
     -- .. and with it
-    pub rewrite_fine : length (file_read bs) ≤ length buf → rewrite_of bs buf ≡ (Bytes (length (file_read bs)), file_read bs ++ drop (length (file_read bs)) buf)
+    pub rewrite_fine : length (file_read bs) ≤ length buf → rewrite_of bs buf ≡ (Ok (length (file_read bs)), file_read bs ++ drop (length (file_read bs)) buf)
     rewrite_fine h = written ∙ writes_what_was_read bs buf fine h
 
 pub rewrites_the_same : RewritesTheSame
 rewrites_the_same bs buf below fine three no_lag room =
     let same = same_bytes bs below fine three no_lag in
-    rewrite_fine bs buf fine (omega (arith, ap length same)) ∙ ap (λ (l : List ℕ). (Bytes (length l), l ++ drop (length l) buf)) same
+    rewrite_fine bs buf fine (omega (arith, ap length same)) ∙ ap (λ (l : List ℕ). (Ok (length l), l ++ drop (length l) buf)) same
 
 pub rewrites_older : RewritesOlder
 rewrites_older bs buf fine =

@@ -8,19 +8,19 @@ ghost use Rattle.std.specs.Prelude.{◌≡◌};
 ghost use Rattle.rewriter.specs.Rewriter.{rewrite_of};
 
 use carried::CARRIED;
-use file::{Counts, Written};
+use file::Counts;
 use reader::carry;
 use writer::write_words;
 
 // The plan in a file, written into lent bytes: its file of edition 3. The words that are carried are written as they stand, so that no sheet
 // is made.
-pub fn rewrite(file: &[u8], out: &mut [u8]) -> Written
+pub fn rewrite(file: &[u8], out: &mut [u8]) -> Result<usize, Refusal>
     ensures value { result ≡ (rewrite_of file.now out.old).0 }
     ensures out_after { out.new ≡ (rewrite_of file.now out.old).1 }
 {
     let mut words = [0; CARRIED];
     match carry(file, &mut words) {
-        Counts::Refused(r) => Written::Refused(r),
+        Counts::Refused(r) => Err(r),
         Counts::Of(edition, n, m) => write_words(edition, &words, n, m, out),
     }
 }

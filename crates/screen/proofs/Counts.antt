@@ -13,7 +13,7 @@ use Rattle.carried.specs.declared.Edition.TheVariants.{Three}
 use Rattle.carried.specs.declared.EnteredTiming.{EnteredTiming}
 use Rattle.carried.specs.Carried.{Entered, entered_in, entered_words, in_places}
 use Rattle.carried.proofs.Plans.{own_places}
-use Rattle.judge.specs.declared.Checked.TheVariants.{Refused}
+use Rattle.std.specs.Prelude.{Err}
 use Rattle.checks.specs.Checks.{in_range}
 use Rattle.checks.proofs.Counts.{too_few_lem, too_many, too_noisy, by_range, out_of_range}
 use Rattle.answers.specs.declared.Told.TheVariants.{Answers}
@@ -22,7 +22,7 @@ use Rattle.answers.proofs.Outcome.{refused_is}
 use Rattle.screen.specs.Screen.{entered_for, screen_of, WrongLists}
 use Rattle.screen.specs.private.Gathering.{taken_of, words_taken, taken_outcome}
 
-refused_2 : (n m : ℕ) (v : Entered) (out : List ℕ) → in_range Three n m ≡ false → answer_with Answers Three n m v out ≡ (Refused (record { number = 2; place = 0 }), out)
+refused_2 : (n m : ℕ) (v : Entered) (out : List ℕ) → in_range Three n m ≡ false → answer_with Answers Three n m v out ≡ (Err (record { number = 2; place = 0 }), out)
 refused_2 n m v out e = refused_is Answers Three n m v out _ (out_of_range Three n m e v [])
 
 pub wrong_counts : WrongLists

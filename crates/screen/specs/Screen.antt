@@ -2,7 +2,8 @@
 use Rattle.std.specs.Prelude.{◌≡◌, List, ℕ, ◌^◌, ◌≤◌, ◌<◌, length}
 use Rattle.names.specs.Limits.{streams, sources}
 use Rattle.words.specs.Words.{Below}
-use Rattle.judge.specs.declared.Checked.{Checked, TheVariants.Refused}
+use Rattle.std.specs.Prelude.{Err}
+use Rattle.judge.specs.Table.{Checked}
 use Rattle.plan.specs.declared.Stream.{Stream}
 use Rattle.carried.specs.declared.Edition.TheVariants.{Three}
 use Rattle.carried.specs.declared.EnteredTiming.{EnteredTiming}
@@ -36,5 +37,5 @@ SameAsFile =
 abbrev pub WrongLists : Type 0
 WrongLists =
     (xs : List Stream) (t : EnteredTiming) (gaps out : List ℕ)
-    → let refused_2 = screen_of xs t gaps out ≡ (Refused (record { number = 2; place = 0 }), out) in
+    → let refused_2 = screen_of xs t gaps out ≡ (Err (record { number = 2; place = 0 }), out) in
     (length xs < 1 → refused_2) × (streams < length xs → refused_2) × (sources < length gaps → refused_2)

@@ -15,7 +15,6 @@ ghost use Rattle.screen.specs.private.Gathering.{taken_of, TakenAnswered};
 
 use answers::{Told, answer_words};
 use carried::{Edition, EnteredTiming, no_streams, words_entered};
-use judge::Checked;
 use laws::smaller;
 use names::{SOURCES, STREAMS};
 use plan::Stream;
@@ -77,7 +76,7 @@ fn copied(gaps: &[u32]) -> [u32; SOURCES]
     out
 }
 
-fn answered(lot: Taken, timing: EnteredTiming, gaps: &[u32], out: &mut [u64]) -> Checked
+fn answered(lot: Taken, timing: EnteredTiming, gaps: &[u32], out: &mut [u64]) -> Result<(), Refusal>
     ensures { TakenAnswered lot timing gaps.now out.old result out.new }
 {
     let rows = lot.rows;
@@ -94,7 +93,12 @@ fn answered(lot: Taken, timing: EnteredTiming, gaps: &[u32], out: &mut [u64]) ->
 }
 
 // The answers of the lent streams under this timing and these noise gaps, or the first refusal of 2, 3, 11, 4, 5, 10, 6 that applies.
-pub fn screen(streams: &[Stream], timing: EnteredTiming, gaps: &[u32], out: &mut [u64]) -> Checked
+pub fn screen(
+    streams: &[Stream],
+    timing: EnteredTiming,
+    gaps: &[u32],
+    out: &mut [u64],
+) -> Result<(), Refusal>
     ensures { Screens streams.now timing gaps.now out.old result out.new }
 {
     answered(gathered(streams), timing, gaps, out)

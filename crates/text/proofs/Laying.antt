@@ -12,7 +12,7 @@ use lib.ListN.{length, get_or, set, take, drop, length-append, length-take, take
 use lib.Seq.{sets, sets-eq, set_out, length-sets, take-suc, take-length, take_all}
 use Rattle.decimal.specs.Decimal.{digit, digits}
 use Rattle.decimal.proofs.Decimal.{digits_one, digits_more}
-use Rattle.text.specs.declared.Put.TheVariants.{At, Full}
+use Rattle.std.specs.Prelude.{Some, None}
 use Rattle.text.specs.Put.{last_place, laid, Lays, put, Puts}
 use Rattle.text.specs.Claims.{LaidInTurn, LaidWhole}
 
@@ -135,7 +135,7 @@ pub number_more : {a b c : List ℕ} {i j k : ℕ} (x : ℕ) → 10 ≤ x → le
 number_more x h g p q = is (sym (digits_more x h)) (then p (last q) g)
 
 -- ---- a text that is measured past the end of the buffer, and then put or not
-full : (e : List ℕ) (i : ℕ) (t : List ℕ) → length e < i + length t → Puts e i t Full e
+full : (e : List ℕ) (i : ℕ) (t : List ℕ) → length e < i + length t → Puts e i t None e
 full e i t h = let f = lt-leb (i + length t) (length e) h in (rw f refl, rw f refl)
 
 -- it was measured past the end: a buffer is so short that a text that cannot be counted from there on cannot fit
@@ -144,22 +144,22 @@ module _ {e b t : List ℕ} {j : ℕ} (i : ℕ) (short : 2 * length e < last_pla
   kept = p.bytes ∙ laid_past e (length e) t (le_refl _)
 
   -- it does not fit
-  pub put_full : length e < i + (j - length e) → Puts e i t Full b
+  pub put_full : length e < i + (j - length e) → Puts e i t None b
   put_full h =
       let f = full e i t (omega (arith, p.place)) in
       (f.0, kept ∙ f.1)
 
   -- it fits
-  pub put_at : {k : ℕ} {d : List ℕ} → i + (j - length e) ≤ length e → Lays b i t k d → Puts e i t (At k) d
+  pub put_at : {k : ℕ} {d : List ℕ} → i + (j - length e) ≤ length e → Lays b i t k d → Puts e i t (Some k) d
   put_at {k} h q =
       let g : i + length t ≤ length e = omega (arith, p.place) in
       let f = le-leb (i + length t) (length e) g in
       let m : k ≡ i + length t = omega (arith, q.place) in
-      (rw f (ap At m), q.bytes ∙ ap (λ l. laid l i t) kept ∙ laid_whole e i t g)
+      (rw f (ap Some m), q.bytes ∙ ap (λ l. laid l i t) kept ∙ laid_whole e i t g)
 
 -- ---- a text at the start of a buffer: there is room for it, or not
-pub all_put : (text buffer : List ℕ) → length text ≤ length buffer → put buffer 0 text ≡ (At (length text), text ++ drop (length text) buffer)
+pub all_put : (text buffer : List ℕ) → length text ≤ length buffer → put buffer 0 text ≡ (Some (length text), text ++ drop (length text) buffer)
 all_put text buffer h = rw (le-leb (0 + length text) (length buffer) (omega arith)) (rw (zero-add (length text)) refl)
 
-pub none_put : (text buffer : List ℕ) → length buffer < length text → put buffer 0 text ≡ (Full, buffer)
+pub none_put : (text buffer : List ℕ) → length buffer < length text → put buffer 0 text ≡ (None, buffer)
 none_put text buffer h = rw (lt-leb (0 + length text) (length buffer) (omega arith)) refl

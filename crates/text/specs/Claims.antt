@@ -7,7 +7,7 @@ use Rattle.names.specs.declared.Refusal.{Refusal}
 use Rattle.bound.specs.declared.Answer.{Answer}
 use Rattle.plan.specs.declared.Stream.{Stream}
 use Rattle.plan.specs.Plan.{Plan, at}
-use Rattle.text.specs.declared.Put.TheVariants.{At}
+use Rattle.std.specs.Prelude.{Some}
 use Rattle.text.specs.Listing.{label_text, header, listing_of, refused_of}
 use Rattle.text.specs.Put.{last_place, laid, put}
 
@@ -55,7 +55,7 @@ LargestListing = (w : ℕ) (p : Plan) (answers : List Answer) → 1 ≤ w → Li
 abbrev pub NeverFull : Type 0
 NeverFull =
     (p : Plan) (answers : List Answer) (buffer : List ℕ) → Listed 20 p answers → most 20 ≤ length buffer
-    → (put buffer 0 (listing_of p answers)).0 ≡ At (length (listing_of p answers))
+    → (put buffer 0 (listing_of p answers)).0 ≡ Some (length (listing_of p answers))
 
 -- the line of a refusal, whose number has 32 bits and whose place has 64, has 43 bytes at most
 abbrev pub LargestRefusal : Type 0

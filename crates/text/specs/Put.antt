@@ -1,6 +1,6 @@
 -- What it is to lay a text into a lent buffer, as much of it as there is room for, and to put it there, whole or not at all.
 use Rattle.std.specs.Prelude.{◌≡◌, cond, List, ◌++◌, ℕ, ◌+◌, ◌-◌, ◌^◌, min, leb, length, take, drop}
-use Rattle.text.specs.declared.Put.{Put, TheVariants.At, TheVariants.Full}
+use Rattle.std.specs.Prelude.{Option, Some, None}
 
 -- the last place that a usize can count
 abbrev pub last_place : ℕ
@@ -16,12 +16,12 @@ pub record Lays (before : List ℕ) (at : ℕ) (text : List ℕ) (next : ℕ) (a
   pub bytes : after ≡ laid before at text
 
 -- a text at a place of a buffer: the place after it and the buffer with it, or that it does not fit and the buffer as it was
-abbrev pub put : List ℕ → ℕ → List ℕ → Put × List ℕ
+abbrev pub put : List ℕ → ℕ → List ℕ → Option ℕ × List ℕ
 put buffer at text =
     cond (leb (at + length text) (length buffer))
-    (At (at + length text), take at buffer ++ text ++ drop (at + length text) buffer)
-    (Full, buffer)
+    (Some (at + length text), take at buffer ++ text ++ drop (at + length text) buffer)
+    (None, buffer)
 
 -- r is the answer to a text at a place, and `after` is what the buffer ends with
-abbrev pub Puts : List ℕ → ℕ → List ℕ → Put → List ℕ → Type 0
+abbrev pub Puts : List ℕ → ℕ → List ℕ → Option ℕ → List ℕ → Type 0
 Puts before at text r after = (r ≡ (put before at text).0) × (after ≡ (put before at text).1)

@@ -17,13 +17,6 @@ use names::{Label, Refusal, Row, STREAMS};
 use plan::{Sheet, Stream};
 use row_words::answer_in;
 
-// The place after a text that was put, or that it does not fit.
-#[derive(Clone, Copy)]
-pub enum Put {
-    At(usize),
-    Full,
-}
-
 // A label is group * 65,536 + number.
 const GROUP: u32 = 65536;
 
@@ -151,25 +144,25 @@ pub fn lay_refusal(out: &mut [u8], at: usize, refusal: Refusal) -> usize
 }
 
 // The listing of a sheet's plan with its rows' answers, which stand in words, at the start of the buffer.
-pub fn listing(sheet: Sheet, answers: &[u64], out: &mut [u8]) -> Put
+pub fn listing(sheet: Sheet, answers: &[u64], out: &mut [u8]) -> Option<usize>
     ensures { Puts out.old 0 (text.listing_in sheet answers.now) result out.new }
 {
     let size = out.len();
     let listed = lay_listing(out, size, sheet, answers) - size;
     if size < listed {
-        return Put::Full;
+        return None;
     }
-    Put::At(lay_listing(out, 0, sheet, answers))
+    Some(lay_listing(out, 0, sheet, answers))
 }
 
 // The line of a refusal, at the start of the buffer.
-pub fn refused(refusal: Refusal, out: &mut [u8]) -> Put
+pub fn refused(refusal: Refusal, out: &mut [u8]) -> Option<usize>
     ensures { Puts out.old 0 (text.refused_of refusal) result out.new }
 {
     let size = out.len();
     let bytes = lay_refusal(out, size, refusal) - size;
     if size < bytes {
-        return Put::Full;
+        return None;
     }
-    Put::At(lay_refusal(out, 0, refusal))
+    Some(lay_refusal(out, 0, refusal))
 }

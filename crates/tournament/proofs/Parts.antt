@@ -12,7 +12,8 @@ use lib.Pow.{pow_mono}
 use Rattle.names.specs.declared.Priority.{Priority}
 use Rattle.laws.specs.Search.{or_zero}
 use Rattle.laws.proofs.Rows.{finds_lowest}
-use Rattle.judge.specs.declared.Checked.{Checked, TheVariants.Fine, TheVariants.Refused}
+use Rattle.std.specs.Prelude.{Ok, Err}
+use Rattle.judge.specs.Table.{Checked}
 use Rattle.tournament_state.specs.Refusals.{number, pair_verdict_of, PlayablePair}
 use Rattle.tournament_state.proofs.Meaning.{fine_if_playable_pair}
 use Rattle.tournament.specs.declared.Parting.TheVariants.{At as Parting-as-At}
@@ -83,9 +84,9 @@ pub parting_answer : PartingAnswer
 unfolding parting_of
 parting_answer NB a b d = (to, from)
   where
-    at_bit : (v : Checked) (k : ℕ) → part_unless v k ≡ Parting-as-At d → (v ≡ Fine) × (k ≡ d)
-    at_bit Fine k e = (refl, cc)
-    at_bit (Refused r) k e = absurd (let z : ◌≡◌ {A = ℕ} 0 1 = cc in omega arith)
+    at_bit : (v : Checked) (k : ℕ) → part_unless v k ≡ Parting-as-At d → (v ≡ Ok tt) × (k ≡ d)
+    at_bit (Ok _) k e = (refl, cc)
+    at_bit (Err r) k e = absurd (let z : ◌≡◌ {A = ℕ} 0 1 = cc in omega arith)
 
     to : parting_of NB a b ≡ Parting-as-At d → PlayablePair NB a b × FirstDifference NB a b d
     to e =

@@ -9,9 +9,9 @@ use borrow.Author.Tests.{eqb-false}
 use lib.Dec.{eqb}
 use lib.ListN.{get_or}
 use Rattle.names.specs.declared.Refusal.{Refusal}
-use Rattle.laws.specs.declared.Found.{Found, TheVariants.At, TheVariants.Nothing}
+use Rattle.std.specs.Prelude.{Option, Some, None, Ok, Err}
+use Rattle.judge.specs.Table.{Checked}
 use Rattle.laws.proofs.Rows.{finds_lowest}
-use Rattle.judge.specs.declared.Checked.{Checked, TheVariants.Fine, TheVariants.Refused}
 use Rattle.tournament_state.specs.declared.Phase.{Phase, TheVariants.AtBit, TheVariants.Finished, TheVariants.NoWinner}
 use Rattle.tournament_state.specs.declared.Tournament.{Tournament}
 use Rattle.tournament_state.specs.Refusals.{PhaseWithin}
@@ -21,7 +21,7 @@ use Rattle.tournament.specs.Rule.{lowest_marked, finished_by, winner_of, marks_a
 use Rattle.tournament.specs.Answers.{judged_of, outcome}
 use Rattle.tournament.specs.private.Ready.{AtABit, Ready}
 
-pub ready_fine : (t : Tournament) → judged_of t ≡ Fine → Ready t
+pub ready_fine : (t : Tournament) → judged_of t ≡ Ok tt → Ready t
 ready_fine t e =
     let p = fine_passed t.bits t.count t.priorities t.phase e in
     record { few = p.few; narrow = p.to; within = p.within }
@@ -34,9 +34,9 @@ winner_within : (NB n : ℕ) (marks : List Bool) → PhaseWithin NB n (winner_of
 unfolding winner_of lowest_marked
 winner_within NB n marks = by_found (lowest_marked n marks) refl
   where
-    by_found : (f : Found) → lowest_marked n marks ≡ f → PhaseWithin NB n (finished_by f)
-    by_found (At i) e = let l = (finds_lowest (λ i. get_or marks i false) _ n i).0 e in omega (arith, l.below)
-    by_found Nothing e = tt
+    by_found : (f : Option ℕ) → lowest_marked n marks ≡ f → PhaseWithin NB n (finished_by f)
+    by_found (Some i) e = let l = (finds_lowest (λ i. get_or marks i false) _ n i).0 e in omega (arith, l.below)
+    by_found None e = tt
 
 pub next_within : (t : Tournament) → PhaseWithin t.bits t.count t.phase → PhaseWithin (next t).bits (next t).count (next t).phase
 unfolding next_at
@@ -77,8 +77,8 @@ steps_more k t = rw add-one refl
 
 -- ---- an outcome from its verdict
 module _ (c : Checked) (before after now : Tournament) where
-  pub outcome_fine : c ≡ Fine → now ≡ after → ◌≡◌ {A = Outcome} (record { tournament = now; checked = Fine }) (outcome c before after)
+  pub outcome_fine : c ≡ Ok tt → now ≡ after → ◌≡◌ {A = Outcome} (record { tournament = now; checked = Ok tt }) (outcome c before after)
   outcome_fine e q = rw (e, q) refl
 
-  pub outcome_refused : (r : Refusal) → c ≡ Refused r → now ≡ before → ◌≡◌ {A = Outcome} (record { tournament = now; checked = Refused r }) (outcome c before after)
+  pub outcome_refused : (r : Refusal) → c ≡ Err r → now ≡ before → ◌≡◌ {A = Outcome} (record { tournament = now; checked = Err r }) (outcome c before after)
   outcome_refused r e q = rw (e, q) refl

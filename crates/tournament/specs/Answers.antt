@@ -5,7 +5,8 @@ use Rattle.std.specs.Int.Count.{count_leading_zeros}
 use Rattle.names.specs.declared.Priority.{Priority}
 use Rattle.names.specs.Limits.{contenders}
 use Rattle.laws.specs.Search.{first, or_zero}
-use Rattle.judge.specs.declared.Checked.{Checked, TheVariants.Fine, TheVariants.Refused}
+use Rattle.std.specs.Prelude.{Ok, Err}
+use Rattle.judge.specs.Table.{Checked}
 use Rattle.tournament_state.specs.declared.Phase.{Phase, TheVariants.AtBit, TheVariants.Finished, TheVariants.NoWinner}
 use Rattle.tournament_state.specs.declared.Tournament.{Tournament}
 use Rattle.tournament_state.specs.Refusals.{number, none, verdict_of, pair_verdict_of, PlayablePair}
@@ -21,8 +22,8 @@ judged_of t = verdict_of t.bits t.count t.priorities t.phase
 
 -- a refused call hands the state back as it was
 abbrev pub outcome : Checked → Tournament → Tournament → Outcome
-outcome Fine before after = record { tournament = after; checked = Fine }
-outcome (Refused refusal) before after = record { tournament = before; checked = Refused refusal }
+outcome (Ok _) before after = record { tournament = after; checked = Ok tt }
+outcome (Err refusal) before after = record { tournament = before; checked = Err refusal }
 
 -- a refused start has no state: no bits, no contenders, no winner
 abbrev pub nobody : Tournament
@@ -46,8 +47,8 @@ heard_now t (Finished row) = NotHeard
 heard_now t NoWinner = NotHeard
 
 abbrev pub heard_unless : Checked → Carrier → Carrier
-heard_unless Fine carrier = carrier
-heard_unless (Refused refusal) carrier = Carrier-as-Refused refusal
+heard_unless (Ok _) carrier = carrier
+heard_unless (Err refusal) carrier = Carrier-as-Refused refusal
 
 unfoldable pub carrier_of : Tournament → Carrier
 carrier_of t = heard_unless (judged_of t) (heard_now t t.phase)
@@ -58,8 +59,8 @@ parting_bit NB a b = or_zero (first (λ k. not (eqb (bit_at NB k a) (bit_at NB k
 
 -- here 8 and 9 apply, with rows 0 and 1
 abbrev pub part_unless : Checked → ℕ → Parting
-part_unless Fine k = Parting-as-At k
-part_unless (Refused refusal) k = Parting-as-Refused refusal
+part_unless (Ok _) k = Parting-as-At k
+part_unless (Err refusal) k = Parting-as-Refused refusal
 
 unfoldable pub parting_of : ℕ → Priority → Priority → Parting
 parting_of NB a b = part_unless (pair_verdict_of NB a b) (parting_bit NB a b)

@@ -2,7 +2,7 @@
 use Rattle.std.specs.Prelude.{Bool, true, false, ◌&&◌, cond, List, ◌++◌, ℕ, zero, suc, ◌+◌, ◌-◌, ◌/◌, ◌%◌, ◌^◌, eqb, get_or, take, drop, replicate}
 use Rattle.names.specs.declared.Priority.{Priority}
 use Rattle.names.specs.Limits.{contenders}
-use Rattle.laws.specs.declared.Found.{Found, TheVariants.At, TheVariants.Nothing}
+use Rattle.std.specs.Prelude.{Option, Some, None}
 use Rattle.laws.specs.Lists.{rows}
 use Rattle.laws.specs.Search.{first}
 use Rattle.laws.specs.Rows.{some}
@@ -49,12 +49,12 @@ unfoldable pub marks_after : Tournament → ℕ → List Bool
 marks_after t k = cond (heard_at t k) (silenced_at t k) t.marks
 
 -- If none is marked at its end, it finishes with no winner; if several are, with the lowest marked row
-unfoldable pub lowest_marked : ℕ → List Bool → Found
+unfoldable pub lowest_marked : ℕ → List Bool → Option ℕ
 lowest_marked n marks = first (λ i. get_or marks i false) 0 n
 
-abbrev pub finished_by : Found → Phase
-finished_by (At i) = Finished (record { 0 = i })
-finished_by Nothing = NoWinner
+abbrev pub finished_by : Option ℕ → Phase
+finished_by (Some i) = Finished (record { 0 = i })
+finished_by None = NoWinner
 
 unfoldable pub winner_of : ℕ → List Bool → Phase
 winner_of n marks = finished_by (lowest_marked n marks)

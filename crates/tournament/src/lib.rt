@@ -14,7 +14,6 @@ ghost use Rattle.tournament.specs.Answers.{carrier_of, parting_bit, parting_of};
 ghost use Rattle.tournament.specs.private.Ready.{AtABit, Ready};
 ghost use Rattle.tournament_state.specs.Refusals.{PlayablePair};
 
-use judge::Checked;
 use names::{CONTENDERS, Priority, Refusal, Row};
 use tournament_state::{Phase, Tournament, pair_verdict, verdict};
 
@@ -22,7 +21,7 @@ use tournament_state::{Phase, Tournament, pair_verdict, verdict};
 #[derive(Clone, Copy)]
 pub struct Outcome {
     pub tournament: Tournament,
-    pub checked: Checked,
+    pub checked: Result<(), Refusal>,
 }
 
 #[derive(Clone, Copy)]
@@ -166,19 +165,19 @@ pub fn start(bits: u32, count: usize, priorities: [Priority; CONTENDERS]) -> Out
     ensures { result ≡ start_of bits count priorities }
 {
     match verdict(bits, count, priorities, Phase::AtBit(1)) {
-        Checked::Fine => Outcome {
+        Ok(()) => Outcome {
             tournament: begun(bits, count, priorities),
-            checked: Checked::Fine,
+            checked: Ok(()),
         },
-        Checked::Refused(no) => Outcome {
+        Err(no) => Outcome {
             tournament: nobody(),
-            checked: Checked::Refused(no),
+            checked: Err(no),
         },
     }
 }
 
 // The verdict on a state, field by field.
-fn judged(t: Tournament) -> Checked
+fn judged(t: Tournament) -> Result<(), Refusal>
     ensures { result ≡ judged_of t }
 {
     let priorities = t.priorities;
@@ -190,13 +189,13 @@ pub fn step(t: Tournament) -> Outcome
     ensures { result ≡ step_of t }
 {
     match judged(t) {
-        Checked::Fine => Outcome {
+        Ok(()) => Outcome {
             tournament: next(t),
-            checked: Checked::Fine,
+            checked: Ok(()),
         },
-        Checked::Refused(no) => Outcome {
+        Err(no) => Outcome {
             tournament: t,
-            checked: Checked::Refused(no),
+            checked: Err(no),
         },
     }
 }
@@ -206,7 +205,7 @@ pub fn run(t: Tournament) -> Outcome
     ensures { result ≡ run_of t }
 {
     match judged(t) {
-        Checked::Fine => {
+        Ok(()) => {
             let bits = t.bits;
             let mut now = t;
             for _ in 0..bits {
@@ -214,12 +213,12 @@ pub fn run(t: Tournament) -> Outcome
             }
             Outcome {
                 tournament: now,
-                checked: Checked::Fine,
+                checked: Ok(()),
             }
         }
-        Checked::Refused(no) => Outcome {
+        Err(no) => Outcome {
             tournament: t,
-            checked: Checked::Refused(no),
+            checked: Err(no),
         },
     }
 }
@@ -228,7 +227,7 @@ pub fn run(t: Tournament) -> Outcome
 pub fn listen(t: Tournament) -> Carrier
     ensures { result ≡ carrier_of t }
 {
-    if let Checked::Refused(no) = judged(t) {
+    if let Err(no) = judged(t) {
         return Carrier::Refused(no);
     }
     let phase = t.phase;
@@ -261,7 +260,7 @@ pub fn parting_bit(bits: u32, a: Priority, b: Priority) -> Parting
     ensures { result ≡ parting_of bits a b }
 {
     match pair_verdict(bits, a, b) {
-        Checked::Fine => Parting::At(first_difference(bits, a, b)),
-        Checked::Refused(no) => Parting::Refused(no),
+        Ok(()) => Parting::At(first_difference(bits, a, b)),
+        Err(no) => Parting::Refused(no),
     }
 }

@@ -5,7 +5,6 @@
 #![tactic(auto)]
 
 use console::{print, print_number, print_refusal};
-use judge::Checked;
 use names::{CONTENDERS, Priority, Row};
 use tournament::{Outcome, Parting};
 use tournament_state::{Phase, Tournament};
@@ -57,8 +56,8 @@ fn shown(rt: &impl Print, call: &[u8], o: Outcome) {
     print(rt, b": ");
     let checked = o.checked;
     match checked {
-        Checked::Fine => print(rt, b"done"),
-        Checked::Refused(no) => print_refusal(rt, no),
+        Ok(()) => print(rt, b"done"),
+        Err(no) => print_refusal(rt, no),
     }
     let t = o.tournament;
     let phase = t.phase;

@@ -9,8 +9,8 @@ use lib.ListN.{length}
 use Rattle.names.specs.declared.Priority.{Priority}
 use Rattle.names.specs.declared.Refusal.{Refusal}
 use Rattle.names.specs.Limits.{contenders}
-use Rattle.laws.specs.declared.Found.{Found, TheVariants.At, TheVariants.Nothing}
-use Rattle.judge.specs.declared.Checked.{Checked, TheVariants.Fine, TheVariants.Refused}
+use Rattle.std.specs.Prelude.{Option, Some, None, Ok, Err}
+use Rattle.judge.specs.Table.{Checked}
 use Rattle.tournament_state.specs.declared.Phase.{Phase, TheVariants.AtBit, TheVariants.Finished, TheVariants.NoWinner}
 use Rattle.tournament_state.specs.declared.Tournament.{Tournament}
 use Rattle.tournament_state.specs.Refusals.{verdict_of, number_at, PhaseWithin}
@@ -36,27 +36,27 @@ not_refused_later t long e =
     (record { fair = s.fair; from = s.from; to = s.to; within = rw (k.bits, k.count) at (next_within t s.within) })
 
 -- ---- a run, by calls
-pub outcome_of : (a : Checked) (before after : Tournament) → a ≡ Fine → (outcome a before after).tournament ≡ after
+pub outcome_of : (a : Checked) (before after : Tournament) → a ≡ Ok tt → (outcome a before after).tournament ≡ after
 outcome_of a before after e = rw e refl
 
-pub run_is_steps : (t : Tournament) → judged_of t ≡ Fine → (run_of t).tournament ≡ steps t.bits t
+pub run_is_steps : (t : Tournament) → judged_of t ≡ Ok tt → (run_of t).tournament ≡ steps t.bits t
 unfolding run_of
 run_is_steps t e = outcome_of (judged_of t) t (steps t.bits t) e
 
-pub judged_steps : (t : Tournament) → length t.priorities ≡ contenders → judged_of t ≡ Fine → (k : ℕ) → judged_of (steps k t) ≡ Fine
+pub judged_steps : (t : Tournament) → length t.priorities ≡ contenders → judged_of t ≡ Ok tt → (k : ℕ) → judged_of (steps k t) ≡ Ok tt
 unfolding steps
 judged_steps t long e zero = e
 judged_steps t long e (suc k) =
     not_refused_later (steps k t) (ap length (kept t k).priorities ∙ long) (judged_steps t long e k)
 
-calls_are_steps : (t : Tournament) → length t.priorities ≡ contenders → judged_of t ≡ Fine → (k : ℕ) → calls k t ≡ steps k t
+calls_are_steps : (t : Tournament) → length t.priorities ≡ contenders → judged_of t ≡ Ok tt → (k : ℕ) → calls k t ≡ steps k t
 unfolding steps calls step_of
 calls_are_steps t long e zero = refl
 calls_are_steps t long e (suc k) =
     ap (λ s. (step_of s).tournament) (calls_are_steps t long e k)
     ∙ outcome_of (judged_of (steps k t)) (steps k t) (next (steps k t)) (judged_steps t long e k)
 
-calls_refused : (t : Tournament) (r : Refusal) → judged_of t ≡ Refused r → (k : ℕ) → calls k t ≡ t
+calls_refused : (t : Tournament) (r : Refusal) → judged_of t ≡ Err r → (k : ℕ) → calls k t ≡ t
 unfolding calls step_of
 calls_refused t r e zero = refl
 calls_refused t r e (suc k) = ap (λ s. (step_of s).tournament) (calls_refused t r e k) ∙ ap (λ a. (outcome a t (next t)).tournament) e
@@ -66,13 +66,13 @@ unfolding run_of
 run_is_calls t long = by_verdict (judged_of t) refl
   where
     by_verdict : (a : Checked) → judged_of t ≡ a → (outcome a t (steps t.bits t)).tournament ≡ calls t.bits t
-    by_verdict Fine e = sym (calls_are_steps t long e t.bits)
-    by_verdict (Refused r) e = sym (calls_refused t r e t.bits)
+    by_verdict (Ok _) e = sym (calls_are_steps t long e t.bits)
+    by_verdict (Err r) e = sym (calls_refused t r e t.bits)
 
 -- ---- a run comes to the end: after k steps it is past bit k
-no_bit : (f : Found) (k : ℕ) → finished_by f ≡ AtBit k → ⊥
-no_bit (At i) k e = let z : ◌≡◌ {A = ℕ} 0 1 = cc in omega arith
-no_bit Nothing k e = let z : ◌≡◌ {A = ℕ} 0 1 = cc in omega arith
+no_bit : (f : Option ℕ) (k : ℕ) → finished_by f ≡ AtBit k → ⊥
+no_bit (Some i) k e = let z : ◌≡◌ {A = ℕ} 0 1 = cc in omega arith
+no_bit None k e = let z : ◌≡◌ {A = ℕ} 0 1 = cc in omega arith
 
 one_further : (t : Tournament) (m : ℕ) → (next t).phase ≡ AtBit m → (j : ℕ) × (t.phase ≡ AtBit j) × (m ≡ j + 1)
 unfolding next_at winner_of
@@ -111,19 +111,19 @@ run_ends t e k q =
 
 -- ---- a start and a run
 checked_is : (c : Checked) (before after : Tournament) → (outcome c before after).checked ≡ c
-checked_is Fine before after = refl
-checked_is (Refused r) before after = refl
+checked_is (Ok _) before after = refl
+checked_is (Err r) before after = refl
 
 module _ (NB n : ℕ) (places : List Priority) where
   -- a start that is not refused hands out the state that the rule begins with, ..
-  pub start_fine : (start_of NB n places).checked ≡ Fine → (verdict_of NB n places (AtBit 1) ≡ Fine) × ((start_of NB n places).tournament ≡ begun_of NB n places)
+  pub start_fine : (start_of NB n places).checked ≡ Ok tt → (verdict_of NB n places (AtBit 1) ≡ Ok tt) × ((start_of NB n places).tournament ≡ begun_of NB n places)
   unfolding start_of
   start_fine e =
       let d = sym (checked_is (verdict_of NB n places (AtBit 1)) nobody (begun_of NB n places)) ∙ e in
       (d, outcome_of _ nobody (begun_of NB n places) d)
 
   -- .. and that state is not refused either
-  pub start_judged : length places ≡ contenders → verdict_of NB n places (AtBit 1) ≡ Fine → judged_of (begun_of NB n places) ≡ Fine
+  pub start_judged : length places ≡ contenders → verdict_of NB n places (AtBit 1) ≡ Ok tt → judged_of (begun_of NB n places) ≡ Ok tt
   start_judged long e =
       let s = (fine_if_playable NB n places (AtBit 1) long).0 e in
       let f = s.fair in

@@ -9,11 +9,11 @@ use borrow.Author.Tests.{eqb-true, eq-eqb, ne_eqb}
 use lib.Dec.{eqb}
 use lib.ListN.{get_or}
 use Rattle.names.specs.declared.Row.{Row}
-use Rattle.laws.specs.declared.Found.{Found, TheVariants.At, TheVariants.Nothing}
+use Rattle.std.specs.Prelude.{Option, Some, None, Ok, Err}
+use Rattle.judge.specs.Table.{Checked}
 use Rattle.laws.proofs.Rows.{some_passes, finds_lowest, finds_nothing}
 use Rattle.tournament_state.specs.declared.Phase.{Phase, TheVariants.AtBit, TheVariants.Finished, TheVariants.NoWinner}
 use Rattle.tournament_state.specs.declared.Tournament.{Tournament}
-use Rattle.judge.specs.declared.Checked.{Checked, TheVariants.Fine, TheVariants.Refused}
 use Rattle.tournament_state.specs.Refusals.{none}
 use Rattle.laws.proofs.Tests.{both}
 use Rattle.tournament_state.proofs.Tests.{and_both}
@@ -125,17 +125,17 @@ unfolding step_of
 finished_stays t f = by_verdict (judged_of t)
   where
     by_verdict : (a : Checked) → (outcome a t (next t)).tournament ≡ t
-    by_verdict Fine = finished_next t f
-    by_verdict (Refused r) = refl
+    by_verdict (Ok _) = finished_next t f
+    by_verdict (Err r) = refl
 
 -- ---- the end
-no_winner : (f : Found) → finished_by f ≡ NoWinner → f ≡ Nothing
-no_winner (At i) e = absurd (let z : ◌≡◌ {A = ℕ} 0 1 = cc in omega arith)
-no_winner Nothing e = refl
+no_winner : (f : Option ℕ) → finished_by f ≡ NoWinner → f ≡ None
+no_winner (Some i) e = absurd (let z : ◌≡◌ {A = ℕ} 0 1 = cc in omega arith)
+no_winner None e = refl
 
-winner_at : (f : Found) (r : ℕ) → finished_by f ≡ Finished (record { 0 = r }) → f ≡ At r
-winner_at (At i) r e = let q : ◌≡◌ {A = Row} (record { 0 = i }) (record { 0 = r }) = cc in ap (λ (x : Row). At x.0) q
-winner_at Nothing r e = absurd (let z : ◌≡◌ {A = ℕ} 0 1 = cc in omega arith)
+winner_at : (f : Option ℕ) (r : ℕ) → finished_by f ≡ Finished (record { 0 = r }) → f ≡ Some r
+winner_at (Some i) r e = let q : ◌≡◌ {A = Row} (record { 0 = i }) (record { 0 = r }) = cc in ap (λ (x : Row). Some x.0) q
+winner_at None r e = absurd (let z : ◌≡◌ {A = ℕ} 0 1 = cc in omega arith)
 
 pub none_marked : (n : ℕ) (marks : List Bool) → (winner_of n marks ≡ NoWinner) ↔ ((i : ℕ) → i < n → get_or marks i false ≡ false)
 unfolding winner_of lowest_marked

@@ -5,7 +5,7 @@ use Rattle.names.specs.declared.Priority.{Priority}
 use Rattle.names.specs.Limits.{contenders}
 use Rattle.tournament_state.specs.declared.Phase.TheVariants.{AtBit, Finished, NoWinner}
 use Rattle.tournament_state.specs.declared.Tournament.{Tournament}
-use Rattle.judge.specs.declared.Checked.TheVariants.{Fine}
+use Rattle.std.specs.Prelude.{Ok}
 use Rattle.tournament_state.specs.Refusals.{none, number_at, Fair}
 use Rattle.tournament.specs.Rule.{bit_at, begun_of, is_in, heard_at, winner_of, next, steps}
 use Rattle.tournament.specs.Answers.{judged_of, parting_bit, start_of, step_of, run_of}
@@ -101,7 +101,7 @@ LowestMarkedWins =
 -- ---- calls
 -- what is not refused is not refused after a step
 abbrev pub NotRefusedLater : Type 0
-NotRefusedLater = (t : Tournament) → length t.priorities ≡ contenders → judged_of t ≡ Fine → judged_of (next t) ≡ Fine
+NotRefusedLater = (t : Tournament) → length t.priorities ≡ contenders → judged_of t ≡ Ok tt → judged_of (next t) ≡ Ok tt
 
 -- so a run is NB calls of a step, refused or not, ..
 unfoldable pub calls : ℕ → Tournament → Tournament
@@ -113,15 +113,15 @@ RunIsCalls = (t : Tournament) → length t.priorities ≡ contenders → (run_of
 
 -- .. and where it is not refused, it has come to the end
 abbrev pub RunEnds : Type 0
-RunEnds = (t : Tournament) → judged_of t ≡ Fine → (k : ℕ) → (run_of t).tournament.phase ≡ AtBit k → ⊥
+RunEnds = (t : Tournament) → judged_of t ≡ Ok tt → (k : ℕ) → (run_of t).tournament.phase ≡ AtBit k → ⊥
 
 -- a start that is not refused is won by the smallest priority
 pub record WonByCalls (NB n : ℕ) (places : List Priority) (w : ℕ) : Type 0 where
   pub smallest : Smallest n places w
-  pub accepted : (run_of (start_of NB n places).tournament).checked ≡ Fine
+  pub accepted : (run_of (start_of NB n places).tournament).checked ≡ Ok tt
   pub ends : (run_of (start_of NB n places).tournament).tournament.phase ≡ Finished (record { 0 = w })
 
 abbrev pub StartThenRun : Type 0
 StartThenRun =
-    (NB n : ℕ) (places : List Priority) → length places ≡ contenders → (start_of NB n places).checked ≡ Fine
+    (NB n : ℕ) (places : List Priority) → length places ≡ contenders → (start_of NB n places).checked ≡ Ok tt
     → (w : ℕ) × WonByCalls NB n places w

@@ -14,10 +14,9 @@ use Rattle.names.specs.declared.Priority.{Priority}
 use Rattle.names.specs.Limits.{contenders, bits}
 use Rattle.laws.proofs.Rows.{finds_lowest, finds_nothing}
 use Rattle.laws.proofs.Tests.{both}
-use Rattle.names.specs.declared.FoundRow.TheVariants.{Nothing as FoundRow-as-Nothing}
+use Rattle.std.specs.Prelude.{None, Ok}
 use Rattle.repeats.specs.Repeats.{as_row}
 use Rattle.repeats.proofs.Repeats.{at_found, nothing_found, at_the_lowest, nothing_if_distinct}
-use Rattle.judge.specs.declared.Checked.TheVariants.{Fine}
 use Rattle.judge.specs.Table.{judge, unless, row_in}
 use Rattle.judge.proofs.Table.{passed, not_given, unless_not, row_not, nothing_given, refused_by_the_first}
 use Rattle.tournament_state.specs.declared.Phase.{Phase, TheVariants.AtBit, TheVariants.Finished, TheVariants.NoWinner}
@@ -54,7 +53,7 @@ module _ (NB : ℕ) (ps : List Priority) where
   fitting : (i : ℕ) → number_at ps i < 2 ^ NB → unfit i ≡ false
   fitting i h = ap not (lt-ltb (number_at ps i) (2 ^ NB) h)
 
-  all_fit : (lowest_unfit NB ps ≡ FoundRow-as-Nothing) ↔ ((i : ℕ) → i < length ps → number_at ps i < 2 ^ NB)
+  all_fit : (lowest_unfit NB ps ≡ None) ↔ ((i : ℕ) → i < length ps → number_at ps i < 2 ^ NB)
   unfolding lowest_unfit
   all_fit = (
     λ e i h. fits i ((finds_nothing unfit 0 (length ps)).0 (nothing_found _ e) i (omega arith) (omega arith)),
@@ -82,7 +81,7 @@ place_of_eight NB ps row = (
 pub place_of_nine : PlaceOfNine
 place_of_nine ps = at_the_lowest (map number ps)
 
-all_differ : (ps : List Priority) → (lowest_repeat ps ≡ FoundRow-as-Nothing) ↔ ((i j : ℕ) → i < length ps → j < length ps → number_at ps i ≡ number_at ps j → i ≡ j)
+all_differ : (ps : List Priority) → (lowest_repeat ps ≡ None) ↔ ((i j : ℕ) → i < length ps → j < length ps → number_at ps i ≡ number_at ps j → i ≡ j)
 all_differ ps = (
   λ e i j a b s. (nothing_if_distinct (map number ps)).0 e i j (rw long a) (rw long b) (rw (value i, value j) s),
   λ h. (nothing_if_distinct (map number ps)).1 (λ i j a b s. h i j (rw long at a) (rw long at b) (rw (value i, value j) at s)),
@@ -100,12 +99,12 @@ pub record Passed (NB n : ℕ) (places : List Priority) (phase : Phase) : Type 0
   pub few : n ≤ contenders
   pub from : 1 ≤ NB
   pub to : NB ≤ bits
-  pub fit : lowest_unfit NB (take n places) ≡ FoundRow-as-Nothing
+  pub fit : lowest_unfit NB (take n places) ≡ None
   pub within : PhaseWithin NB n phase
-  pub distinct : lowest_repeat (take n places) ≡ FoundRow-as-Nothing
+  pub distinct : lowest_repeat (take n places) ≡ None
 
 module _ (NB n : ℕ) (places : List Priority) (phase : Phase) where
-  pub fine_passed : verdict_of NB n places phase ≡ Fine → Passed NB n places phase
+  pub fine_passed : verdict_of NB n places phase ≡ Ok tt → Passed NB n places phase
   unfolding verdict_of
   fine_passed e₀ =
       let (seven, e₁) = not_given _ _ e₀ in
@@ -124,7 +123,7 @@ module _ (NB n : ℕ) (places : List Priority) (phase : Phase) where
         distinct = row_not _ (not_given _ _ e₄).0;
       }
 
-  passed_fine : Passed NB n places phase → verdict_of NB n places phase ≡ Fine
+  passed_fine : Passed NB n places phase → verdict_of NB n places phase ≡ Ok tt
   unfolding verdict_of
   passed_fine p =
       passed _ _ (ap unless ((one_to_lem contenders n).1 (p.some, p.few)))
@@ -144,7 +143,7 @@ fine_if_playable NB n places phase long = (to, from)
     here : (i : ℕ) → i < n → number_at (take n places) i ≡ number_at places i
     here i h = rw (get_or-take n places i none h) refl
 
-    to : verdict_of NB n places phase ≡ Fine → Playable NB n places phase
+    to : verdict_of NB n places phase ≡ Ok tt → Playable NB n places phase
     to e =
         let p = fine_passed NB n places phase e in
         let c = count p.few in
@@ -160,7 +159,7 @@ fine_if_playable NB n places phase long = (to, from)
           within = p.within;
         }
 
-    from : Playable NB n places phase → verdict_of NB n places phase ≡ Fine
+    from : Playable NB n places phase → verdict_of NB n places phase ≡ Ok tt
     from s =
         let f = s.fair in
         let c = count f.few in
@@ -188,7 +187,7 @@ pair_state NB a b = refl
 pub fine_if_playable_pair : FineIfPlayablePair
 fine_if_playable_pair NB a b = (to, from)
   where
-    to : pair_verdict_of NB a b ≡ Fine → PlayablePair NB a b
+    to : pair_verdict_of NB a b ≡ Ok tt → PlayablePair NB a b
     to e =
         let s = (fine_if_playable NB 2 (pair a b) NoWinner refl).0 (pair_state NB a b ∙ e) in
         record {
@@ -213,7 +212,7 @@ fine_if_playable_pair NB a b = (to, from)
     distinct s (suc zero) (suc (suc j)) h k e = absurd (omega arith)
     distinct s (suc (suc i)) j h k e = absurd (omega arith)
 
-    from : PlayablePair NB a b → pair_verdict_of NB a b ≡ Fine
+    from : PlayablePair NB a b → pair_verdict_of NB a b ≡ Ok tt
     from s =
         sym (pair_state NB a b)
         ∙ (fine_if_playable NB 2 (pair a b) NoWinner refl).1

@@ -8,11 +8,9 @@ use lib.ListN.{length, take, length-take, length-map}
 use Rattle.names.specs.declared.Priority.{Priority}
 use Rattle.names.specs.declared.Refusal.{Refusal}
 use Rattle.names.specs.Limits.{contenders, bits}
-use Rattle.laws.specs.declared.Found.TheVariants.{At}
+use Rattle.std.specs.Prelude.{Option, Some, None, Err}
 use Rattle.laws.proofs.Tests.{apart}
 use Rattle.names.specs.declared.Row.{Row}
-use Rattle.names.specs.declared.FoundRow.{FoundRow, TheVariants.At as FoundRow-as-At, TheVariants.Nothing as FoundRow-as-Nothing}
-use Rattle.judge.specs.declared.Checked.TheVariants.{Refused}
 use Rattle.judge.specs.Table.{Line, unless, row_in, line_at}
 use Rattle.tournament_state.specs.declared.Phase.{Phase}
 use Rattle.tournament_state.specs.Refusals.{number, one_to, phase_inside, lowest_repeat, state_lines, verdict_of}
@@ -28,26 +26,26 @@ each_at P [] e i h = absurd (omega arith)
 each_at P (l ∷ ls) e zero h = e.0
 each_at P (l ∷ ls) e (suc i) h = each_at P ls e.1 i (omega arith)
 
-at_zero : (most : ℕ) (t : Bool) (p : ℕ) → unless t ≡ At p → p ≤ most
+at_zero : (most : ℕ) (t : Bool) (p : ℕ) → unless t ≡ Some p → p ≤ most
 at_zero most true p e = absurd (apart (sym e))
 at_zero most false p e = let z : 0 ≡ p = cc in omega arith
 
 -- a place that is a row is one of the rows
-at_row : (n : ℕ) (f : FoundRow) → ((row : Row) → f ≡ FoundRow-as-At row → row.0 < n) → (p : ℕ) → row_in f ≡ At p → p ≤ n
-at_row n (FoundRow-as-At row) among p e = let z : row.0 ≡ p = cc in omega (arith, among row refl)
-at_row n FoundRow-as-Nothing among p e = absurd (apart (sym e))
+at_row : (n : ℕ) (f : Option Row) → ((row : Row) → f ≡ Some row → row.0 < n) → (p : ℕ) → row_in f ≡ Some p → p ≤ n
+at_row n (Some row) among p e = let z : row.0 ≡ p = cc in omega (arith, among row refl)
+at_row n None among p e = absurd (apart (sym e))
 
 module _ (NB n : ℕ) (places : List Priority) (phase : Phase) (r : Refusal) where
-  pub refusal_range : verdict_of NB n places phase ≡ Refused r → (7 ≤ r.number) × (r.number ≤ 9) × (r.place ≤ length places)
+  pub refusal_range : verdict_of NB n places phase ≡ Err r → (7 ≤ r.number) × (r.number ≤ 9) × (r.place ≤ length places)
   refusal_range e =
       let g = (state_refused NB n places phase r).0 e in
       let (above, below, place) = each_at small (state_lines NB n places phase) each g.i g.among in
       (omega (arith, g.number), omega (arith, g.number), place r.place g.place)
     where
       small : Line → Type 0
-      small l = (7 ≤ l.number) × (l.number ≤ 9) × ((p : ℕ) → l.place ≡ At p → p ≤ length places)
+      small l = (7 ≤ l.number) × (l.number ≤ 9) × ((p : ℕ) → l.place ≡ Some p → p ≤ length places)
 
-      repeat : (row : Row) → lowest_repeat (take n places) ≡ FoundRow-as-At row → row.0 < length (take n places)
+      repeat : (row : Row) → lowest_repeat (take n places) ≡ Some row → row.0 < length (take n places)
       repeat row q = omega (arith, ((place_of_nine (take n places) row).0 q).0.among, length-map (take n places) number)
 
       each : Each small (state_lines NB n places phase)

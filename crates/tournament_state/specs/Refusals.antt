@@ -2,13 +2,13 @@
 -- The contenders' priorities stand in row order; NB is the bit count, n the number of contenders.
 use Rattle.std.specs.Prelude.{◌≡◌, Bool, true, not, ◌&&◌, List, [], ◌∷◌, map, ◌↔◌, ℕ, ◌^◌, ◌≤◌, ◌<◌, leb, ltb, length, get_or, take}
 use Rattle.names.specs.declared.Priority.{Priority}
-use Rattle.names.specs.declared.FoundRow.{FoundRow, TheVariants.At as FoundRow-as-At}
+use Rattle.std.specs.Prelude.{Option, Some, Ok, Err}
+use Rattle.judge.specs.Table.{Checked}
 use Rattle.names.specs.declared.Refusal.{Refusal}
 use Rattle.names.specs.declared.Row.{Row}
 use Rattle.names.specs.Limits.{contenders, bits}
 use Rattle.laws.specs.Search.{first}
 use Rattle.repeats.specs.Repeats.{as_row, first_repeat, Repeats}
-use Rattle.judge.specs.declared.Checked.{Checked, TheVariants.Fine, TheVariants.Refused}
 use Rattle.judge.specs.Table.{Line, judge, unless, row_in, FirstGiven}
 use Rattle.tournament_state.specs.declared.Phase.{Phase, TheVariants.AtBit, TheVariants.Finished, TheVariants.NoWinner}
 
@@ -30,7 +30,7 @@ abbrev pub fits_in : ℕ → Priority → Bool
 fits_in NB p = ltb (number p) (2 ^ NB)
 
 -- the lowest row whose priority does not fit in the bits
-unfoldable pub lowest_unfit : ℕ → List Priority → FoundRow
+unfoldable pub lowest_unfit : ℕ → List Priority → Option Row
 lowest_unfit NB ps = as_row (first (λ i. not (fits_in NB (get_or ps i none))) 0 (length ps))
 
 -- the bit number is one of the bits; the winner's row is a contender's
@@ -40,7 +40,7 @@ phase_inside NB n (Finished row) = ltb row.0 n
 phase_inside NB n NoWinner = true
 
 -- the lowest row whose priority an earlier row has
-abbrev pub lowest_repeat : List Priority → FoundRow
+abbrev pub lowest_repeat : List Priority → Option Row
 lowest_repeat ps = first_repeat (map number ps)
 
 -- a state: 7, the contenders; 8, the bit count, a priority, the bit number or the winner's row; 9, two have one priority
@@ -77,24 +77,24 @@ number_at ps i = number (get_or ps i none)
 abbrev pub StateRefused : Type 0
 StateRefused =
     (NB n : ℕ) (places : List Priority) (phase : Phase) (r : Refusal)
-    → (verdict_of NB n places phase ≡ Refused r) ↔ FirstGiven (state_lines NB n places phase) r
+    → (verdict_of NB n places phase ≡ Err r) ↔ FirstGiven (state_lines NB n places phase) r
 
 -- .. and so are two priorities alone
 abbrev pub PairRefused : Type 0
-PairRefused = (NB : ℕ) (a b : Priority) (r : Refusal) → (pair_verdict_of NB a b ≡ Refused r) ↔ FirstGiven (pair_lines NB a b) r
+PairRefused = (NB : ℕ) (a b : Priority) (r : Refusal) → (pair_verdict_of NB a b ≡ Err r) ↔ FirstGiven (pair_lines NB a b) r
 
 -- the place of 8 for a priority is a row exactly if it is the lowest whose priority does not fit
 abbrev pub PlaceOfEight : Type 0
 PlaceOfEight =
     (NB : ℕ) (ps : List Priority) (row : Row)
-    → (lowest_unfit NB ps ≡ FoundRow-as-At row)
+    → (lowest_unfit NB ps ≡ Some row)
     ↔ ((row.0 < length ps) × (2 ^ NB ≤ number_at ps row.0) × ((j : ℕ) → j < row.0 → number_at ps j < 2 ^ NB))
 
 -- the place of 9 is a row exactly if it is the lowest that repeats an earlier row
 abbrev pub PlaceOfNine : Type 0
 PlaceOfNine =
     (ps : List Priority) (row : Row)
-    → (lowest_repeat ps ≡ FoundRow-as-At row) ↔ (Repeats (map number ps) row.0 × ((j : ℕ) → Repeats (map number ps) j → row.0 ≤ j))
+    → (lowest_repeat ps ≡ Some row) ↔ (Repeats (map number ps) row.0 × ((j : ℕ) → Repeats (map number ps) j → row.0 ≤ j))
 
 -- 1 to 128 contenders with distinct priorities that fit in NB bits
 pub record Fair (NB n : ℕ) (places : List Priority) : Type 0 where
@@ -119,7 +119,7 @@ pub record Playable (NB n : ℕ) (places : List Priority) (phase : Phase) : Type
 abbrev pub FineIfPlayable : Type 0
 FineIfPlayable =
     (NB n : ℕ) (places : List Priority) (phase : Phase) → length places ≡ contenders
-    → (verdict_of NB n places phase ≡ Fine) ↔ Playable NB n places phase
+    → (verdict_of NB n places phase ≡ Ok tt) ↔ Playable NB n places phase
 
 -- two priorities alone are not refused exactly if both fit in the bits and they differ
 pub record PlayablePair (NB : ℕ) (a b : Priority) : Type 0 where
@@ -130,4 +130,4 @@ pub record PlayablePair (NB : ℕ) (a b : Priority) : Type 0 where
   pub differ : number a ≡ number b → ⊥
 
 abbrev pub FineIfPlayablePair : Type 0
-FineIfPlayablePair = (NB : ℕ) (a b : Priority) → (pair_verdict_of NB a b ≡ Fine) ↔ PlayablePair NB a b
+FineIfPlayablePair = (NB : ℕ) (a b : Priority) → (pair_verdict_of NB a b ≡ Ok tt) ↔ PlayablePair NB a b

@@ -10,8 +10,8 @@ ghost use Rattle.names.specs.Limits.{contenders};
 ghost use Rattle.tournament_state.specs.Refusals.{number, one_to, fits_in, lowest_unfit, phase_inside, lowest_repeat};
 ghost use Rattle.tournament_state.specs.Refusals.{verdict_of, pair_verdict_of};
 
-use judge::{Checked, refused};
-use names::{BITS, CONTENDERS, FoundRow, Priority, Row};
+use judge::refused;
+use names::{BITS, CONTENDERS, Priority, Row};
 use repeats::first_repeat;
 
 // At a bit, with its number from 1 on, or finished, with the winner's row or with no winner.
@@ -51,17 +51,17 @@ fn fits_in(bits: u32, p: Priority) -> bool
     p.0 >> bits == 0
 }
 
-fn lowest_unfit(bits: u32, priorities: [Priority; CONTENDERS], count: usize) -> FoundRow
+fn lowest_unfit(bits: u32, priorities: [Priority; CONTENDERS], count: usize) -> Option<Row>
     requires { count ≤ contenders }
     ensures { result ≡ lowest_unfit bits (take count priorities) }
 {
     for i in 0..count {
         let p = priorities[i];
         if !fits_in(bits, p) {
-            return FoundRow::At(Row(i));
+            return Some(Row(i));
         }
     }
-    FoundRow::Nothing
+    None
 }
 
 fn phase_inside(bits: u32, count: usize, phase: Phase) -> bool
@@ -85,7 +85,7 @@ fn numbers(priorities: [Priority; CONTENDERS]) -> [u32; CONTENDERS]
     out
 }
 
-fn lowest_repeat(priorities: [Priority; CONTENDERS], count: usize) -> FoundRow
+fn lowest_repeat(priorities: [Priority; CONTENDERS], count: usize) -> Option<Row>
     requires { count ≤ contenders }
     ensures { result ≡ lowest_repeat (take count priorities) }
 {
@@ -94,7 +94,12 @@ fn lowest_repeat(priorities: [Priority; CONTENDERS], count: usize) -> FoundRow
 }
 
 // The lines of document 01's table in their order, whatever else is wrong.
-pub fn verdict(bits: u32, count: usize, priorities: [Priority; CONTENDERS], phase: Phase) -> Checked
+pub fn verdict(
+    bits: u32,
+    count: usize,
+    priorities: [Priority; CONTENDERS],
+    phase: Phase,
+) -> Result<(), Refusal>
     ensures { result ≡ verdict_of bits count priorities phase }
 {
     if !one_to(CONTENDERS, count) {
@@ -104,21 +109,21 @@ pub fn verdict(bits: u32, count: usize, priorities: [Priority; CONTENDERS], phas
         return refused(8, 0);
     }
     match lowest_unfit(bits, priorities, count) {
-        FoundRow::At(row) => return refused(8, row.0),
-        FoundRow::Nothing => {}
+        Some(row) => return refused(8, row.0),
+        None => {}
     }
     if !phase_inside(bits, count, phase) {
         return refused(8, 0);
     }
     match lowest_repeat(priorities, count) {
-        FoundRow::At(row) => refused(9, row.0),
-        FoundRow::Nothing => Checked::Fine,
+        Some(row) => refused(9, row.0),
+        None => Ok(()),
     }
 }
 
 // The same of two priorities alone, in rows 0 and 1: two contenders are never too few or too many, and a state with no winner
 // has no bit and no row to look at.
-pub fn pair_verdict(bits: u32, a: Priority, b: Priority) -> Checked
+pub fn pair_verdict(bits: u32, a: Priority, b: Priority) -> Result<(), Refusal>
     ensures { result ≡ pair_verdict_of bits a b }
 {
     let mut pair = [Priority(0); CONTENDERS];

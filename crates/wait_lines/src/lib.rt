@@ -12,7 +12,7 @@ use laws::smaller;
 use names::{Row, STREAMS};
 use plan::{Sheet, Stream};
 use row_words::wait_in;
-use text::{Put, lay_label, lay_number, lay_text};
+use text::{lay_label, lay_number, lay_text};
 
 fn lay_wait(out: &mut [u8], at: usize, stream: Stream, wait: Wait) -> usize
     ensures { Lays out.old at (wait_row stream wait) result out.new }
@@ -47,13 +47,13 @@ fn lay_waits(out: &mut [u8], at: usize, sheet: Sheet, waits: &[u64]) -> usize
 }
 
 // The lines of a sheet's plan with its rows' waits, which stand in words, at the start of the buffer.
-pub fn waits(sheet: Sheet, waits: &[u64], out: &mut [u8]) -> Put
+pub fn waits(sheet: Sheet, waits: &[u64], out: &mut [u8]) -> Option<usize>
     ensures { Puts out.old 0 (lines_in sheet waits.now) result out.new }
 {
     let size = out.len();
     let laid = lay_waits(out, size, sheet, waits) - size;
     if size < laid {
-        return Put::Full;
+        return None;
     }
-    Put::At(lay_waits(out, 0, sheet, waits))
+    Some(lay_waits(out, 0, sheet, waits))
 }

@@ -11,7 +11,8 @@ use Rattle.words.proofs.Laws.{put_room, put_more, length_put}
 use Rattle.carried.specs.declared.Edition.TheVariants.{Three}
 use Rattle.carried.specs.Layout as layout
 use Rattle.carried.specs.Carried.{plain_timing, timing_in, plan_in, timing_words}
-use Rattle.file.specs.declared.Written.{Written}
+use Rattle.std.specs.Prelude.{Result}
+use Rattle.names.specs.declared.Refusal.{Refusal}
 use Rattle.file.specs.File.{contents, file_of}
 use Rattle.file.proofs.Bodies.{words_meant}
 
@@ -48,5 +49,5 @@ module _ (buf ws : List ℕ) (n m : ℕ) (long : layout.gap_at n m ≤ length ws
       ∙ ap (λ l. bytes_of l ++ drop (layout.size Three n m) buf) (sym (words_meant n m ws long))
 
 -- the answer, and what the lent bytes end with
-pub both : {w v : Written × List ℕ} → w ≡ v → (v.0 ≡ w.0) × (v.1 ≡ w.1)
-both e = (sym (ap (λ (o : Written × List ℕ). o.0) e), sym (ap (λ (o : Written × List ℕ). o.1) e))
+pub both : {w v : Result ℕ Refusal × List ℕ} → w ≡ v → (v.0 ≡ w.0) × (v.1 ≡ w.1)
+both e = (sym (ap (λ (o : Result ℕ Refusal × List ℕ). o.0) e), sym (ap (λ (o : Result ℕ Refusal × List ℕ). o.1) e))

@@ -16,8 +16,7 @@ use carried::{
     CARRIED, CONTENTS, Edition, STREAM, TIMING, WORD, timing_in, timing_words, words_of,
 };
 use checks::check_words;
-use file::{Written, contents, size};
-use judge::Checked;
+use file::{contents, size};
 use names::Refusal;
 use plan::{Sheet, Timing};
 use words::put_words;
@@ -48,28 +47,25 @@ pub fn write_words(
     n: usize,
     m: usize,
     buf: &mut [u8],
-) -> Written
+) -> Result<usize, Refusal>
     ensures value { result ≡ (spec.write_with edition n m (entered_in n m words.now) buf.old).0 }
     ensures buf_after { buf.new ≡ (spec.write_with edition n m (entered_in n m words.now) buf.old).1 }
 {
-    match check_words(edition, words, n, m) {
-        Checked::Refused(r) => return Written::Refused(r),
-        Checked::Fine => {}
-    }
+    check_words(edition, words, n, m)?;
     let bytes = size(Edition::Three, n as u16, m as u16);
     let no_room = buf.len() < bytes;
     if no_room {
-        return Written::Refused(Refusal {
+        return Err(Refusal {
             number: 6,
             place: 0,
         });
     }
     put_file(buf, timing_in(words), words, n, m);
-    Written::Bytes(bytes)
+    Ok(bytes)
 }
 
 // The same of a sheet's values, with the places of edition 3.
-pub fn write(sheet: Sheet, buf: &mut [u8]) -> Written
+pub fn write(sheet: Sheet, buf: &mut [u8]) -> Result<usize, Refusal>
     ensures value { result ≡ (spec.write_of sheet buf.old).0 }
     ensures buf_after { buf.new ≡ (spec.write_of sheet buf.old).1 }
 {

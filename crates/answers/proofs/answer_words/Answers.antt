@@ -1,7 +1,7 @@
 -- The plan is refused by its values, or by the memory lent for its answers, or the rows' words are laid.
 use mathlib.Core.Path.{◌≡◌, sym, ap, ◌∙◌}
 use native.Mathlib.Omega.{arith}
-use Rattle.judge.specs.declared.Checked.TheVariants.{Fine}
+use Rattle.std.specs.Prelude.{Ok}
 use Rattle.judge.specs.Table.{judge}
 use Rattle.checks.specs.Checks.{lines}
 use Rattle.carried.specs.Carried.{entered_in}
@@ -12,7 +12,7 @@ use Rattle.answers.proofs.answer_words.Goals as goal
 use Rattle.answers.proofs.answer_words.Goals.{In-Fine}
 
 -- what the check found fine
-fine : (c : In-Fine) → let a = c.args in judge (lines a.edition a.n a.m (entered_in a.n a.m a.words.now)) ≡ Fine
+fine : (c : In-Fine) → let a = c.args in judge (lines a.edition a.n a.m (entered_in a.n a.m a.words.now)) ≡ Ok tt
 fine c = sym c.check_words.ensures ∙ c.in-Fine.is
 
 places : (c : In-Fine) → let a = c.args in PlacesWithin a.words.now a.n a.m

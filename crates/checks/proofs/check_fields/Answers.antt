@@ -4,9 +4,8 @@ use Prim.Native.Nat.{ℕ, ◌<◌, min}
 use native.Mathlib.Omega.{arith}
 use lib.ListN.{length, get_or}
 use Rattle.names.specs.Limits.{streams, sources}
-use Rattle.laws.specs.declared.Found.TheVariants.{At}
+use Rattle.std.specs.Prelude.{Some, Err}
 use Rattle.laws.proofs.Lists.{length_rows}
-use Rattle.judge.specs.declared.Checked.TheVariants.{Refused}
 use Rattle.judge.proofs.Table.{given, passed, nothing_given}
 use Rattle.carried.specs.Layout as layout
 use Rattle.carried.specs.Carried.{Entered, stream_in, entered_in}
@@ -21,7 +20,7 @@ use Rattle.checks.proofs.check_fields.Goals.{Start}
 abbrev asked : Start → Entered
 asked b = entered_in (min b.args.n streams) (min b.args.m sources) b.args.words.now
 
-one_of_them : (b : Start) {k : ℕ} → lowest 0 (fields b.args.edition (asked b)) ≡ At k → k < layout.largest
+one_of_them : (b : Start) {k : ℕ} → lowest 0 (fields b.args.edition (asked b)) ≡ Some k → k < layout.largest
 unfolding entered_in
 one_of_them b e =
     let p = asked b in
@@ -45,7 +44,7 @@ pub returns-in-At : goal.returns-in-At
 returns-in-At c =
     let at = goal.at.returns-in-At c in
     c.refused.ensures
-    ∙ ap (λ x. Refused (record { number = 3; place = x })) (c.byte_of.ensures ∙ ap (λ n. layout.byte_of (layout.in_bodies c.args.edition n c.in-At.k)) (c.smaller-rows.ensures ∙ sym (rows_asked at.Start)))
+    ∙ ap (λ x. Err (record { number = 3; place = x })) (c.byte_of.ensures ∙ ap (λ n. layout.byte_of (layout.in_bodies c.args.edition n c.in-At.k)) (c.smaller-rows.ensures ∙ sym (rows_asked at.Start)))
     ∙ sym (given _ _ _ (ap (byte_in c.args.edition (length (asked at.Start).streams)) (sym c.outside.ensures ∙ c.in-At.is)))
 
 pub returns-in-Nothing : goal.returns-in-Nothing

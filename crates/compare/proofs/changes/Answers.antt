@@ -7,7 +7,7 @@ use lib.ListN.{length}
 use Rattle.names.specs.Limits.{streams}
 use Rattle.plan.specs.Plan.{Plan, plan_of}
 use Rattle.plan.proofs.Places.{streams_taken}
-use Rattle.compare.specs.declared.Change.TheVariants.{Nothing}
+use Rattle.std.specs.Prelude.{Ok}
 use Rattle.compare.specs.Changes.{◌or◌, of_kit, of_constants, of_streams, of_order, of_noise, changes}
 use Rattle.compare.specs.private.Columns.{label_of, priority_of, number_then, order_by}
 use Rattle.compare.proofs.First.{nothing_or, of_or}
@@ -17,7 +17,7 @@ use Rattle.compare.proofs.changes.Goals as goal
 use Rattle.compare.proofs.changes.Goals.{After-is-1, After-labels_of-labels, After-urgency, In-Nothing}
 
 -- the master node is no change
-kit_holds : (c : In-Nothing) → let a = c.args in of_kit a.old.timing a.new.timing ≡ Nothing
+kit_holds : (c : In-Nothing) → let a = c.args in of_kit a.old.timing a.new.timing ≡ Ok tt
 kit_holds c = sym c.kit.ensures ∙ c.in-Nothing.is
 
 -- ---- the constants hold, and the labels of the first plan are lent
@@ -37,7 +37,7 @@ module _ (c : After-labels_of-labels) where
   m_is : m ≡ length new.streams
   m_is = (streams_taken c.args.new (_, c.well_formed.1.0.1.1) _ c.smaller-m.ensures).0
 
-  constants_hold : of_constants old.timing new.timing ≡ Nothing
+  constants_hold : of_constants old.timing new.timing ≡ Ok tt
   constants_hold = sym c.constants.ensures ∙ c.in-Nothing-constants.is
 
   after_constants : changes old new ≡ of_streams old new or of_order old new or of_noise old new
@@ -56,10 +56,10 @@ module _ (c : After-is-1) where
   abbrev f : After-labels_of-labels
   f = c.before.before.before.before.before
 
-  no_change : c.streams-matched.result.change ≡ Nothing
+  no_change : c.streams-matched.result.change ≡ Ok tt
   no_change = c.in-Nothing-change.is
 
-  streams_hold : of_streams (old f) (new f) ≡ Nothing
+  streams_hold : of_streams (old f) (new f) ≡ Ok tt
   streams_hold = sym c.streams-matched.ensures.change_value ∙ no_change
 
   few : m f ≤ streams

@@ -1,7 +1,8 @@
 -- Each return is the first test that fails. Assumes nothing.
 use mathlib.Core.Path.{◌≡◌, sym}
 use lib.Dec.{leb}
-use Rattle.compare.specs.declared.Change.{Change}
+use Rattle.std.specs.Prelude.{Result}
+use Rattle.compare.specs.declared.Reason.{Reason}
 use Rattle.compare.specs.declared.Reason.TheVariants.{LongerAcknowledgement}
 use Rattle.compare.specs.Changes.{must, eased}
 use Rattle.compare.proofs.First.{no_reason, a_reason, pass, fail}
@@ -9,7 +10,7 @@ use Rattle.compare.proofs.eased.Goals as goal
 use Rattle.compare.proofs.eased.Goals.{After-struct_known-10-1}
 
 -- the tests before the last
-till_last : {d : Change} (c : After-struct_known-10-1) → let a = c.args in
+till_last : {d : Result (Unit {0}) Reason} (c : After-struct_known-10-1) → let a = c.args in
     d ≡ must (leb a.new.acknowledgement a.old.acknowledgement) (LongerAcknowledgement a.new.label) → d ≡ eased a.old a.new
 unfolding eased
 till_last c e =

@@ -3,11 +3,10 @@ use Prim.Native.Nat.{ℕ, ◌<◌}
 use native.Mathlib.Omega.{arith}
 use lib.ListN.{length, get_or, length-map}
 use Rattle.names.specs.Limits.{streams}
-use Rattle.laws.specs.declared.Found.{Found, TheVariants.At as Found-as-At, TheVariants.Nothing as Found-as-Nothing}
+use Rattle.std.specs.Prelude.{Option, Some, None, Result, Err}
 use Rattle.plan.specs.declared.Stream.{Stream}
 use Rattle.plan.specs.Plan.{Plan, plan_of, blank, at}
 use Rattle.plan.proofs.Places.{streams_taken, row_in_place}
-use Rattle.compare.specs.declared.Change.{Change, TheVariants.Of}
 use Rattle.compare.specs.declared.Reason.{Reason}
 use Rattle.compare.specs.Changes.{row_of, eased, in_row, of_stream, number_in, number_under, of_streams}
 use Rattle.compare.specs.private.Columns.{label_of, priority_of, number_then, column, row_by}
@@ -26,7 +25,7 @@ module _ (c : After-row_of-row) where
   abbrev s : Stream
   s = get_or c.args.new.streams c.loop-k.k blank
 
-  abbrev change : Change
+  abbrev change : Result (Unit {0}) Reason
   change = row_change c.args.old c.args.new c.loop-k.k
 
   by_labels : c.row_of-row.result.0 ≡ row_by (column label_of old) s.label
@@ -35,10 +34,10 @@ module _ (c : After-row_of-row) where
   rows_are : length c.args.labels.now ≡ length old.streams
   rows_are = ap length c.requires ∙ length-map old.streams label_of
 
-  beside : (f : Found) → row_of old s.label ≡ f → change ≡ in_row old s f
+  beside : (f : Option ℕ) → row_of old s.label ≡ f → change ≡ in_row old s f
   beside f e = ap (of_stream old) (row_in_place c.args.new c.loop-k.k (omega arith)) ∙ ap (in_row old s) e
 
-  here : {r : Reason} → change ≡ Of r → Of r ≡ of_streams old (plan_of c.args.new)
+  here : {r : Reason} → change ≡ Err r → Err r ≡ of_streams old (plan_of c.args.new)
   here e = sym (change_here (row_change c.args.old c.args.new) _ c.loop-k.k _ (omega arith) c.loop-k.invariant.3 e)
 
   -- .. stands in the first plan, ..
@@ -46,7 +45,7 @@ module _ (c : After-row_of-row) where
     abbrev r : ℕ
     r = c.row_of-row.result.0
 
-    found : row_of old s.label ≡ Found-as-At r
+    found : row_of old s.label ≡ Some r
     found = row_found old _ _ by_labels (λ e. stands (e ∙ sym rows_are))
 
     place : (r < streams) × (at old r ≡ get_or c.args.old.streams r blank)
@@ -56,7 +55,7 @@ module _ (c : After-row_of-row) where
     number_is = sym (ap (number_in old) found ∙ ap priority_of place.1)
 
     -- .. and what was said of both
-    said : (x : Change) → x ≡ eased (get_or c.args.old.streams r blank) s → change ≡ x
+    said : (x : Result (Unit {0}) Reason) → x ≡ eased (get_or c.args.old.streams r blank) s → change ≡ x
     said x e = beside _ found ∙ ap (λ n. eased n s) place.1 ∙ sym e
 
 pub loop-k-init : goal.loop-k-init
@@ -81,7 +80,7 @@ loop-k-preserved c =
 pub returns-then-r-labels-clause-change_value : goal.returns-then-r-labels-clause-change_value
 returns-then-r-labels-clause-change_value c =
     let f = (goal.at.returns-then-r-labels-clause-change_value c).After-row_of-row in
-    here f (beside f Found-as-Nothing (row_not_found (old f) (s f).label _ (by_labels f) (c.if-r-labels.true ∙ rows_are f)))
+    here f (beside f None (row_not_found (old f) (s f).label _ (by_labels f) (c.if-r-labels.true ∙ rows_are f)))
 
 pub offset_bounds-old-r : goal.offset_bounds-old-r
 offset_bounds-old-r c = let h = (place (goal.at.offset_bounds-old-r c).After-row_of-row c.if-r-labels.false).0 in search rules

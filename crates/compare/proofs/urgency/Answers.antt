@@ -3,7 +3,7 @@ use mathlib.Core.Bool.{Bool, true, false, not}
 use native.Mathlib.Omega.{arith}
 use Rattle.plan.specs.Plan.{plan_of, at}
 use Rattle.plan.proofs.Places.{row_in_place}
-use Rattle.compare.specs.declared.Change.TheVariants.{Of}
+use Rattle.std.specs.Prelude.{Err}
 use Rattle.compare.specs.declared.Reason.TheVariants.{LessUrgent}
 use Rattle.compare.specs.Changes.{must}
 use Rattle.compare.specs.private.Columns.{overtaken_by, urgency_by}
@@ -27,7 +27,7 @@ pub returns-then-overtaken : goal.returns-then-overtaken
 returns-then-overtaken c =
     let at = goal.at.returns-then-overtaken c in
     let a = c.args in
-    ap (λ s. Of (LessUrgent s.label)) (sym (row_in_place a.new c.loop-k.k (omega (arith, c.requires.is_len))))
+    ap (λ s. Err (LessUrgent s.label)) (sym (row_in_place a.new c.loop-k.k (omega (arith, c.requires.is_len))))
     ∙ sym (change_here (urgency_by a.was.now a.is.now (plan_of a.new)) _ c.loop-k.k _ (omega (arith, c.requires.is_len)) c.loop-k.invariant.1 (sym (said at.After-overtaken true c.if-overtaken.true)))
 
 pub loop-k-preserved : goal.loop-k-preserved

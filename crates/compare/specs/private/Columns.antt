@@ -3,13 +3,13 @@ use Rattle.std.specs.Prelude.{Bool, not, ◌&&◌, List, map, ℕ, leb, ltb, eqb
 use Rattle.names.specs.Limits.{streams}
 use Rattle.names.specs.declared.Label.{Label}
 use Rattle.names.specs.declared.Priority.{Priority}
-use Rattle.laws.specs.declared.Found.{Found, TheVariants.At, TheVariants.Nothing}
+use Rattle.std.specs.Prelude.{Option, Some, None, Result}
+use Rattle.compare.specs.declared.Reason.{Reason}
 use Rattle.laws.specs.Lists.{placed}
 use Rattle.laws.specs.Search.{first}
 use Rattle.laws.specs.Rows.{some}
 use Rattle.plan.specs.declared.Stream.{Stream}
 use Rattle.plan.specs.Plan.{Plan, at}
-use Rattle.compare.specs.declared.Change.{Change}
 use Rattle.compare.specs.declared.Reason.TheVariants.{LessUrgent}
 use Rattle.compare.specs.Changes.{must, number_under, first_change}
 
@@ -32,9 +32,9 @@ abbrev pub number_then : Plan → Stream → ℕ
 number_then old s = number_under old s.label
 
 -- the row that is under a label, or as many as there are rows
-abbrev pub or_end : ℕ → Found → ℕ
-or_end n (At r) = r
-or_end n Nothing = n
+abbrev pub or_end : ℕ → Option ℕ → ℕ
+or_end n (Some r) = r
+or_end n None = n
 
 abbrev pub row_by : List ℕ → Label → ℕ
 row_by labels l = or_end (length labels) (first (λ r. eqb (get_or labels r 0) l.0) 0 (length labels))
@@ -47,9 +47,9 @@ overtakes_by was is has had j = ltb (get_or is j 0) has.0 && leb had.0 (get_or w
 abbrev pub overtaken_by : List ℕ → List ℕ → ℕ → Bool
 overtaken_by was is k = some (overtakes_by was is (record { 0 = get_or is k 0 }) (record { 0 = get_or was k 0 })) (length is)
 
-abbrev pub urgency_by : List ℕ → List ℕ → Plan → ℕ → Change
+abbrev pub urgency_by : List ℕ → List ℕ → Plan → ℕ → Result (Unit {0}) Reason
 urgency_by was is p k = must (not (overtaken_by was is k)) (LessUrgent (at p k).label)
 
 -- the first row that is overtaken
-abbrev pub order_by : List ℕ → List ℕ → Plan → Change
+abbrev pub order_by : List ℕ → List ℕ → Plan → Result (Unit {0}) Reason
 order_by was is p = first_change (urgency_by was is p) (length p.streams)

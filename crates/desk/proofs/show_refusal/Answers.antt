@@ -1,6 +1,7 @@
 -- A file is refused as it was read, and else it is fine. Assumes nothing.
 use mathlib.Core.Path.{◌≡◌, sym, ap, ◌∙◌}
-use Rattle.judge.specs.declared.Checked.{Checked}
+use Rattle.std.specs.Prelude.{}
+use Rattle.judge.specs.Table.{Checked}
 use Rattle.text.specs.Put.{put}
 use Rattle.desk.specs.Desk.{refusal_as, shown_refusal}
 use Rattle.desk.proofs.show_refusal.Goals as goal

@@ -7,7 +7,7 @@ use lib.ListN.{get_or}
 use Rattle.names.specs.Limits.{streams, sources}
 use Rattle.laws.specs.Lists.{rows}
 use Rattle.laws.proofs.Lists.{length_rows}
-use Rattle.laws.specs.declared.Found.TheVariants.{Nothing}
+use Rattle.std.specs.Prelude.{None}
 use Rattle.carried.specs.Layout as layout
 use Rattle.fields.specs.Fields.{timing_fields, stream_fields, gap_field, lowest}
 use Rattle.carried.specs.Carried.{Entered, entered_timing_in, stream_in, entered_in}
@@ -20,7 +20,7 @@ use Rattle.fields.proofs.outside.Goals.{After-streams_outside, In-Nothing}
 abbrev asked : ℕ → ℕ → List ℕ → Entered
 asked n m words = entered_in (min n streams) (min m sources) words
 
-timing_inside : (c : In-Nothing) → lowest 0 (timing_fields c.args.edition (entered_timing_in c.args.words.now)) ≡ Nothing
+timing_inside : (c : In-Nothing) → lowest 0 (timing_fields c.args.edition (entered_timing_in c.args.words.now)) ≡ None
 timing_inside c = sym c.in-Nothing.ensures
 
 -- the streams of the plan are those that were looked at

@@ -9,7 +9,7 @@ use borrow.Author.Tests.{le-leb, lt-leb, eq-eqb, ne_eqb}
 use lib.ListN.{length, take}
 use Rattle.names.specs.Limits.{streams, sources}
 use Rattle.words.specs.Words.{words_of}
-use Rattle.judge.specs.declared.Checked.TheVariants.{Fine}
+use Rattle.std.specs.Prelude.{Ok}
 use Rattle.judge.specs.Table.{judge}
 use Rattle.carried.specs.declared.Edition.{Edition}
 use Rattle.carried.specs.Layout as layout
@@ -71,7 +71,7 @@ contents_refused : (w : After-word_at-2) → contents_right (x_at w) (n_at w) (m
 contents_refused w = said_contents (bs_at w) (x_at w) (n_at w) (m_at w) (x_is w) (n_is w) (m_is w) (one w)
 
 -- n and m are in their ranges
-few : (w : After-word_at-2) → judge (range_lines (x_at w) (n_at w) (m_at w)) ≡ Fine → (1 ≤ n_at w) × (n_at w ≤ streams) × (m_at w ≤ sources)
+few : (w : After-word_at-2) → judge (range_lines (x_at w) (n_at w) (m_at w)) ≡ Ok tt → (1 ≤ n_at w) × (n_at w ≤ streams) × (m_at w ≤ sources)
 few w fine = fine_range (x_at w) (n_at w) (m_at w) fine
 
 pub returns-then-length : goal.returns-then-length

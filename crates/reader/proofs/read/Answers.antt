@@ -5,7 +5,7 @@ use mathlib.Core.List.{List}
 use Prim.Native.Nat.{ℕ, min}
 use native.Mathlib.Omega.{arith}
 use Rattle.names.specs.Limits.{streams, sources}
-use Rattle.judge.specs.declared.Checked.TheVariants.{Fine}
+use Rattle.std.specs.Prelude.{Ok}
 use Rattle.judge.specs.Table.{judge}
 use Rattle.carried.specs.declared.Edition.{Edition}
 use Rattle.carried.specs.Carried.{meant, held, entered_in, sheet_of}
@@ -53,7 +53,7 @@ returns-in-Fine c =
     let m : min (m_at w) sources ≡ m_at w = omega (arith, quiet) in
     let v = entered_in (n_at w) (m_at w) ws in
     let right = meant_is_right (x_at w) (n_at w) (m_at w) v (sym c.check_words.ensures ∙ c.in-Fine.is) in
-    ap (λ s. record { answer = Fine; sheet = s }) (c.sheet_in.ensures ∙ ap₂ (λ i j. sheet_of (held (entered_in i j ws))) n m ∙ ap sheet_of (plan_held v right.within.timing))
+    ap (λ s. record { answer = Ok tt; sheet = s }) (c.sheet_in.ensures ∙ ap₂ (λ i j. sheet_of (held (entered_in i j ws))) n m ∙ ap sheet_of (plan_held v right.within.timing))
     ∙ sym (answered w ∙ ap (λ a. read_as a (meant v)) c.in-Fine.is)
 
 pub returns-in-Refused-check_words : goal.returns-in-Refused-check_words

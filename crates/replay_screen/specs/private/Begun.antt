@@ -5,7 +5,7 @@ use Rattle.names.specs.Limits.{contenders}
 use Rattle.laws.specs.Lists.{rows}
 use Rattle.tournament_state.specs.declared.Phase.{Phase, TheVariants.AtBit, TheVariants.Finished, TheVariants.NoWinner}
 use Rattle.tournament_state.specs.declared.Tournament.{Tournament}
-use Rattle.judge.specs.declared.Checked.TheVariants.{Fine}
+use Rattle.std.specs.Prelude.{Ok}
 use Rattle.tournament_state.specs.Refusals.{none}
 use Rattle.tournament.specs.declared.Carrier.{Carrier, TheVariants.Heard, TheVariants.NotHeard, TheVariants.Refused}
 use Rattle.tournament.specs.declared.Parting.{Parting, TheVariants.At as Parting-as-At, TheVariants.Refused as Parting-as-Refused}
@@ -14,7 +14,7 @@ use Rattle.tournament.specs.Answers.{judged_of, parting_of}
 
 -- a state that a start hands out
 pub record Begun (t : Tournament) : Type 0 where
-  pub judged : judged_of t ≡ Fine
+  pub judged : judged_of t ≡ Ok tt
   pub long : length t.priorities ≡ contenders
   pub start : t ≡ begun_of t.bits t.count t.priorities
 

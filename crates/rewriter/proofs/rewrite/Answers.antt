@@ -8,7 +8,7 @@ use Rattle.carried.specs.declared.Edition.{Edition}
 use Rattle.carried.specs.Layout as layout
 use Rattle.carried.specs.Carried.{entered_in}
 use Rattle.file.specs.declared.Counts.TheVariants.{Of, Refused as Counts-as-Refused}
-use Rattle.file.specs.declared.Written.{Written, TheVariants.Refused as Written-as-Refused}
+use Rattle.std.specs.Prelude.{Result, Err}
 use Rattle.file.specs.File.{counts_of, carried_of, write_with, write_of}
 use Rattle.file.proofs.Carried.{not_counted, by_words}
 use Rattle.file.proofs.Writing.{write_refused, written_alike}
@@ -16,10 +16,10 @@ use Rattle.rewriter.specs.Rewriter.{rewrite_as, rewrite_of}
 use Rattle.rewriter.proofs.rewrite.Goals as goal
 
 module _ (bytes buf : List ℕ) where
-  abbrev no : Refusal → Written × List ℕ
-  no r = (Written-as-Refused r, buf)
+  abbrev no : Refusal → Result ℕ Refusal × List ℕ
+  no r = (Err r, buf)
 
-  not_read : (r : Refusal) → counts_of bytes ≡ Counts-as-Refused r → rewrite_of bytes buf ≡ (Written-as-Refused r, buf)
+  not_read : (r : Refusal) → counts_of bytes ≡ Counts-as-Refused r → rewrite_of bytes buf ≡ (Err r, buf)
   unfolding rewrite_of write_of
   not_read r e = not_counted (λ c s. rewrite_as c s buf) no (λ x n m p. write_with x n m p buf) (λ s. refl) (λ r s. refl) (λ x n m p. write_refused x n m p buf) (written_alike buf) bytes r e
 

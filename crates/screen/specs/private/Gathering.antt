@@ -4,7 +4,8 @@ use Rattle.names.specs.Limits.{streams, sources}
 use Rattle.laws.specs.Lists.{placed}
 use Rattle.plan.specs.declared.Stream.{Stream}
 use Rattle.plan.specs.Plan.{blank}
-use Rattle.judge.specs.declared.Checked.{Checked}
+use Rattle.std.specs.Prelude.{}
+use Rattle.judge.specs.Table.{Checked}
 use Rattle.carried.specs.declared.Edition.TheVariants.{Three}
 use Rattle.carried.specs.declared.EnteredTiming.{EnteredTiming}
 use Rattle.carried.specs.Carried.{entered_in, entered_words, in_places}

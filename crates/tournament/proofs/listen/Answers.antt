@@ -4,7 +4,7 @@ use mathlib.Core.Bool.{Bool, true, false}
 use Prim.Native.Nat.{ℕ}
 use Rattle.tournament_state.specs.declared.Phase.{Phase, TheVariants.AtBit, TheVariants.NoWinner}
 use Rattle.tournament_state.specs.declared.Tournament.{Tournament}
-use Rattle.judge.specs.declared.Checked.TheVariants.{Fine}
+use Rattle.std.specs.Prelude.{Ok}
 use Rattle.tournament.specs.declared.Carrier.TheVariants.{Heard, NotHeard}
 use Rattle.tournament.specs.Rule.{heard_at}
 use Rattle.tournament.specs.Answers.{judged_of, heard_now, heard_unless, carrier_of}
@@ -13,14 +13,14 @@ use Rattle.tournament.proofs.listen.Goals as goal
 use Rattle.tournament.proofs.listen.Goals.{In_default}
 
 -- what is heard in a phase
-heard_in : (t : Tournament) (p : Phase) → judged_of t ≡ Fine → t.phase ≡ p → heard_now t p ≡ carrier_of t
+heard_in : (t : Tournament) (p : Phase) → judged_of t ≡ Ok tt → t.phase ≡ p → heard_now t p ≡ carrier_of t
 unfolding carrier_of
 heard_in t p e q = ap (heard_now t) (sym q) ∙ sym (ap (λ a. heard_unless a (heard_now t t.phase)) e)
 
-heard_as : (t : Tournament) (k : ℕ) (b : Bool) → heard_at t k ≡ b → judged_of t ≡ Fine → t.phase ≡ AtBit k → (elim b [ true ↦ Heard | false ↦ NotHeard ]) ≡ carrier_of t
+heard_as : (t : Tournament) (k : ℕ) (b : Bool) → heard_at t k ≡ b → judged_of t ≡ Ok tt → t.phase ≡ AtBit k → (elim b [ true ↦ Heard | false ↦ NotHeard ]) ≡ carrier_of t
 heard_as t k b h e q = ap (λ (b : Bool). elim b [ true ↦ Heard | false ↦ NotHeard ]) (sym h) ∙ heard_in t (AtBit k) e q
 
-judged_fine : (c : In_default) → judged_of c.args.t ≡ Fine
+judged_fine : (c : In_default) → judged_of c.args.t ≡ Ok tt
 judged_fine c = sym c.in_default.ensures
 
 pub returns-in-Refused : goal.returns-in-Refused

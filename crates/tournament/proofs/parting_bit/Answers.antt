@@ -1,13 +1,13 @@
 -- Two priorities that are not refused fit and differ. Assumes nothing.
 use mathlib.Core.Path.{◌≡◌, refl, sym}
-use Rattle.judge.specs.declared.Checked.TheVariants.{Fine}
+use Rattle.std.specs.Prelude.{Ok}
 use Rattle.tournament_state.specs.Refusals.{pair_verdict_of}
 use Rattle.tournament_state.proofs.Meaning.{fine_if_playable_pair}
 use Rattle.tournament.specs.Answers.{parting_of}
 use Rattle.tournament.proofs.parting_bit.Goals as goal
 use Rattle.tournament.proofs.parting_bit.Goals.{In-Fine}
 
-pair_fine : (c : In-Fine) → let a = c.args in pair_verdict_of a.bits a.a a.b ≡ Fine
+pair_fine : (c : In-Fine) → let a = c.args in pair_verdict_of a.bits a.a a.b ≡ Ok tt
 pair_fine c = sym c.in-Fine.ensures
 
 pub first_difference-requires : goal.first_difference-requires

@@ -1,6 +1,6 @@
 use mathlib.Core.Path.{◌≡◌, refl, sym, ap, ◌∙◌}
 use native.Mathlib.Omega.{arith}
-use Rattle.judge.specs.declared.Checked.TheVariants.{Fine}
+use Rattle.std.specs.Prelude.{Ok}
 use Rattle.tournament.specs.Rule.{next, steps}
 use Rattle.tournament.specs.Answers.{judged_of, run_of}
 use Rattle.tournament.proofs.Readiness.{ready_fine, ready_steps, steps_more, outcome_fine, outcome_refused}
@@ -8,7 +8,7 @@ use borrow.Author.Rules.{rules}
 use Rattle.tournament.proofs.run.Goals as goal
 use Rattle.tournament.proofs.run.Goals.{In-Fine}
 
-judged_fine : (c : In-Fine) → judged_of c.args.t ≡ Fine
+judged_fine : (c : In-Fine) → judged_of c.args.t ≡ Ok tt
 judged_fine c = sym c.in-Fine.ensures
 
 pub loop-init : goal.loop-init

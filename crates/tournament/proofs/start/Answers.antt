@@ -1,7 +1,7 @@
 -- A start meets the verdict on its own state first. Assumes nothing.
 use mathlib.Core.Path.{◌≡◌, sym}
 use Rattle.tournament_state.specs.declared.Phase.TheVariants.{AtBit}
-use Rattle.judge.specs.declared.Checked.TheVariants.{Fine}
+use Rattle.std.specs.Prelude.{Ok}
 use Rattle.tournament_state.specs.Refusals.{verdict_of}
 use Rattle.tournament_state.proofs.Meaning.{fine_passed}
 use Rattle.tournament.specs.Answers.{nobody, start_of}
@@ -9,7 +9,7 @@ use Rattle.tournament.proofs.Readiness.{outcome_fine, outcome_refused}
 use Rattle.tournament.proofs.start.Goals as goal
 use Rattle.tournament.proofs.start.Goals.{In-Fine}
 
-verdict_fine : (c : In-Fine) → let a = c.args in verdict_of a.bits a.count a.priorities (AtBit 1) ≡ Fine
+verdict_fine : (c : In-Fine) → let a = c.args in verdict_of a.bits a.count a.priorities (AtBit 1) ≡ Ok tt
 verdict_fine c = sym c.in-Fine.ensures
 
 pub begun-requires : goal.begun-requires

@@ -1,12 +1,12 @@
 -- A state that is not refused is ready for a step. Assumes nothing.
 use mathlib.Core.Path.{◌≡◌, refl, sym}
-use Rattle.judge.specs.declared.Checked.TheVariants.{Fine}
+use Rattle.std.specs.Prelude.{Ok}
 use Rattle.tournament.specs.Answers.{judged_of, step_of}
 use Rattle.tournament.proofs.Readiness.{ready_fine, outcome_fine, outcome_refused}
 use Rattle.tournament.proofs.step.Goals as goal
 use Rattle.tournament.proofs.step.Goals.{In-Fine}
 
-judged_fine : (c : In-Fine) → judged_of c.args.t ≡ Fine
+judged_fine : (c : In-Fine) → judged_of c.args.t ≡ Ok tt
 judged_fine c = sym c.in-Fine.ensures
 
 pub next-requires : goal.next-requires

@@ -8,11 +8,10 @@ use Rattle.carried.specs.declared.Edition.{Edition}
 use Rattle.plan.specs.Plan.{TimingWithin}
 use Rattle.carried.specs.Carried.{Entered, meant_timing, entered_timing_in, entered_in}
 use Rattle.carried.proofs.Plans.{timing_held}
-use Rattle.judge.specs.declared.Checked.TheVariants.{Fine}
+use Rattle.std.specs.Prelude.{Ok}
 use Rattle.judge.specs.Table.{judge}
 use Rattle.checks.specs.Checks.{lines}
 use Rattle.checks.proofs.Fine.{meant_is_right}
-use Rattle.file.specs.declared.Written.TheVariants.{Bytes}
 use Rattle.file.proofs.Writing.{write_refused, write_no_room, write_fine}
 use Rattle.writer.proofs.Whole.{both}
 use Rattle.writer.proofs.write_words.Goals as goal
@@ -22,11 +21,11 @@ use Rattle.writer.proofs.write_words.Goals.{In-Fine}
 abbrev asked : ℕ → ℕ → List ℕ → Entered
 asked n m words = entered_in n m words
 
-fine : (c : In-Fine) → judge (lines c.args.edition c.args.n c.args.m (asked c.args.n c.args.m c.args.words.now)) ≡ Fine
+fine : (c : In-Fine) → judge (lines c.args.edition c.args.n c.args.m (asked c.args.n c.args.m c.args.words.now)) ≡ Ok tt
 fine c = sym c.check_words.ensures ∙ c.in-Fine.is
 
 -- n is at most 256 and m at most 8, and the timing is within the limits
-few : (x : Edition) (n m : ℕ) (v : Entered) → judge (lines x n m v) ≡ Fine → (n ≤ limit.streams) × (m ≤ limit.sources) × TimingWithin (meant_timing v.timing)
+few : (x : Edition) (n m : ℕ) (v : Entered) → judge (lines x n m v) ≡ Ok tt → (n ≤ limit.streams) × (m ≤ limit.sources) × TimingWithin (meant_timing v.timing)
 few x n m v e =
     let r = meant_is_right x n m v e in
     (omega (arith, r.count, r.within.count), omega (arith, r.sources, r.within.sources), r.within.timing)
@@ -74,7 +73,7 @@ pub returns-clause-value : goal.returns-clause-value
 returns-clause-value c =
     let f = (goal.at.returns-clause-value c).In-Fine in
     let (x, y) = both (write_fine c.args.edition c.args.n c.args.m (asked c.args.n c.args.m c.args.words.now) c.args.buf.now (fine f) (omega (arith, c.if-no_room.false, c.size-bytes.ensures))) in
-    ap Bytes c.size-bytes.ensures ∙ x
+    ap Ok c.size-bytes.ensures ∙ x
 
 pub returns-clause-buf_after : goal.returns-clause-buf_after
 returns-clause-buf_after c =

@@ -8,7 +8,7 @@ use mir.Syntax.{w64}
 use mir.Val.{SFits}
 use mir.Facts.{to_z-of_z, Fits-nat_abs}
 use Rattle.names.specs.Limits.{ticks}
-use Rattle.laws.specs.declared.Found.TheVariants.{At}
+use Rattle.std.specs.Prelude.{Some}
 use Rattle.laws.specs.Signed.{largest_to, FirstLargest}
 use Rattle.laws.proofs.Signed.{finds_first_largest}
 use Rattle.bound.specs.Bound as rule
@@ -29,7 +29,7 @@ sound : (t : Lent) → Fit t → Sound (terms_of t)
 sound t f = fit_sound _ _ _ f.row
 
 -- the busy period is within the limit
-within : (t : Lent) (l : ℕ) → rule.busy (terms_of t) ≡ At l → l ≤ ticks
+within : (t : Lent) (l : ℕ) → rule.busy (terms_of t) ≡ Some l → l ≤ ticks
 within t l e = ((busy_is_least (terms_of t) l).0 e).0
 
 -- for w a release V after a cycle's start still counts, and the noise's window is C'' longer

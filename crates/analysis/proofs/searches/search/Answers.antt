@@ -1,7 +1,7 @@
 -- The chain ends where the rule says, and the second search finds the largest term.
 use mathlib.Core.Path.{◌≡◌, ◌∙◌}
 use native.Mathlib.Omega.{arith}
-use Rattle.laws.specs.declared.Found.TheVariants.{At}
+use Rattle.std.specs.Prelude.{Some}
 use Rattle.bound.specs.Bound.{busy}
 use Rattle.bound.proofs.Answers.{answer-bound, searched-bound}
 use Rattle.terms.specs.Gathered.{lent, terms_of}
@@ -13,7 +13,7 @@ use Rattle.analysis.proofs.searches.search.Goals.{Else-ended-gt-TICKS}
 -- where the first search has found L, it is L
 found : (c : Else-ended-gt-TICKS)
     → let a = c.args in
-    busy (terms_of (lent a.g a.costs.now a.periods.now a.jitters.now)) ≡ At c.busy_period-ended.result.last
+    busy (terms_of (lent a.g a.costs.now a.periods.now a.jitters.now)) ≡ Some c.busy_period-ended.result.last
 found c = ended_busy (fit_sound _ _ _ c.requires.fit.row) c.busy_period-ended.ensures (omega (arith, c.if-ended-gt-TICKS.false))
 
 pub returns-then-ended-gt-TICKS : goal.returns-then-ended-gt-TICKS
