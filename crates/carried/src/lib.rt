@@ -31,6 +31,14 @@ pub enum Edition {
     Three,
 }
 
+// How much is carried: the edition of the file that it stands in, n streams and m noise gaps.
+#[derive(Clone, Copy)]
+pub struct Counts {
+    pub edition: Edition,
+    pub n: usize,
+    pub m: usize,
+}
+
 // A timing as it is entered: the ten words in the file's order, LAG among them.
 #[derive(Clone, Copy)]
 pub struct EnteredTiming {
