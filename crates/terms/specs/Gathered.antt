@@ -5,6 +5,7 @@ use Rattle.laws.specs.Lists.{rows, every}
 use Rattle.bound.specs.Terms.{Share, Terms}
 use Rattle.bound.specs.Bound.{side_L}
 use Rattle.terms.specs.declared.Gathered.{Gathered}
+use Rattle.terms.specs.declared.LentTerms.{LentTerms}
 
 -- the most stairs: one for each noise source, and after them one for each more urgent stream
 abbrev pub stairs : ℕ
@@ -19,6 +20,10 @@ pub record Lent : Type 0 where
 
 abbrev pub lent : Gathered → List ℕ → List ℕ → List ℕ → Lent
 lent g costs periods jitters = record { row = g; costs = costs; periods = periods; jitters = jitters }
+
+-- .. in the code's own struct
+abbrev pub lent_terms : LentTerms → Lent
+lent_terms t = lent t.row t.costs.now t.periods.now t.jitters.now
 
 -- the gap of a noise source, and the share of a stream of hp(i), which stands after the noise sources; only streams have a jitter
 abbrev pub gap_of : Lent → ℕ → ℕ

@@ -4,8 +4,8 @@
 // knows of terms alone: it must not know of plans, or of how an answer comes about. Tests are joined by `&`, which has no branch.
 #![tactic(auto)]
 
-ghost use Rattle.std.specs.Prelude.{◌≡◌, ◌+◌, ◌≤◌, length};
-ghost use Rattle.terms.specs.Gathered.{lent, share_fits, shares_fit, source_fits, sources_fit, row_fits, long_enough, fits};
+ghost use Rattle.std.specs.Prelude.{◌≡◌, true};
+ghost use Rattle.terms.specs.Gathered.{lent_terms, share_fits, shares_fit, source_fits, sources_fit, row_fits, long_enough, fits};
 ghost use Rattle.terms.specs.Fit.{FitRow};
 
 use names::{SOURCES, STREAMS, TICKS};
@@ -16,9 +16,7 @@ pub const COST: u64 = 5000000;
 // The noise sources and, after them, the more urgent streams: each a stair of a right side.
 pub const STAIRS: usize = SOURCES + STREAMS;
 
-// A row's own terms. Costs and periods are lent beside them: first as many hits and gaps as there are noise sources, and then those of
-// hp(i), `urgent` of them; and the jitters of these. More may be lent than that: one list of streams in order of urgency serves all rows, and
-// hp(i) is its front.
+// A row's own terms: of the streams of hp(i) and of the noise sources it has only how many there are.
 #[derive(Clone, Copy)]
 pub struct Gathered {
     pub blocking: u64,
@@ -32,25 +30,35 @@ pub struct Gathered {
     pub last: u64,
 }
 
+// A row's own terms, and the costs and periods that are lent beside them: first as many hits and gaps as there are noise sources, and then
+// those of hp(i), `urgent` of them; and the jitters of these. More may be lent than that: one list of streams in order of urgency serves all
+// rows, and hp(i) is its front.
+#[derive(Clone, Copy)]
+pub struct LentTerms<'a> {
+    pub row: Gathered,
+    pub costs: &'a [u64],
+    pub periods: &'a [u64],
+    pub jitters: &'a [u64],
+}
+
 fn share_fits(cost: u64, period: u64, jitter: u64) -> bool
     ensures { result ≡ share_fits (record { C'' = cost; T = period; J = jitter }) }
 {
     (cost <= COST) & (1 <= period) & (period <= TICKS) & (jitter <= TICKS)
 }
 
-fn shares_fit<'a>(g: Gathered, costs: &'a [u64], periods: &'a [u64], jitters: &'a [u64]) -> bool
-    requires urgent_in_bounds { g.sources + g.urgent ≤ length costs.now }
-    requires urgent_in_bounds_2 { g.sources + g.urgent ≤ length periods.now }
-    requires urgent_in_bounds_3 { g.urgent ≤ length jitters.now }
-    ensures { result ≡ shares_fit (lent g costs.now periods.now jitters.now) }
+fn shares_fit(terms: LentTerms) -> bool
+    requires { long_enough (lent_terms terms) ≡ true }
+    ensures { result ≡ shares_fit (lent_terms terms.entry) }
 {
-    let from = g.sources;
-    let n = g.urgent;
+    let from = terms.row.sources;
     let mut all = true;
-    let mut k: usize = 0;
-    while k < n {
-        all = all & share_fits(costs[from + k], periods[from + k], jitters[k]);
-        k += 1;
+    for k in 0..terms.row.urgent {
+        all &= share_fits(
+            terms.costs[from + k],
+            terms.periods[from + k],
+            terms.jitters[k],
+        );
     }
     all
 }
@@ -62,18 +70,14 @@ fn source_fits(hit: u64, each: u64, gap: u64) -> bool
     (1 <= gap) & (gap <= TICKS) & (each == hit)
 }
 
-fn sources_fit(g: Gathered, costs: &[u64], periods: &[u64]) -> bool
-    requires sources_in_bounds { g.sources ≤ length costs.now }
-    requires sources_in_bounds_2 { g.sources ≤ length periods.now }
-    ensures { result ≡ sources_fit g costs.now periods.now }
+fn sources_fit(terms: LentTerms) -> bool
+    requires { long_enough (lent_terms terms) ≡ true }
+    ensures { result ≡ sources_fit terms.entry.row terms.entry.costs.now terms.entry.periods.now }
 {
-    let n = g.sources;
-    let hit = g.hit;
+    let hit = terms.row.hit;
     let mut all = true;
-    let mut k: usize = 0;
-    while k < n {
-        all = all & source_fits(hit, costs[k], periods[k]);
-        k += 1;
+    for k in 0..terms.row.sources {
+        all &= source_fits(hit, terms.costs[k], terms.periods[k]);
     }
     all
 }
@@ -92,23 +96,24 @@ fn row_fits(g: Gathered) -> bool
 }
 
 // A row that is within the limits says how much must be lent.
-fn long_enough<'a>(g: Gathered, costs: &'a [u64], periods: &'a [u64], jitters: &'a [u64]) -> bool
-    requires { FitRow g }
-    ensures { result ≡ long_enough (lent g costs.now periods.now jitters.now) }
+fn long_enough(terms: LentTerms) -> bool
+    requires { FitRow terms.row }
+    ensures { result ≡ long_enough (lent_terms terms.entry) }
 {
-    let n = g.sources + g.urgent;
-    (n <= costs.len()) & (n <= periods.len()) & (g.urgent <= jitters.len())
+    let urgent = terms.row.urgent;
+    let n = terms.row.sources + urgent;
+    (n <= terms.costs.len()) & (n <= terms.periods.len()) & (urgent <= terms.jitters.len())
 }
 
 // The lists are looked at only where all of them that counts is lent.
-pub fn terms_fit<'a>(g: Gathered, costs: &'a [u64], periods: &'a [u64], jitters: &'a [u64]) -> bool
-    ensures { result ≡ fits (lent g costs.now periods.now jitters.now) }
+pub fn terms_fit(terms: LentTerms) -> bool
+    ensures { result ≡ fits (lent_terms terms.entry) }
 {
-    if !row_fits(g) {
+    if !row_fits(terms.row) {
         return false;
     }
-    if !long_enough(g, costs, periods, jitters) {
+    if !long_enough(terms) {
         return false;
     }
-    shares_fit(g, costs, periods, jitters) & sources_fit(g, costs, periods)
+    shares_fit(terms) & sources_fit(terms)
 }

@@ -3,13 +3,16 @@
 use mathlib.Core.Path.{◌≡◌, refl, sym, ap, ◌∙◌}
 use mathlib.Core.List.{List, [], ◌∷◌, ◌++◌, append_assoc}
 use Prim.Native.Nat.{ℕ, zero, suc, ◌+◌, ◌-◌, ◌*◌, ◌/◌, ◌%◌, ◌^◌, min, ◌≤◌, ◌<◌}
-use native.Mathlib.Nat.{div-add-mod', div-div-eq-div-mul, lt_of_not-le}
+use native.Mathlib.Nat.{lt_of_not-le}
 use native.Mathlib.Decide.{dec_le}
 use native.Mathlib.Numerals.{add-one}
 use native.Mathlib.Omega.{arith}
 use borrow.Author.Tests.{le-leb, lt-leb}
 use lib.ListN.{length, get_or, set, take, drop, replicate, length-append, length-drop, length-replicate, drop_of_length-le, get_or-eq_default, take-append-drop}
-use lib.Seq.{length-take-le, take_all, take-suc, take_at, drop-cons, append_snoc, set_at, drop-append-add, drop-drop, sets-eq}
+use lib.Seq.{length-take-le, take_all, take-suc, take_at, drop-cons, append_snoc, set_at, drop-append-add, drop-drop}
+use Rattle.std.specs.Int.{w32, from_le_bytes}
+use Rattle.std.proofs.lemmas.Nat.{from_le_bytes-to_le_bytes_4, le_bytes_4}
+use Rattle.std.specs.Simd.{first_chunks}
 use Rattle.laws.specs.Lists.{placed}
 use Rattle.laws.proofs.Placed.{drop_replicate}
 use Rattle.words.specs.Words.{joined_of, words_of, laid_onto, bytes_of, with_words, put_words, Below}
@@ -28,19 +31,17 @@ unfolding bytes_of
 length_bytes [] = refl
 length_bytes (w ∷ words) = omega (arith, length_bytes words)
 
--- ---- the word at an index
-pub word_is : (bytes : List ℕ) (k : ℕ) → 4 * k + 4 ≤ length bytes
-    → get_or (words_of bytes) k 0 ≡ joined_of (get_or bytes (4 * k) 0) (get_or bytes (4 * k + 1) 0) (get_or bytes (4 * k + 2) 0) (get_or bytes (4 * k + 3) 0)
+-- ---- the word at an index, which is of the k-th four bytes, as std cuts them
+pub four_at : (bytes : List ℕ) (n k : ℕ) (none : List ℕ) → k < n → 4 * n ≤ length bytes
+    → from_le_bytes w32 (get_or (first_chunks 4 n bytes) k none) ≡ get_or (words_of bytes) k 0
 unfolding words_of
-word_is (a ∷ b ∷ c ∷ d ∷ bytes) zero h = refl
-word_is (a ∷ b ∷ c ∷ d ∷ bytes) (suc k) h =
-    let on : (j : ℕ) → 4 * suc k + j ≡ suc (suc (suc (suc (4 * k + j)))) = λ j. omega arith in
-    let on-0 : 4 * suc k ≡ suc (suc (suc (suc (4 * k)))) = omega arith in
-    rw (on 1, on 2, on 3, on-0) (word_is bytes k (omega arith))
-word_is (a ∷ b ∷ c ∷ []) k h = absurd (omega arith)
-word_is (a ∷ b ∷ []) k h = absurd (omega arith)
-word_is (a ∷ []) k h = absurd (omega arith)
-word_is [] k h = absurd (omega arith)
+four_at bytes zero k none h l = absurd (omega arith)
+four_at (a ∷ b ∷ c ∷ d ∷ bytes) (suc n) zero none h l = refl
+four_at (a ∷ b ∷ c ∷ d ∷ bytes) (suc n) (suc k) none h l = four_at bytes n k none (omega arith) (omega arith)
+four_at (a ∷ b ∷ c ∷ []) (suc n) k none h l = absurd (omega arith)
+four_at (a ∷ b ∷ []) (suc n) k none h l = absurd (omega arith)
+four_at (a ∷ []) (suc n) k none h l = absurd (omega arith)
+four_at [] (suc n) k none h l = absurd (omega arith)
 
 pub word_past : (bytes : List ℕ) (k : ℕ) → length bytes / 4 ≤ k → get_or (words_of bytes) k 0 ≡ 0
 word_past bytes k h = get_or-eq_default (words_of bytes) 0 (omega (arith, length_words bytes))
@@ -97,19 +98,8 @@ take_words (suc k) (a ∷ []) = rw (four_more k) refl
 take_words (suc k) [] = rw (four_more k) refl
 
 -- ---- a word to four bytes and back
--- three carries: each quotient is what the next digit leaves
-carried : (w r₀ q₁ r₁ q₂ r₂ q₃ : ℕ) → q₁ * 256 + r₀ ≡ w → q₂ * 256 + r₁ ≡ q₁ → q₃ * 256 + r₂ ≡ q₂ → joined_of r₀ r₁ r₂ q₃ ≡ w
-carried w r₀ q₁ r₁ q₂ r₂ q₃ e f g = omega arith
-
 four_digits : (w : ℕ) → w < 2 ^ 32 → joined_of (w % 256) (w / 256 % 256) (w / 65536 % 256) (w / 16777216 % 256) ≡ w
-four_digits w h =
-    let top : w / 16777216 % 256 ≡ w / 16777216 = omega arith in
-    let second : w / 256 / 256 ≡ w / 65536 = div-div-eq-div-mul w 256 256 in
-    let third : w / 65536 / 256 ≡ w / 16777216 = div-div-eq-div-mul w 65536 256 in
-    rw top
-    (carried w (w % 256) (w / 256) (w / 256 % 256) (w / 65536) (w / 65536 % 256) (w / 16777216) (div-add-mod' w 256)
-    (rw second at (div-add-mod' (w / 256) 256))
-    (rw third at (div-add-mod' (w / 65536) 256)))
+four_digits w h = from_le_bytes-to_le_bytes_4 w h
 
 pub words_bytes : (words : List ℕ) → Below (2 ^ 32) words → words_of (bytes_of words) ≡ words
 unfolding words_of bytes_of
@@ -117,25 +107,22 @@ words_bytes [] h = refl
 words_bytes (w ∷ words) h = rw (four_digits w (h 0), words_bytes words (λ i. h (suc i))) refl
 
 -- ---- four bytes to a word and back
-module _ (a b c d : ℕ) (ha : a < 256) (hb : b < 256) (hc : c < 256) (hd : d < 256) where
-  digit_0 : joined_of a b c d % 256 ≡ a
-  digit_0 = omega arith
-
-  digit_1 : joined_of a b c d / 256 % 256 ≡ b
-  digit_1 = omega arith
-
-  digit_2 : joined_of a b c d / 65536 % 256 ≡ c
-  digit_2 = omega arith
-
-  digit_3 : joined_of a b c d / 16777216 % 256 ≡ d
-  digit_3 = omega arith
+four_bytes : (a b c d : ℕ) → a < 256 → b < 256 → c < 256 → d < 256 → bytes_of (joined_of a b c d ∷ []) ≡ a ∷ b ∷ c ∷ d ∷ []
+unfolding bytes_of
+four_bytes a b c d ha hb hc hd = le_bytes_4 (a ∷ b ∷ c ∷ d ∷ []) (joined_of a b c d) refl each refl
+  where
+    each : (i : ℕ) → get_or (a ∷ b ∷ c ∷ d ∷ []) i 0 < 256
+    each zero = ha
+    each (suc zero) = hb
+    each (suc (suc zero)) = hc
+    each (suc (suc (suc zero))) = hd
+    each (suc (suc (suc (suc i)))) = omega arith
 
 pub bytes_words : (n : ℕ) (bytes : List ℕ) → Below 256 bytes → length bytes ≡ 4 * n → bytes_of (words_of bytes) ≡ bytes
 unfolding words_of bytes_of
 bytes_words n (a ∷ b ∷ c ∷ d ∷ bytes) h e =
     let g = bytes_words (n - 1) bytes (λ i. h (suc (suc (suc (suc i))))) (omega arith) in
-    let ha : a < 256 = h 0 in let hb : b < 256 = h 1 in let hc : c < 256 = h 2 in let hd : d < 256 = h 3 in
-    rw (digit_0 a b c d ha hb hc hd, digit_1 a b c d ha hb hc hd, digit_2 a b c d ha hb hc hd, digit_3 a b c d ha hb hc hd, g) refl
+    ap (λ bs. bs ++ bytes_of (words_of bytes)) (four_bytes a b c d (h 0) (h 1) (h 2) (h 3)) ∙ rw g refl
 bytes_words n (a ∷ b ∷ c ∷ []) h e = absurd (omega arith)
 bytes_words n (a ∷ b ∷ []) h e = absurd (omega arith)
 bytes_words n (a ∷ []) h e = absurd (omega arith)
@@ -194,13 +181,3 @@ put_next bytes at ws i h fits e =
     let k : length (take i ws) ≡ i = length-take-le i ws (omega arith) in
     rw (e, add-one i, take-suc ws i 0 h)
     (put_more bytes at (take i ws) (omega arith) (get_or ws i 0 ∷ []) (at + 4 * i) (ap (λ j. at + 4 * j) (sym k)))
-
--- four stores, as the code makes them
-pub put_one : (bytes : List ℕ) (at w : ℕ) → at + 4 ≤ length bytes
-    → set (set (set (set bytes at (w % 256)) (at + 1) (w / 256 % 256)) (at + 2) (w / 65536 % 256)) (at + 3) (w / 16777216 % 256) ≡ with_words bytes at (w ∷ [])
-unfolding with_words bytes_of
-put_one bytes at w h =
-    let e : at + 1 ≡ suc at = omega arith in
-    let f : at + 2 ≡ suc (suc at) = omega arith in
-    let g : at + 3 ≡ suc (suc (suc at)) = omega arith in
-    rw (e, f, g) (sets-eq (w % 256 ∷ w / 256 % 256 ∷ w / 65536 % 256 ∷ w / 16777216 % 256 ∷ []) bytes at h ∙ append_assoc (take at bytes) _ _)

@@ -2,7 +2,7 @@
 use mathlib.Core.Path.{◌≡◌}
 use mathlib.Core.Bool.{Bool, true, false}
 use mathlib.Core.List.{List}
-use Prim.Native.Nat.{ℕ, ◌-◌, ◌≤◌, ◌<◌}
+use Prim.Native.Nat.{ℕ, ◌<◌}
 use lib.ListN.{length, get_or}
 use Rattle.laws.proofs.Rows.{NoneBelow}
 use Rattle.repeats.specs.Repeats.{repeats_at}
@@ -14,7 +14,4 @@ abbrev pub Met : ℕ → List ℕ → List Bool → ℕ → Type 0
 Met n xs met i = (j : ℕ) → j < i → get_or met (bucket_of n (get_or xs j 0)) false ≡ true
 
 abbrev pub invariant-loop-i : goal.invariant-loop-i
-invariant-loop-i l = (l.i ≤ length l.values) × NoneBelow (repeats_at l.values) l.i × (length l.met ≡ length l.initial.met) × Met (length l.initial.met) l.values l.met l.i
-
-abbrev pub decreases-loop-i : goal.decreases-loop-i
-decreases-loop-i l = l.n - l.i
+invariant-loop-i l = NoneBelow (repeats_at l.values) l.i × Met (length l.initial.met) l.values l.met l.i

@@ -1,5 +1,5 @@
 -- After i turns the first i words are written and nothing else; words that have no room are turned away before the first store. Assumes nothing.
-use mathlib.Core.Path.{refl, sym, ap, ◌∙◌}
+use mathlib.Core.Path.{sym, ap, ◌∙◌}
 use native.Mathlib.Omega.{arith}
 use lib.Seq.{take_all}
 use Rattle.words.specs.Words.{with_words}
@@ -17,22 +17,16 @@ returns-then-room-at-2 c =
     sym (put_no_room a.buf.now a.at a.ws.now (omega arith))
 
 pub loop-i-init : goal.loop-i-init
-loop-i-init c = (omega arith, refl, omega arith, refl, sym (put_none _ _))
+loop-i-init c = sym (put_none _ _)
 
 pub loop-i-preserved : goal.loop-i-preserved
 loop-i-preserved c =
-    let p = c in
-    let l = p.loop-i in
-    let a = p.args in (
-      omega arith,
-      refl,
-      l.invariant.2,
-      p.put_word.auto.buf ∙ l.invariant.3,
-      p.put_word.ensures ∙ put_next a.buf.now a.at a.ws.now l.i (omega arith) l.invariant.2 l.invariant.4,
-    )
+    let a = c.args in
+    let l = c.loop-i in
+    c.put_word.ensures ∙ put_next a.buf.now a.at a.ws.now l.i (omega arith) (omega arith) l.invariant
 
 pub returns : goal.returns
 returns c =
     let l = c.loop-i in
     let a = c.args in
-    l.invariant.4 ∙ ap (with_words a.buf.now a.at) (take_all l.i a.ws.now (omega arith)) ∙ sym (put_room a.buf.now a.at a.ws.now l.invariant.2)
+    l.invariant ∙ ap (with_words a.buf.now a.at) (take_all l.i a.ws.now (omega arith)) ∙ sym (put_room a.buf.now a.at a.ws.now (omega arith))
