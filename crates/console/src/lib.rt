@@ -4,74 +4,58 @@
 // std's to say. A write that fails is passed over. This crate knows of the names alone.
 #![tactic(auto)]
 
-ghost use Rattle.std.specs.Prelude.{◌≡◌, take, IsSome, IsUtf8};
-ghost use Rattle.console.specs.Input.{InBuffer};
+ghost use Rattle.std.specs.Prelude.{◌≡◌, ◌≤◌, length, take, IfOk, IsSome, IsUtf8};
 
 use names::Refusal;
 use std::env::FillError;
-use std::fs;
 use std::io::Read;
 use std::rt::{Env, Files};
-
-// What was read: so many bytes, at the buffer's start; or that reading failed, as of a directory.
-#[derive(Clone, Copy)]
-pub enum Input {
-    Bytes(usize),
-    Failed,
-}
+use std::{fs, io};
 
 // Opens the file of this name for reading. A name that is no text (UTF-8) opens nothing.
 pub fn open<R: Files>(rt: &R, name: &[u8]) -> Option<R::File>
     ensures { IsSome result → IsUtf8 name.now }
 {
-    let Ok(path) = str::from_utf8(name) else {
-        return None;
-    };
+    let path = str::from_utf8(name).ok()?;
     fs::open(rt, path).ok()
 }
 
 // How many arguments the program was started with, its own name among them.
 pub fn arg_count(rt: &impl Env) -> usize {
-    for i in 0..usize::MAX {
-        if let Err(FillError::NotPresent) = rt.arg(i, &mut []) {
-            return i;
-        }
-    }
-    usize::MAX
+    (0..usize::MAX)
+        .take_while(|i| !matches!(rt.arg(*i, &mut []), Err(FillError::NotPresent)))
+        .count()
 }
 
-// Puts an argument at the buffer's start and gives its length, or 0 where it is missing or longer than the buffer.
-pub fn arg(rt: &impl Env, i: usize, buf: &mut [u8]) -> usize
-    ensures { InBuffer (Input.Bytes result) buf.new }
+// An argument, which is put at the buffer's start, or that it is missing or longer than the buffer.
+pub fn arg<'a>(rt: &impl Env, i: usize, buf: &'a mut [u8]) -> Result<&'a [u8], FillError>
+    ensures { IfOk result (λ bytes. length bytes.now ≤ length buf.old) }
 {
-    match rt.arg(i, buf) {
-        Ok(n) => n,
-        Err(_) => 0,
-    }
+    let n = rt.arg(i, buf)?;
+    Ok(&buf[..n])
 }
 
-// Reads an open file until the buffer is full, the file ends or a read fails.
-pub fn read(file: &mut impl Read, buf: &mut [u8]) -> Input
-    ensures { InBuffer result buf.new }
+// What an open file has, put at the buffer's start, until the buffer is full, the file ends or a read fails, as of a directory.
+pub fn read<'a>(file: &mut impl Read, buf: &'a mut [u8]) -> io::Result<&'a [u8]>
+    ensures { IfOk result (λ bytes. length bytes.now ≤ length buf.old) }
 {
+    // A read may give less than it is lent, so each goes on where the last one ended.
     let mut done: usize = 0;
     while done < buf.len() {
-        let Ok(more) = file.read(&mut buf[done..]) else {
-            return Input::Failed;
-        };
+        let more = file.read(&mut buf[done..])?;
         if more == 0 {
-            return Input::Bytes(done);
+            break;
         }
         done += more;
     }
-    Input::Bytes(done)
+    Ok(&buf[..done])
 }
 
 // The first k bytes, or all if there are fewer.
 pub fn first(bytes: &[u8], k: usize) -> &[u8]
     ensures { result.now ≡ take k bytes.now }
 {
-    if k <= bytes.len() { &bytes[..k] } else { bytes }
+    &bytes[..k.min(bytes.len())]
 }
 
 pub fn print(rt: &impl Print, bytes: &[u8]) {
@@ -88,13 +72,10 @@ pub fn print_number(rt: &impl Print, n: u64) {
 
 // The words of a refusal, with no end of the line.
 pub fn print_refusal(rt: &impl Print, r: Refusal) {
-    print(rt, b"refused ");
-    print_number(rt, r.number as u64);
-    print(rt, b" at ");
-    print_number(rt, r.place as u64);
+    let _ = print!(rt; "refused {} at {}", r.number, r.place);
 }
 
-// The line that a program prints of what it cannot read.
+// The line that a program prints of what it cannot read. A name need not be text, so its bytes are written as they are.
 pub fn print_unreadable(rt: &impl Print, program: &[u8], what: &[u8]) {
     print(rt, program);
     print(rt, b": cannot read ");
