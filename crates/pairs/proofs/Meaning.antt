@@ -171,7 +171,7 @@ abbrev names_of : Named → Option (Part × Part)
 names_of (Some line) = line.names
 names_of None = None
 
-abbrev next_of : Named → ℕ
+abbrev pub next_of : Named → ℕ
 next_of (Some line) = line.next
 next_of None = 0
 
@@ -211,7 +211,7 @@ over_at_the_end text at = (back, over text at)
         ]
 
 -- a line that is there starts before the text's end
-not_yet_over : (text : List ℕ) (at : ℕ) → (line_of text at ≡ Over → ⊥) → at < length text
+pub not_yet_over : (text : List ℕ) (at : ℕ) → (line_of text at ≡ Over → ⊥) → at < length text
 not_yet_over text at h =
     elim (dec_le (length text) at) [
       | yes g ↦ absurd (h (over text at g))

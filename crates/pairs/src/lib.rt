@@ -7,7 +7,9 @@
 
 ghost use Rattle.std.specs.Prelude.{◌≡◌, ◌+◌, ◌≤◌, ◌==◌, length, drop};
 ghost use Rattle.std.specs.List.{position};
+ghost use Rattle.std.specs.Iterator.{YieldsFirstBy, item_count};
 ghost use Rattle.pairs.specs.Pairs.{before, name_in, names_as, next_line, line_of};
+ghost use Rattle.pairs.specs.Lines.{both_in, both_now, lines_left, lines_of};
 
 // The bytes of a text from a place up to another.
 #[derive(Clone, Copy)]
@@ -102,4 +104,40 @@ pub fn next_line(text: &[u8], at: usize) -> usize
 {
     let end = place_of(text, at.min(text.len()), b'\n');
     (end + 1).min(text.len())
+}
+
+// The lines of a text that are left: each one's two names, or that it is not two names.
+#[derive(Drop)]
+pub struct Lines<'a> {
+    text: &'a [u8],
+    at: usize,
+}
+
+// The names that stand at two places of a text.
+fn names_at(text: &[u8], names: Option<(Part, Part)>) -> Option<(&[u8], &[u8])>
+    ensures { both_now result ≡ both_in text.now names }
+{
+    let (old, new) = names?;
+    Some((name_in(text, old), name_in(text, new)))
+}
+
+impl<'a> Iterator for Lines<'a> {
+    type Item = Option<(&'a [u8], &'a [u8])>;
+
+    ghost next_gives = { YieldsFirstBy both_now lines_left };
+
+    ghost remaining = { item_count lines_left };
+
+    fn next(&mut self) -> Option<Option<(&'a [u8], &'a [u8])>> {
+        let line = line_at(self.text, self.at)?;
+        self.at = line.next;
+        Some(names_at(self.text, line.names))
+    }
+}
+
+// All the lines of a text, in their order.
+pub fn lines_of(text: &[u8]) -> Lines<'_>
+    ensures { lines_left result ≡ lines_of text.now }
+{
+    Lines { text, at: 0 }
 }
