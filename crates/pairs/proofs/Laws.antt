@@ -2,12 +2,12 @@
 use mathlib.Core.Path.{◌≡◌, refl, sym, ap, ◌∙◌}
 use mathlib.Core.Bool.{Bool, true, false, cond, not, ◌&&◌, and-false}
 use mathlib.Core.List.{List, [], ◌∷◌, ◌++◌}
-use Prim.Native.Nat.{ℕ, suc, ◌+◌, ◌-◌, ◌≤◌, ◌<◌, min}
-use native.Mathlib.Omega.{arith, min_cases}
+use Prim.Native.Nat.{ℕ, suc, ◌+◌, ◌≤◌, ◌<◌}
+use native.Mathlib.Omega.{arith}
 use borrow.Author.Tests.{ltb-false, lt-ltb, le-ltb}
 use lib.Dec.{eqb, ltb}
 use lib.ListN.{length, take, drop, length-drop}
-use lib.Seq.{length-take-le, take_all, take-add, drop_at, drop-drop}
+use lib.Seq.{length-take-le, take-add, drop_at, drop-drop}
 use Rattle.ascii.specs.Ascii.{space, newline}
 use Rattle.std.specs.Prelude.{Some, None}
 use Rattle.std.specs.List.{position, position_or_len}
@@ -131,20 +131,3 @@ module _ (text : List ℕ) (at : ℕ) where
         let cut : take end text ≡ take at text ++ l = ap (λ n. take n text) e ∙ take-add at (length l) text ∙ ap (λ m. take at text ++ m) (before_start newline (drop at text)) in
         let line : drop at (take end text) ≡ l = ap (drop at) cut ∙ drop_at (take at text) l at (length-take-le at text (omega arith)) in
         ap (λ m. Some (record { names = names_as m at; next = next_line text at })) line ∙ sym inside
-
--- ---- a part of a text that is cut to where the text ends
-module _ (text : List ℕ) (from to t : ℕ) where
-  pub cut_end : t ≡ min to (length text) → take (t - from) (drop from text) ≡ take (to - from) (drop from text)
-  cut_end a =
-      min_cases to (length text) (take (t - from) (drop from text) ≡ take (to - from) (drop from text))
-      (λ h e. ap (λ n. take (n - from) (drop from text)) (a ∙ e))
-      (λ h e. take_all (t - from) _ (omega (arith, length-drop from text)) ∙ sym (take_all (to - from) _ (omega (arith, length-drop from text))))
-
-  pub cut_start : (f : ℕ) → f ≡ min from t → take (t - f) (drop f text) ≡ take (t - from) (drop from text)
-  cut_start f b =
-      min_cases from t (take (t - f) (drop f text) ≡ take (t - from) (drop from text))
-      (λ h e. ap (λ n. take (t - n) (drop n text)) (b ∙ e))
-      (λ h e.
-      let p : t - f ≡ 0 = omega arith in
-      let q : t - from ≡ 0 = omega arith in
-      ap (λ n. take n (drop f text)) p ∙ sym (ap (λ n. take n (drop from text)) q))

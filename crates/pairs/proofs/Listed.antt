@@ -51,3 +51,13 @@ one_more text at line e =
 -- so with each line there are fewer
 pub fewer : (text : List ℕ) (at : ℕ) (line : Line) → line_of text at ≡ Some line → length (lines_from text line.next) < length (lines_from text at)
 fewer text at line e = omega (arith, ap length (one_more text at line e))
+
+-- there are no more lines than are counted to
+pub no_more_than : (k : ℕ) (text : List ℕ) (at : ℕ) → length (lines_up_to k text at) ≤ k
+unfolding lines_up_to
+no_more_than zero text at = omega arith
+no_more_than (suc k) text at = go (line_of text at) (λ next. no_more_than k text next)
+  where
+    go : (n : Named) → ((next : ℕ) → length (lines_up_to k text next) ≤ k) → length (line_and_more (lines_up_to k text) text n) ≤ suc k
+    go (Some line) more = omega (arith, more line.next)
+    go None more = omega arith

@@ -37,7 +37,7 @@ next_line_one κs a x y ws us p q = (p ∙ sym q, refl)
 pub lines_of_one : (κs : Lfts 1) (a : Dens κs lines-of-kinds.ps) (x y : (res_t lines-of-kinds.r κs).Denot) (ws us : Lasts (ended_of 1 lines-of-kinds.ps lines-of-kinds.r) κs a)
     → lines_of.Post κs a x (at_exit (ended_of 1 lines-of-kinds.ps lines-of-kinds.r) κs a ws) → lines_of.Post κs a y (at_exit (ended_of 1 lines-of-kinds.ps lines-of-kinds.r) κs a us)
     → lines_left x ≡ lines_left y
-lines_of_one κs a x y ws us p q = p ∙ sym q
+lines_of_one κs a x y ws us p q = p.0 ∙ sym q.0
 
 -- .. and so is which one comes next, and which are left then
 pub next_one : (s t u : Lines) (x y : Option (Option (Bor (List ℕ) × Bor (List ℕ)))) → YieldsFirstBy both_now lines_left s x t → YieldsFirstBy both_now lines_left s y u

@@ -137,7 +137,8 @@ impl<'a> Iterator for Lines<'a> {
 
 // All the lines of a text, in their order.
 pub fn lines_of(text: &[u8]) -> Lines<'_>
-    ensures { lines_left result ≡ lines_of text.now }
+    ensures value { lines_left result ≡ lines_of text.now }
+    ensures no_more_than_bytes { length (lines_left result) ≤ length text.now }
 {
     Lines { text, at: 0 }
 }
