@@ -16,9 +16,8 @@ use Rattle.std.specs.Prelude.{Ok, Err}
 use Rattle.judge.specs.Table.{Checked}
 use Rattle.tournament_state.specs.Refusals.{number, pair_verdict_of, PlayablePair}
 use Rattle.tournament_state.proofs.Meaning.{fine_if_playable_pair}
-use Rattle.tournament.specs.declared.Parting.TheVariants.{At as Parting-as-At}
 use Rattle.tournament.specs.Rule.{bit_at}
-use Rattle.tournament.specs.Answers.{parting_bit, part_unless, parting_of, equal_at_top}
+use Rattle.tournament.specs.Answers.{outcome, parting_bit, parting_of, equal_at_top}
 use Rattle.tournament.specs.Answers.{FirstDifference, PartingIsFirst, PartingAnswer, PartingByLeadingZeros}
 use Rattle.tournament.proofs.Bits.{top, top_more, top_fewer, HighestDifference, highest_difference}
 
@@ -84,16 +83,16 @@ pub parting_answer : PartingAnswer
 unfolding parting_of
 parting_answer NB a b d = (to, from)
   where
-    at_bit : (v : Checked) (k : ℕ) → part_unless v k ≡ Parting-as-At d → (v ≡ Ok tt) × (k ≡ d)
+    at_bit : (v : Checked) (k : ℕ) → outcome v k ≡ Ok d → (v ≡ Ok tt) × (k ≡ d)
     at_bit (Ok _) k e = (refl, cc)
     at_bit (Err r) k e = absurd (let z : ◌≡◌ {A = ℕ} 0 1 = cc in omega arith)
 
-    to : parting_of NB a b ≡ Parting-as-At d → PlayablePair NB a b × FirstDifference NB a b d
+    to : parting_of NB a b ≡ Ok d → PlayablePair NB a b × FirstDifference NB a b d
     to e =
         let (v, k) = at_bit (pair_verdict_of NB a b) (parting_bit NB a b) e in
         let s = (fine_if_playable_pair NB a b).0 v in
         (s, (parting_is_first NB a b s.first_fits s.second_fits s.differ d).0 k)
 
-    from : PlayablePair NB a b × FirstDifference NB a b d → parting_of NB a b ≡ Parting-as-At d
+    from : PlayablePair NB a b × FirstDifference NB a b d → parting_of NB a b ≡ Ok d
     from (s, r) =
-        rw ((fine_if_playable_pair NB a b).1 s) (ap Parting-as-At ((parting_is_first NB a b s.first_fits s.second_fits s.differ d).1 r))
+        rw ((fine_if_playable_pair NB a b).1 s) (ap Ok ((parting_is_first NB a b s.first_fits s.second_fits s.differ d).1 r))

@@ -16,7 +16,6 @@ use Rattle.tournament_state.specs.declared.Phase.{Phase, TheVariants.AtBit, TheV
 use Rattle.tournament_state.specs.declared.Tournament.{Tournament}
 use Rattle.tournament_state.specs.Refusals.{PhaseWithin}
 use Rattle.tournament_state.proofs.Meaning.{fine_passed}
-use Rattle.tournament.specs.declared.Outcome.{Outcome}
 use Rattle.tournament.specs.Rule.{lowest_marked, finished_by, winner_of, marks_after, next_at, next, steps}
 use Rattle.tournament.specs.Answers.{judged_of, outcome}
 use Rattle.tournament.specs.private.Ready.{AtABit, Ready}
@@ -75,10 +74,10 @@ pub steps_more : (k : ℕ) (t : Tournament) → steps (k + 1) t ≡ next (steps 
 unfolding steps
 steps_more k t = rw add-one refl
 
--- ---- an outcome from its verdict
-module _ (c : Checked) (before after now : Tournament) where
-  pub outcome_fine : c ≡ Ok tt → now ≡ after → ◌≡◌ {A = Outcome} (record { tournament = now; checked = Ok tt }) (outcome c before after)
+-- ---- an answer from its verdict
+module _ {A : Type 0} {v : Checked} where
+  pub outcome_fine : {after now : A} → v ≡ Ok tt → now ≡ after → Ok now ≡ outcome v after
   outcome_fine e q = rw (e, q) refl
 
-  pub outcome_refused : (r : Refusal) → c ≡ Err r → now ≡ before → ◌≡◌ {A = Outcome} (record { tournament = now; checked = Err r }) (outcome c before after)
-  outcome_refused r e q = rw (e, q) refl
+  pub outcome_refused : (after : A) {r : Refusal} → v ≡ Err r → Err r ≡ outcome v after
+  outcome_refused after e = rw e refl

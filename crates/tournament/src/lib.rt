@@ -2,41 +2,20 @@
 // screen asks besides: whether a carrier is heard, and at which bit two priorities part.
 //
 // Every public function answers for every input, a state that a caller made up too, and its contract determines the
-// whole answer, all 128 places included. A refused call hands the state back as it was. Nothing is assumed.
+// whole answer, all 128 places included. A refused call hands out no state, and its caller's own is as it was. Nothing is assumed.
 // This crate must not know of plans, files or text.
 #![tactic(auto)]
 
-ghost use Rattle.std.specs.Prelude.{◌≡◌, ◌≤◌};
+ghost use Rattle.std.specs.Prelude.{◌≡◌, ◌≤◌, length};
 ghost use Rattle.names.specs.Limits.{contenders as Limits·contenders, bits as Limits·bits};
 ghost use Rattle.tournament.specs.Rule.{bit_at, heard_at, silenced_at, winner_of, begun_of, next as Rule·next};
-ghost use Rattle.tournament.specs.Answers.{judged_of, nobody as Answers·nobody, start_of, step_of, run_of};
+ghost use Rattle.tournament.specs.Answers.{judged_of, start_of, step_of, run_of};
 ghost use Rattle.tournament.specs.Answers.{carrier_of, parting_bit, parting_of};
 ghost use Rattle.tournament.specs.private.Ready.{AtABit, Ready};
 ghost use Rattle.tournament_state.specs.Refusals.{PlayablePair};
 
 use names::{CONTENDERS, Priority, Refusal, Row};
 use tournament_state::{Phase, Tournament, pair_verdict, verdict};
-
-// The state after the call, beside whether it was fine: a refused call changes nothing.
-#[derive(Clone, Copy)]
-pub struct Outcome {
-    pub tournament: Tournament,
-    pub checked: Result<(), Refusal>,
-}
-
-#[derive(Clone, Copy)]
-pub enum Carrier {
-    Heard,
-    NotHeard,
-    Refused(Refusal),
-}
-
-// The bit at which two priorities part, counted from 1 at the top.
-#[derive(Clone, Copy)]
-pub enum Parting {
-    At(u32),
-    Refused(Refusal),
-}
 
 // Bit k of a priority, counted from 1 at the top.
 fn bit(p: Priority, bits: u32, k: u32) -> u32
@@ -54,17 +33,12 @@ fn heard(t: Tournament, k: u32) -> bool
     ensures { result ≡ heard_at t k }
 {
     let bits = t.bits;
-    let count = t.count;
-    for i in 0..count {
-        let p = t.priorities[i];
-        if t.marks[i] {
-            let low = bit(p, bits, k) == 0;
-            if low {
-                return true;
-            }
-        }
-    }
-    false
+    let marks = &t.marks[..t.count];
+    let priorities = &t.priorities[..t.count];
+    marks
+        .iter()
+        .zip(priorities)
+        .any(|(mark, p)| *mark && bit(*p, bits, k) == 0)
 }
 
 // The marks once every contender with a 1 at bit k is marked out.
@@ -73,11 +47,9 @@ fn silenced(t: Tournament, k: u32) -> [bool; CONTENDERS]
     ensures { result ≡ silenced_at t k }
 {
     let bits = t.bits;
-    let count = t.count;
     let mut marks = t.marks;
-    for i in 0..count {
-        let p = t.priorities[i];
-        if bit(p, bits, k) == 1 {
+    for (i, p) in t.priorities[..t.count].iter().enumerate() {
+        if bit(*p, bits, k) == 1 {
             marks[i] = false;
         }
     }
@@ -85,16 +57,13 @@ fn silenced(t: Tournament, k: u32) -> [bool; CONTENDERS]
 }
 
 // The lowest marked row has won.
-fn winner(marks: [bool; CONTENDERS], count: usize) -> Phase
-    requires { count ≤ Limits·contenders }
-    ensures { result ≡ winner_of count marks }
+fn winner(marks: &[bool]) -> Phase
+    ensures { result ≡ winner_of (length marks.now) marks.now }
 {
-    for i in 0..count {
-        if marks[i] {
-            return Phase::Finished(Row(i));
-        }
+    match marks.iter().position(|mark| *mark) {
+        Some(i) => Phase::Finished(Row(i)),
+        None => Phase::NoWinner,
     }
-    Phase::NoWinner
 }
 
 // One bit, or nothing once it is finished.
@@ -102,28 +71,18 @@ fn next(t: Tournament) -> Tournament
     requires { Ready t }
     ensures { result ≡ Rule·next t }
 {
-    let bits = t.bits;
-    let count = t.count;
-    let priorities = t.priorities;
     let phase = t.phase;
     match phase {
         Phase::AtBit(k) => {
             let marks = if heard(t, k) { silenced(t, k) } else { t.marks };
-            let phase = if k == bits {
-                winner(marks, count)
+            let phase = if k == t.bits {
+                winner(&marks[..t.count])
             } else {
                 Phase::AtBit(k + 1)
             };
-            Tournament {
-                bits,
-                count,
-                priorities,
-                marks,
-                phase,
-            }
+            Tournament { marks, phase, ..t }
         }
-        Phase::Finished(_) => t,
-        Phase::NoWinner => t,
+        Phase::Finished(_) | Phase::NoWinner => t,
     }
 }
 
@@ -133,12 +92,9 @@ fn begun(bits: u32, count: usize, priorities: [Priority; CONTENDERS]) -> Tournam
     ensures { result ≡ begun_of bits count priorities }
 {
     let mut placed = [Priority(0); CONTENDERS];
+    placed[..count].copy_from_slice(&priorities[..count]);
     let mut marks = [false; CONTENDERS];
-    for i in 0..count {
-        let p = priorities[i];
-        placed[i] = p;
-        marks[i] = true;
-    }
+    marks[..count].fill(true);
     Tournament {
         bits,
         count,
@@ -148,32 +104,15 @@ fn begun(bits: u32, count: usize, priorities: [Priority; CONTENDERS]) -> Tournam
     }
 }
 
-// What a refused start hands back.
-fn nobody() -> Tournament
-    ensures { result ≡ Answers·nobody }
-{
-    Tournament {
-        bits: 0,
-        count: 0,
-        priorities: [Priority(0); CONTENDERS],
-        marks: [false; CONTENDERS],
-        phase: Phase::NoWinner,
-    }
-}
-
-pub fn start(bits: u32, count: usize, priorities: [Priority; CONTENDERS]) -> Outcome
+pub fn start(
+    bits: u32,
+    count: usize,
+    priorities: [Priority; CONTENDERS],
+) -> Result<Tournament, Refusal>
     ensures { result ≡ start_of bits count priorities }
 {
-    match verdict(bits, count, priorities, Phase::AtBit(1)) {
-        Ok(()) => Outcome {
-            tournament: begun(bits, count, priorities),
-            checked: Ok(()),
-        },
-        Err(no) => Outcome {
-            tournament: nobody(),
-            checked: Err(no),
-        },
-    }
+    verdict(bits, count, priorities, Phase::AtBit(1))?;
+    Ok(begun(bits, count, priorities))
 }
 
 // The verdict on a state, field by field.
@@ -185,62 +124,34 @@ fn judged(t: Tournament) -> Result<(), Refusal>
     verdict(t.bits, t.count, priorities, phase)
 }
 
-pub fn step(t: Tournament) -> Outcome
+pub fn step(t: Tournament) -> Result<Tournament, Refusal>
     ensures { result ≡ step_of t }
 {
-    match judged(t) {
-        Ok(()) => Outcome {
-            tournament: next(t),
-            checked: Ok(()),
-        },
-        Err(no) => Outcome {
-            tournament: t,
-            checked: Err(no),
-        },
-    }
+    judged(t)?;
+    Ok(next(t))
 }
 
 // All steps to the end.
-pub fn run(t: Tournament) -> Outcome
+pub fn run(t: Tournament) -> Result<Tournament, Refusal>
     ensures { result ≡ run_of t }
 {
-    match judged(t) {
-        Ok(()) => {
-            let bits = t.bits;
-            let mut now = t;
-            for _ in 0..bits {
-                now = next(now);
-            }
-            Outcome {
-                tournament: now,
-                checked: Ok(()),
-            }
-        }
-        Err(no) => Outcome {
-            tournament: t,
-            checked: Err(no),
-        },
+    judged(t)?;
+    let mut now = t;
+    for _ in 0..t.bits {
+        now = next(now);
     }
+    Ok(now)
 }
 
 // Whether a carrier is heard at the state's bit; none is once it is finished.
-pub fn listen(t: Tournament) -> Carrier
+pub fn listen(t: Tournament) -> Result<bool, Refusal>
     ensures { result ≡ carrier_of t }
 {
-    if let Err(no) = judged(t) {
-        return Carrier::Refused(no);
-    }
+    judged(t)?;
     let phase = t.phase;
     match phase {
-        Phase::AtBit(k) => {
-            if heard(t, k) {
-                Carrier::Heard
-            } else {
-                Carrier::NotHeard
-            }
-        }
-        Phase::Finished(_) => Carrier::NotHeard,
-        Phase::NoWinner => Carrier::NotHeard,
+        Phase::AtBit(k) => Ok(heard(t, k)),
+        Phase::Finished(_) | Phase::NoWinner => Ok(false),
     }
 }
 
@@ -251,16 +162,14 @@ fn first_difference(bits: u32, a: Priority, b: Priority) -> u32
     ensures { result ≡ parting_bit bits a b }
 {
     let difference = a.0 ^ b.0;
-    let equal = u32::leading_zeros(difference);
+    let equal = difference.leading_zeros();
     equal - (32 - bits) + 1
 }
 
-// At which bit two priorities part, in rows 0 and 1.
-pub fn parting_bit(bits: u32, a: Priority, b: Priority) -> Parting
+// At which bit two priorities part, in rows 0 and 1, counted from 1 at the top.
+pub fn parting_bit(bits: u32, a: Priority, b: Priority) -> Result<u32, Refusal>
     ensures { result ≡ parting_of bits a b }
 {
-    match pair_verdict(bits, a, b) {
-        Ok(()) => Parting::At(first_difference(bits, a, b)),
-        Err(no) => Parting::Refused(no),
-    }
+    pair_verdict(bits, a, b)?;
+    Ok(first_difference(bits, a, b))
 }

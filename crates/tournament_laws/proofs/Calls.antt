@@ -16,7 +16,7 @@ use Rattle.tournament_state.specs.declared.Tournament.{Tournament}
 use Rattle.tournament_state.specs.Refusals.{verdict_of, number_at, PhaseWithin}
 use Rattle.tournament_state.proofs.Meaning.{fine_passed, fine_if_playable}
 use Rattle.tournament.specs.Rule.{begun_of, marks_after, lowest_marked, finished_by, winner_of, next_at, next, steps}
-use Rattle.tournament.specs.Answers.{judged_of, outcome, nobody, start_of, step_of, run_of}
+use Rattle.tournament.specs.Answers.{judged_of, outcome, left, start_of, step_of, run_of}
 use Rattle.tournament.proofs.Readiness.{next_within}
 use Rattle.tournament_laws.specs.Facts.{after, calls, NotRefusedLater, RunIsCalls, RunEnds, StartThenRun}
 use Rattle.tournament_laws.proofs.Start.{start_priority, start_long, kept_next, kept, start_bits, start_count, start_phase}
@@ -36,12 +36,15 @@ not_refused_later t long e =
     (record { fair = s.fair; from = s.from; to = s.to; within = rw (k.bits, k.count) at (next_within t s.within) })
 
 -- ---- a run, by calls
-pub outcome_of : (a : Checked) (before after : Tournament) → a ≡ Ok tt → (outcome a before after).tournament ≡ after
-outcome_of a before after e = rw e refl
+pub outcome_of : {A : Type 0} (a : Checked) (after : A) → a ≡ Ok tt → outcome a after ≡ Ok after
+outcome_of a after e = rw e refl
 
-pub run_is_steps : (t : Tournament) → judged_of t ≡ Ok tt → (run_of t).tournament ≡ steps t.bits t
+pub left_after : (a : Checked) (before after : Tournament) → a ≡ Ok tt → left (outcome a after) before ≡ after
+left_after a before after e = rw e refl
+
+pub run_is_steps : (t : Tournament) → judged_of t ≡ Ok tt → run_of t ≡ Ok (steps t.bits t)
 unfolding run_of
-run_is_steps t e = outcome_of (judged_of t) t (steps t.bits t) e
+run_is_steps t e = outcome_of (judged_of t) (steps t.bits t) e
 
 pub judged_steps : (t : Tournament) → length t.priorities ≡ contenders → judged_of t ≡ Ok tt → (k : ℕ) → judged_of (steps k t) ≡ Ok tt
 unfolding steps
@@ -53,19 +56,19 @@ calls_are_steps : (t : Tournament) → length t.priorities ≡ contenders → ju
 unfolding steps calls step_of
 calls_are_steps t long e zero = refl
 calls_are_steps t long e (suc k) =
-    ap (λ s. (step_of s).tournament) (calls_are_steps t long e k)
-    ∙ outcome_of (judged_of (steps k t)) (steps k t) (next (steps k t)) (judged_steps t long e k)
+    ap (λ s. left (step_of s) s) (calls_are_steps t long e k)
+    ∙ left_after (judged_of (steps k t)) (steps k t) (next (steps k t)) (judged_steps t long e k)
 
 calls_refused : (t : Tournament) (r : Refusal) → judged_of t ≡ Err r → (k : ℕ) → calls k t ≡ t
 unfolding calls step_of
 calls_refused t r e zero = refl
-calls_refused t r e (suc k) = ap (λ s. (step_of s).tournament) (calls_refused t r e k) ∙ ap (λ a. (outcome a t (next t)).tournament) e
+calls_refused t r e (suc k) = ap (λ s. left (step_of s) s) (calls_refused t r e k) ∙ ap (λ a. left (outcome a (next t)) t) e
 
 pub run_is_calls : RunIsCalls
 unfolding run_of
 run_is_calls t long = by_verdict (judged_of t) refl
   where
-    by_verdict : (a : Checked) → judged_of t ≡ a → (outcome a t (steps t.bits t)).tournament ≡ calls t.bits t
+    by_verdict : (a : Checked) → judged_of t ≡ a → left (outcome a (steps t.bits t)) t ≡ calls t.bits t
     by_verdict (Ok _) e = sym (calls_are_steps t long e t.bits)
     by_verdict (Err r) e = sym (calls_refused t r e t.bits)
 
@@ -104,23 +107,21 @@ pub run_ends : RunEnds
 run_ends t e k q =
     let w = (fine_passed t.bits t.count t.priorities t.phase e).within in
     let s = steps t.bits t in
-    let q' : s.phase ≡ AtBit k = ap (λ (s : Tournament). s.phase) (sym (run_is_steps t e)) ∙ q in
+    let q' : s.phase ≡ AtBit k = ap (λ r. (left r t).phase) (sym (run_is_steps t e)) ∙ q in
     let l = past_bit t w t.bits k q' in
     let h : PhaseWithin s.bits s.count (AtBit k) = rw q' at (steps_within t w t.bits) in
     omega (arith, (kept t t.bits).bits)
 
 -- ---- a start and a run
-checked_is : (c : Checked) (before after : Tournament) → (outcome c before after).checked ≡ c
-checked_is (Ok _) before after = refl
-checked_is (Err r) before after = refl
+handed_out : {A : Type 0} (a : Checked) (after now : A) → outcome a after ≡ Ok now → (a ≡ Ok tt) × (now ≡ after)
+handed_out (Ok _) after now e = (refl, sym cc)
+handed_out (Err r) after now e = absurd (let z : ◌≡◌ {A = ℕ} 0 1 = cc in omega arith)
 
 module _ (NB n : ℕ) (places : List Priority) where
   -- a start that is not refused hands out the state that the rule begins with, ..
-  pub start_fine : (start_of NB n places).checked ≡ Ok tt → (verdict_of NB n places (AtBit 1) ≡ Ok tt) × ((start_of NB n places).tournament ≡ begun_of NB n places)
+  pub start_fine : (t : Tournament) → start_of NB n places ≡ Ok t → (verdict_of NB n places (AtBit 1) ≡ Ok tt) × (t ≡ begun_of NB n places)
   unfolding start_of
-  start_fine e =
-      let d = sym (checked_is (verdict_of NB n places (AtBit 1)) nobody (begun_of NB n places)) ∙ e in
-      (d, outcome_of _ nobody (begun_of NB n places) d)
+  start_fine t e = handed_out _ _ t e
 
   -- .. and that state is not refused either
   pub start_judged : length places ≡ contenders → verdict_of NB n places (AtBit 1) ≡ Ok tt → judged_of (begun_of NB n places) ≡ Ok tt
@@ -143,18 +144,10 @@ module _ (NB n : ℕ) (places : List Priority) where
       })
 
 pub start_then_run : StartThenRun
-unfolding run_of
-start_then_run NB n places long e =
-    let (d, started) = start_fine NB n places e in
+start_then_run NB n places long t e =
+    let (d, started) = start_fine NB n places t e in
     let s = (fine_if_playable NB n places (AtBit 1) long).0 d in
-    let t = begun_of NB n places in
-    let judged = start_judged NB n places long d in
-    let ran : (run_of t).tournament ≡ after NB n places NB = run_is_steps t judged ∙ ap (λ b. steps b t) (start_bits NB n places) in
-    let (w, o) = smallest_wins NB n places (record { bits = s.from; long = long; fair = s.fair }) in (
-      w,
-      record {
-        smallest = o.smallest;
-        accepted = ap (λ t. (run_of t).checked) started ∙ checked_is (judged_of t) t (steps t.bits t) ∙ judged;
-        ends = ap (λ t. (run_of t).tournament.phase) started ∙ ap (λ (t : Tournament). t.phase) ran ∙ o.ends;
-      },
-    )
+    let b = begun_of NB n places in
+    let ran : run_of t ≡ Ok (after NB n places NB) = ap run_of started ∙ run_is_steps b (start_judged NB n places long d) ∙ ap (λ k. Ok (steps k b)) (start_bits NB n places) in
+    let (w, o) = smallest_wins NB n places (record { bits = s.from; long = long; fair = s.fair }) in
+    (w, record { smallest = o.smallest; end = after NB n places NB; accepted = ran; ends = o.ends })

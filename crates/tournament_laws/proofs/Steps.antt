@@ -18,7 +18,7 @@ use Rattle.tournament_state.specs.Refusals.{none}
 use Rattle.laws.proofs.Tests.{both}
 use Rattle.tournament_state.proofs.Tests.{and_both}
 use Rattle.tournament.specs.Rule.{bit_at, is_in, has_zero, in_with_zero, heard_at, silenced_at, marks_after, lowest_marked, finished_by, winner_of, next_at, next}
-use Rattle.tournament.specs.Answers.{judged_of, outcome, step_of}
+use Rattle.tournament.specs.Answers.{judged_of, outcome, left, step_of}
 use Rattle.tournament_laws.specs.Facts.{Handled, StepHandlesOneBit, FinishedStays, NoneMarkedNoWinner, LowestMarkedWins}
 use Rattle.tournament_laws.proofs.Places.{laid_front, laid_past}
 
@@ -124,7 +124,7 @@ pub finished_stays : FinishedStays
 unfolding step_of
 finished_stays t f = by_verdict (judged_of t)
   where
-    by_verdict : (a : Checked) → (outcome a t (next t)).tournament ≡ t
+    by_verdict : (a : Checked) → left (outcome a (next t)) t ≡ t
     by_verdict (Ok _) = finished_next t f
     by_verdict (Err r) = refl
 

@@ -8,7 +8,7 @@ use Rattle.tournament_state.specs.declared.Tournament.{Tournament}
 use Rattle.std.specs.Prelude.{Ok}
 use Rattle.tournament_state.specs.Refusals.{none, number_at, Fair}
 use Rattle.tournament.specs.Rule.{bit_at, begun_of, is_in, heard_at, winner_of, next, steps}
-use Rattle.tournament.specs.Answers.{judged_of, parting_bit, start_of, step_of, run_of}
+use Rattle.tournament.specs.Answers.{judged_of, left, parting_bit, start_of, step_of, run_of}
 
 -- ---- from a start with 1 to 128 contenders with distinct priorities that fit
 pub record Start (NB n : ℕ) (places : List Priority) : Type 0 where
@@ -81,7 +81,7 @@ StepHandlesOneBit = (t : Tournament) (k : ℕ) → t.phase ≡ AtBit k → Handl
 
 -- a step of a finished tournament changes nothing
 abbrev pub FinishedStays : Type 0
-FinishedStays = (t : Tournament) → ((k : ℕ) → t.phase ≡ AtBit k → ⊥) → (step_of t).tournament ≡ t
+FinishedStays = (t : Tournament) → ((k : ℕ) → t.phase ≡ AtBit k → ⊥) → left (step_of t) t ≡ t
 
 -- ---- the end of any state, made up or not
 abbrev pub NoneMarkedNoWinner : Type 0
@@ -106,22 +106,23 @@ NotRefusedLater = (t : Tournament) → length t.priorities ≡ contenders → ju
 -- so a run is NB calls of a step, refused or not, ..
 unfoldable pub calls : ℕ → Tournament → Tournament
 calls zero t = t
-calls (suc k) t = (step_of (calls k t)).tournament
+calls (suc k) t = left (step_of (calls k t)) (calls k t)
 
 abbrev pub RunIsCalls : Type 0
-RunIsCalls = (t : Tournament) → length t.priorities ≡ contenders → (run_of t).tournament ≡ calls t.bits t
+RunIsCalls = (t : Tournament) → length t.priorities ≡ contenders → left (run_of t) t ≡ calls t.bits t
 
 -- .. and where it is not refused, it has come to the end
 abbrev pub RunEnds : Type 0
-RunEnds = (t : Tournament) → judged_of t ≡ Ok tt → (k : ℕ) → (run_of t).tournament.phase ≡ AtBit k → ⊥
+RunEnds = (t : Tournament) → judged_of t ≡ Ok tt → (k : ℕ) → (left (run_of t) t).phase ≡ AtBit k → ⊥
 
--- a start that is not refused is won by the smallest priority
-pub record WonByCalls (NB n : ℕ) (places : List Priority) (w : ℕ) : Type 0 where
+-- a start that is not refused, and hands out t, is won by the smallest priority
+pub record WonByCalls (n : ℕ) (places : List Priority) (t : Tournament) (w : ℕ) : Type 0 where
   pub smallest : Smallest n places w
-  pub accepted : (run_of (start_of NB n places).tournament).checked ≡ Ok tt
-  pub ends : (run_of (start_of NB n places).tournament).tournament.phase ≡ Finished (record { 0 = w })
+  pub end : Tournament
+  pub accepted : run_of t ≡ Ok end
+  pub ends : end.phase ≡ Finished (record { 0 = w })
 
 abbrev pub StartThenRun : Type 0
 StartThenRun =
-    (NB n : ℕ) (places : List Priority) → length places ≡ contenders → (start_of NB n places).checked ≡ Ok tt
-    → (w : ℕ) × WonByCalls NB n places w
+    (NB n : ℕ) (places : List Priority) → length places ≡ contenders → (t : Tournament) → start_of NB n places ≡ Ok t
+    → (w : ℕ) × WonByCalls n places t w

@@ -5,13 +5,13 @@
 // must not know how a bit is played.
 #![tactic(auto)]
 
-ghost use Rattle.std.specs.Prelude.{◌≡◌, map, ◌≤◌, take};
+ghost use Rattle.std.specs.Prelude.{◌≡◌, ◌≤◌, take};
 ghost use Rattle.names.specs.Limits.{contenders};
-ghost use Rattle.tournament_state.specs.Refusals.{number, one_to, fits_in, lowest_unfit, phase_inside, lowest_repeat};
+ghost use Rattle.tournament_state.specs.Refusals.{fits_in, lowest_unfit, phase_inside, lowest_repeat};
 ghost use Rattle.tournament_state.specs.Refusals.{verdict_of, pair_verdict_of};
 
 use judge::refused;
-use names::{BITS, CONTENDERS, Priority, Row};
+use names::{BITS, CONTENDERS, Priority, Refusal, Row};
 use repeats::first_repeat;
 
 // At a bit, with its number from 1 on, or finished, with the winner's row or with no winner.
@@ -32,65 +32,35 @@ pub struct Tournament {
     pub phase: Phase,
 }
 
-fn one_to(most: usize, x: usize) -> bool
-    ensures { result ≡ one_to most x }
-{
-    if x < 1 {
-        return false;
-    }
-    x <= most
-}
-
 // Every priority fits in 32 bits.
 fn fits_in(bits: u32, p: Priority) -> bool
     ensures { result ≡ fits_in bits p }
 {
-    if BITS <= bits {
-        return true;
-    }
-    p.0 >> bits == 0
+    BITS <= bits || p.0 >> bits == 0
 }
 
-fn lowest_unfit(bits: u32, priorities: [Priority; CONTENDERS], count: usize) -> Option<Row>
-    requires { count ≤ contenders }
-    ensures { result ≡ lowest_unfit bits (take count priorities) }
+fn lowest_unfit(bits: u32, priorities: &[Priority]) -> Option<Row>
+    ensures { result ≡ lowest_unfit bits priorities.now }
 {
-    for i in 0..count {
-        let p = priorities[i];
-        if !fits_in(bits, p) {
-            return Some(Row(i));
-        }
-    }
-    None
+    priorities.iter().position(|p| !fits_in(bits, *p)).map(Row)
 }
 
 fn phase_inside(bits: u32, count: usize, phase: Phase) -> bool
     ensures { result ≡ phase_inside bits count phase }
 {
     match phase {
-        Phase::AtBit(k) => one_to(bits as usize, k as usize),
+        Phase::AtBit(k) => (1..=bits).contains(&k),
         Phase::Finished(row) => row.0 < count,
         Phase::NoWinner => true,
     }
-}
-
-fn numbers(priorities: [Priority; CONTENDERS]) -> [u32; CONTENDERS]
-    ensures { result ≡ map number priorities }
-{
-    let mut out = [0; CONTENDERS];
-    for i in 0..CONTENDERS {
-        let p = priorities[i];
-        out[i] = p.0;
-    }
-    out
 }
 
 fn lowest_repeat(priorities: [Priority; CONTENDERS], count: usize) -> Option<Row>
     requires { count ≤ contenders }
     ensures { result ≡ lowest_repeat (take count priorities) }
 {
-    let values = numbers(priorities);
-    first_repeat(&values[..count])
+    let numbers = priorities.map(|p| p.0);
+    first_repeat(&numbers[..count])
 }
 
 // The lines of document 01's table in their order, whatever else is wrong.
@@ -102,15 +72,14 @@ pub fn verdict(
 ) -> Result<(), Refusal>
     ensures { result ≡ verdict_of bits count priorities phase }
 {
-    if !one_to(CONTENDERS, count) {
+    if !(1..=CONTENDERS).contains(&count) {
         return refused(7, 0);
     }
-    if !one_to(BITS as usize, bits as usize) {
+    if !(1..=BITS).contains(&bits) {
         return refused(8, 0);
     }
-    match lowest_unfit(bits, priorities, count) {
-        Some(row) => return refused(8, row.0),
-        None => {}
+    if let Some(row) = lowest_unfit(bits, &priorities[..count]) {
+        return refused(8, row.0);
     }
     if !phase_inside(bits, count, phase) {
         return refused(8, 0);

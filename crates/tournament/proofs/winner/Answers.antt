@@ -1,21 +1,27 @@
-use mathlib.Core.Path.{sym, ap}
+use mathlib.Core.Path.{◌≡◌, refl, sym, ap, ◌∙◌}
 use mathlib.Core.Bool.{false}
-use lib.ListN.{get_or}
-use Rattle.laws.proofs.Rows.{found_at, found_none}
-use Rattle.tournament.specs.Rule.{lowest_marked, finished_by, winner_of}
 use borrow.Author.Rules.{rules}
+use borrow.Author.Tests.{tests}
+use lib.ListN.{length, get_or}
+use Rattle.std.specs.Prelude.{position}
+use Rattle.std.proofs.lemmas.Iterator.{YieldsList-from_slice}
+use Rattle.std.proofs.lemmas.Iterator.Search.{position_from_yields_List}
+use Rattle.tournament_state.proofs.Places.{first_row}
+use Rattle.tournament.specs.Rule.{lowest_marked, finished_by, winner_of}
 use Rattle.tournament.proofs.winner.Goals as goal
+use Rattle.tournament.proofs.winner.Goals.{After-position}
 
-pub returns-then-marks-i : goal.returns-then-marks-i
-unfolding winner_of lowest_marked
-returns-then-marks-i c =
-    let l = c.loop-i in
-    let a = c.args in
-    ap finished_by (sym (found_at (λ k. get_or a.marks k false) a.count l.i l.invariant.1 (search rules) c.if-marks-i.true))
+found : (c : After-position) → let ms = c.args.marks.now in c.position.result ≡ lowest_marked (length ms) ms
+unfolding lowest_marked
+found c =
+    let ms = c.args.marks.now in
+    let first : c.position.result ≡ position (λ b. b) ms = position_from_yields_List (λ b. b) _ _ c.position.result c.position.ensures.ran (YieldsList-from_slice ms cc) (λ x b q k. search (rules, tests)) in
+    first ∙ first_row (λ b. b) ms false (λ i. get_or ms i false) (λ i h. refl)
 
-pub returns : goal.returns
-unfolding winner_of lowest_marked
-returns c =
-    let l = c.loop-i in
-    let a = c.args in
-    ap finished_by (sym (found_none (λ k. get_or a.marks k false) a.count l.i l.invariant.1 (search rules)))
+pub returns-in-Some : goal.returns-in-Some
+unfolding winner_of
+returns-in-Some c = sym (ap finished_by (sym (found (goal.at.returns-in-Some c).After-position) ∙ c.in-Some.is))
+
+pub returns-in-None : goal.returns-in-None
+unfolding winner_of
+returns-in-None c = sym (ap finished_by (sym (found (goal.at.returns-in-None c).After-position) ∙ c.in-None.is))
