@@ -6,13 +6,13 @@
 // checks, or of how an answer comes about.
 #![tactic(auto)]
 
-ghost use Rattle.std.specs.Prelude.{◌≡◌, [], ◌∷◌, ◌+◌, min};
+ghost use Rattle.std.specs.Prelude.{List, [], ◌∷◌, ℕ};
 ghost use Rattle.decimal.specs.Decimal.{digits};
 ghost use Rattle.text.specs.Listing as text;
-ghost use Rattle.text.specs.Put.{last_place, Lays, Puts};
+ghost use Rattle.plan.specs.declared.Stream.{Stream as Stream·Stream};
+ghost use Rattle.text.specs.Put.{Lays, Puts, LaysText};
 
 use bound::{Answer, Verdict};
-use laws::smaller;
 use names::{Label, Refusal, Row, STREAMS};
 use plan::{Sheet, Stream};
 use row_words::answer_in;
@@ -20,21 +20,14 @@ use row_words::answer_in;
 // A label is group * 65,536 + number.
 const GROUP: u32 = 65536;
 
-// The next place; the last one has none after it.
-fn place_after(at: usize) -> usize
-    ensures { result ≡ min (at + 1) last_place }
-{
-    if at < usize::MAX { at + 1 } else { at }
-}
-
-// Past the buffer's end nothing is laid, so a text laid there is only measured.
+// Past the buffer's end nothing is laid, so a text laid there is only measured. The last place has none after it.
 fn lay(out: &mut [u8], at: usize, byte: u8) -> usize
     ensures { Lays out.old at (byte ∷ []) result out.new }
 {
     if at < out.len() {
         out[at] = byte;
     }
-    place_after(at)
+    at.saturating_add(1)
 }
 
 // A text from a place on; the answer is the place after it, room or not.
@@ -42,15 +35,13 @@ pub fn lay_text(out: &mut [u8], at: usize, text: &[u8]) -> usize
     ensures { Lays out.old at text.now result out.new }
 {
     let mut next = at;
-    let mut i: usize = 0;
-    while i < text.len() {
-        next = lay(out, next, text[i]);
-        i += 1;
+    for byte in text {
+        next = lay(out, next, *byte);
     }
     next
 }
 
-// A number's digits, laid.
+// A number's digits, laid. Not by `write!`, nor is a label or a refusal: that promises its bytes only where it answers `Ok`, and this cannot fail.
 pub fn lay_number(out: &mut [u8], at: usize, x: u64) -> usize
     ensures { Lays out.old at (digits x) result out.new }
 {
@@ -77,8 +68,7 @@ fn lay_bounded(out: &mut [u8], at: usize, verdict: Verdict, x: u64) -> usize
     ensures { Lays out.old at (text.bounded_text verdict x) result out.new }
 {
     match verdict {
-        Verdict::Met => lay_number(out, at, x),
-        Verdict::Missed => lay_number(out, at, x),
+        Verdict::Met | Verdict::Missed => lay_number(out, at, x),
         Verdict::None => lay(out, at, b'-'),
     }
 }
@@ -112,24 +102,36 @@ fn lay_row(out: &mut [u8], at: usize, stream: Stream, answer: Answer) -> usize
     lay(out, end, b'\n')
 }
 
-fn lay_header(out: &mut [u8], at: usize) -> usize
-    ensures { Lays out.old at text.header result out.new }
+// A line for each stream, as the caller lays the line of a stream and its row.
+pub fn lay_lines<F: Fn(&mut [u8], usize, Stream, Row) -> usize>(
+    out: &mut [u8],
+    at: usize,
+    streams: &[Stream],
+    lay_line: F,
+) -> usize
+    ghost line: { Stream·Stream → ℕ → List ℕ }
+    requires callable { F.IsAlwaysCallable lay_line }
+    requires lays { text.LaysLines F.Fn lay_line line }
+    ensures { Lays out.old at (text.lines_from line 0 streams.now) result out.new }
 {
-    lay_text(out, at, b"label priority bound instance deadline verdict\n")
+    let mut next = at;
+    for (k, stream) in streams.iter().enumerate() {
+        next = lay_line(out, next, *stream, Row(k));
+    }
+    next
 }
 
 fn lay_listing(out: &mut [u8], at: usize, sheet: Sheet, answers: &[u64]) -> usize
     ensures { Lays out.old at (text.listing_in sheet answers.now) result out.new }
 {
-    let n = smaller(sheet.count, STREAMS);
-    let mut next = lay_header(out, at);
-    let mut k: usize = 0;
-    while k < n {
-        let stream = sheet.streams[k];
-        next = lay_row(out, next, stream, answer_in(answers, Row(k)));
-        k += 1;
-    }
-    next
+    let n = sheet.count.min(STREAMS);
+    let at = lay_text(out, at, b"label priority bound instance deadline verdict\n");
+    lay_lines(
+        out,
+        at,
+        &sheet.streams[..n],
+        |out, at, stream, row| lay_row(out, at, stream, answer_in(answers, row)),
+    )
 }
 
 // The line of a refusal, laid.
@@ -143,26 +145,31 @@ pub fn lay_refusal(out: &mut [u8], at: usize, refusal: Refusal) -> usize
     lay(out, at, b'\n')
 }
 
+// A text at the start of the buffer, as the caller lays it: it is laid past the buffer's end first, which only measures it.
+pub fn put<F: Fn(&mut [u8], usize) -> usize>(out: &mut [u8], lay_all: F) -> Option<usize>
+    ghost text: { List ℕ }
+    requires callable { F.IsAlwaysCallable lay_all }
+    requires lays { LaysText F.Fn lay_all text }
+    ensures { Puts out.old 0 text result out.new }
+{
+    let size = out.len();
+    let bytes = lay_all(out, size) - size;
+    if size < bytes {
+        return None;
+    }
+    Some(lay_all(out, 0))
+}
+
 // The listing of a sheet's plan with its rows' answers, which stand in words, at the start of the buffer.
 pub fn listing(sheet: Sheet, answers: &[u64], out: &mut [u8]) -> Option<usize>
     ensures { Puts out.old 0 (text.listing_in sheet answers.now) result out.new }
 {
-    let size = out.len();
-    let listed = lay_listing(out, size, sheet, answers) - size;
-    if size < listed {
-        return None;
-    }
-    Some(lay_listing(out, 0, sheet, answers))
+    put(out, |out, at| lay_listing(out, at, sheet, answers))
 }
 
 // The line of a refusal, at the start of the buffer.
 pub fn refused(refusal: Refusal, out: &mut [u8]) -> Option<usize>
     ensures { Puts out.old 0 (text.refused_of refusal) result out.new }
 {
-    let size = out.len();
-    let bytes = lay_refusal(out, size, refusal) - size;
-    if size < bytes {
-        return None;
-    }
-    Some(lay_refusal(out, 0, refusal))
+    put(out, |out, at| lay_refusal(out, at, refusal))
 }

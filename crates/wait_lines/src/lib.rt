@@ -1,18 +1,17 @@
 // How long the searches of a plan's streams may take, as text, into a lent buffer.
 //
 // The public function answers for every input, and its contract fixes each byte of the buffer: the lines are there whole, or it answers
-// `Full` and leaves the buffer as it was. Nothing is assumed. This crate must not know of files, of checks, or of how a wait comes about.
+// `None` and leaves the buffer as it was. Nothing is assumed. This crate must not know of files, of checks, or of how a wait comes about.
 #![tactic(auto)]
 
 ghost use Rattle.text.specs.Put.{Lays, Puts};
-ghost use Rattle.wait_lines.specs.Lines.{wait_row, wait_header, lines_in};
+ghost use Rattle.wait_lines.specs.Lines.{wait_row, lines_in};
 
 use bound::Wait;
-use laws::smaller;
-use names::{Row, STREAMS};
+use names::STREAMS;
 use plan::{Sheet, Stream};
 use row_words::wait_in;
-use text::{lay_label, lay_number, lay_text};
+use text::{lay_label, lay_lines, lay_number, lay_text, put};
 
 fn lay_wait(out: &mut [u8], at: usize, stream: Stream, wait: Wait) -> usize
     ensures { Lays out.old at (wait_row stream wait) result out.new }
@@ -26,34 +25,22 @@ fn lay_wait(out: &mut [u8], at: usize, stream: Stream, wait: Wait) -> usize
     lay_text(out, at, b"\n")
 }
 
-fn lay_header(out: &mut [u8], at: usize) -> usize
-    ensures { Lays out.old at wait_header result out.new }
-{
-    lay_text(out, at, b"label evaluations limit\n")
-}
-
 fn lay_waits(out: &mut [u8], at: usize, sheet: Sheet, waits: &[u64]) -> usize
     ensures { Lays out.old at (lines_in sheet waits.now) result out.new }
 {
-    let n = smaller(sheet.count, STREAMS);
-    let mut next = lay_header(out, at);
-    let mut k: usize = 0;
-    while k < n {
-        let stream = sheet.streams[k];
-        next = lay_wait(out, next, stream, wait_in(waits, Row(k)));
-        k += 1;
-    }
-    next
+    let n = sheet.count.min(STREAMS);
+    let at = lay_text(out, at, b"label evaluations limit\n");
+    lay_lines(
+        out,
+        at,
+        &sheet.streams[..n],
+        |out, at, stream, row| lay_wait(out, at, stream, wait_in(waits, row)),
+    )
 }
 
 // The lines of a sheet's plan with its rows' waits, which stand in words, at the start of the buffer.
 pub fn waits(sheet: Sheet, waits: &[u64], out: &mut [u8]) -> Option<usize>
     ensures { Puts out.old 0 (lines_in sheet waits.now) result out.new }
 {
-    let size = out.len();
-    let laid = lay_waits(out, size, sheet, waits) - size;
-    if size < laid {
-        return None;
-    }
-    Some(lay_waits(out, 0, sheet, waits))
+    put(out, |out, at| lay_waits(out, at, sheet, waits))
 }

@@ -1,38 +1,17 @@
+-- The header, and then the lines of all streams that there are places for.
 use mathlib.Core.Path.{◌≡◌}
 use Prim.Native.Nat.{min}
 use native.Mathlib.Omega.{arith}
 use lib.ListN.{length}
-use Rattle.names.specs.Limits.{streams}
 use Rattle.row_words.specs.RowWords.{answer_at}
-use Rattle.plan.specs.Plan.{blank}
-use Rattle.text.specs.Listing.{header, row, listed_rows, listing_of}
-use Rattle.text.proofs.Laying.{none}
-use Rattle.text.proofs.Rows.{line_more, lines_all}
+use Rattle.text.specs.Listing.{row, listing_of}
+use Rattle.text.proofs.Laying.{is, then, last}
+use Rattle.text.proofs.Rows.{lines_told}
 use Rattle.text.proofs.lay_listing.Goals as goal
-use Rattle.text.proofs.lay_listing.Goals.{Start}
-
--- how many places a sheet has
-places : (c : Start) → length c.args.sheet.streams ≡ streams
-places c = omega arith
-
-pub loop-k-init : goal.loop-k-init
-unfolding listed_rows
-loop-k-init c = (omega arith, none _ _ (omega arith))
-
-pub loop-k-preserved : goal.loop-k-preserved
-loop-k-preserved c =
-    let at = goal.at.loop-k-preserved c in
-    let l = c.loop-k in (
-      omega arith,
-      line_more row (answer_at c.args.answers.now) c.args.sheet.count l.k c.args.sheet.streams (omega arith) blank _
-          (omega (arith, c.loop-k-test.true, c.smaller-n.ensures)) (omega (arith, places at.Start, c.loop-k-test.true, c.smaller-n.ensures)) c.answer_in.ensures
-          l.invariant.1 c.lay_row-next.ensures,
-    )
 
 pub returns : goal.returns
 unfolding listing_of
 returns c =
-    let at = goal.at.returns c in
-    let ss = c.args.sheet.streams in
-    let k : c.loop-k.k ≡ min c.args.sheet.count (length ss) = omega (arith, c.loop-k.invariant.0, c.loop-k-test.false, c.smaller-n.ensures, places at.Start) in
-    lines_all row (answer_at c.args.answers.now) c.args.sheet.count _ ss (omega arith) header k c.lay_header-next.ensures c.loop-k.invariant.1
+    let a = c.args in
+    let n : c.min-n.result ≡ min a.sheet.count (length a.sheet.streams) = omega arith in
+    then c.lay_text-at.ensures (last (is (lines_told row (answer_at a.answers.now) a.sheet.count c.min-n.result a.sheet.streams n) c.lay_lines.ensures)) (omega arith)

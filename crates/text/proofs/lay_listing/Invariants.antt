@@ -1,14 +1,7 @@
--- The header, and then each turn lays one row's line.
-use Prim.Native.Nat.{◌-◌, ◌≤◌}
-use lib.ListN.{take}
-use Rattle.row_words.specs.RowWords.{answers_in}
-use Rattle.text.specs.Listing.{row, listed_rows}
-use Rattle.text.specs.Put.{Lays}
+-- The line of a stream and its row's answer, from the words as the closure has them.
+use Rattle.row_words.specs.RowWords.{answer_at}
+use Rattle.text.specs.Listing.{row}
 use Rattle.text.proofs.lay_listing.Given as goal
 
-abbrev pub invariant-loop-k : goal.invariant-loop-k
-invariant-loop-k l =
-    (l.k ≤ l.n) × Lays l.initial.out l.initial.next (listed_rows row (take l.k l.sheet.streams) (take l.k (answers_in l.sheet.count l.answers))) l.next l.out
-
-abbrev pub decreases-loop-k : goal.decreases-loop-k
-decreases-loop-k l = l.n - l.k
+abbrev pub ghost-lay_lines : goal.ghost-lay_lines
+ghost-lay_lines a = λ s k. row s (answer_at a.lay_line.0.now k)

@@ -2,10 +2,10 @@ use native.Mathlib.Omega.{arith}
 use Rattle.text.proofs.Laying.{none, more}
 use Rattle.text.proofs.lay_text.Goals as goal
 
-pub loop-i-init : goal.loop-i-init
-loop-i-init c = (omega arith, none _ _ (omega arith))
+pub loop-byte-init : goal.loop-byte-init
+loop-byte-init c = none _ _ (omega arith)
 
-pub loop-i-preserved : goal.loop-i-preserved
-loop-i-preserved c =
-    let l = c.loop-i in
-    (omega arith, more _ l.i c.loop-i-test.true (omega arith) l.invariant.1 c.lay-next.ensures)
+pub loop-byte-preserved : goal.loop-byte-preserved
+loop-byte-preserved c =
+    let l = c.loop-byte in
+    more _ l.byte-index (omega arith) (omega arith) l.invariant c.lay-next.ensures
