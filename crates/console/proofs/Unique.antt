@@ -1,4 +1,4 @@
--- The functions that print return nothing and lend nothing to be changed, so any two outcomes are equal. What `read` gives is the system's to say.
+-- The functions that print return nothing and lend nothing to be changed, so any two outcomes are equal. What `read`, `read_list` and `arg` give is the system's to say.
 -- Assumes nothing.
 use mathlib.Core.Path.{◌≡◌, refl, sym, ◌∙◌}
 use borrow.Fn.Kinds.{Dens, res_t, ended_of}
@@ -19,6 +19,8 @@ use Rattle.console.proofs.print_refusal.Kinds as print-refusal-kinds
 use Rattle.console.proofs.print_refusal.Reads as print-refusal
 use Rattle.console.proofs.print_unreadable.Kinds as print-unreadable-kinds
 use Rattle.console.proofs.print_unreadable.Reads as print-unreadable
+use Rattle.console.proofs.print_wrong_line.Kinds as print-wrong-line-kinds
+use Rattle.console.proofs.print_wrong_line.Reads as print-wrong-line
 use Rattle.console.proofs.first.Kinds as first-kinds
 use Rattle.console.proofs.first.Reads as first
 
@@ -46,3 +48,7 @@ print_refusal_one T laws g d κs a x y ws us p q = (refl, refl)
 pub print_unreadable_one : (T : RattleType) (laws : Laws T) (g : print-bound.Ghosts T.Denot) (d : Dict)
     → OneOutcome 4 (print-unreadable-kinds.ps T laws) (print-unreadable-kinds.r T laws) (print-unreadable.Post T laws g d)
 print_unreadable_one T laws g d κs a x y ws us p q = (refl, refl)
+
+pub print_wrong_line_one : (T : RattleType) (laws : Laws T) (g : print-bound.Ghosts T.Denot) (d : Dict)
+    → OneOutcome 3 (print-wrong-line-kinds.ps T laws) (print-wrong-line-kinds.r T laws) (print-wrong-line.Post T laws g d)
+print_wrong_line_one T laws g d κs a x y ws us p q = (refl, refl)

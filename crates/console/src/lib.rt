@@ -4,13 +4,16 @@
 // std's to say. A write that fails is passed over. This crate knows of the names alone.
 #![tactic(auto)]
 
-ghost use Rattle.std.specs.Prelude.{◌≡◌, ◌≤◌, length, take, IfOk, IsSome, IsUtf8};
+ghost use Rattle.std.specs.Prelude.{◌≡◌, ◌≤◌, length, take, IfOk, IfSome, IsSome, IsUtf8};
 
 use names::Refusal;
 use std::env::FillError;
 use std::io::Read;
 use std::rt::{Env, Files};
 use std::{fs, io};
+
+// The longest list of names, in bytes.
+pub const LIST: usize = 65536;
 
 // Opens the file of this name for reading. A name that is no text (UTF-8) opens nothing.
 pub fn open<R: Files>(rt: &R, name: &[u8]) -> Option<R::File>
@@ -51,6 +54,24 @@ pub fn read<'a>(file: &mut impl Read, buf: &'a mut [u8]) -> io::Result<&'a [u8]>
     Ok(&buf[..done])
 }
 
+// What is read of a list of names, or nothing: then a line says that the list cannot be read or is too long.
+// One byte more than the longest list is read, so that a longer one is known before any of its lines is looked at.
+pub fn read_list<'a>(
+    rt: &impl Print,
+    program: &str,
+    input: &mut impl Read,
+    buf: &'a mut [u8; LIST + 1],
+) -> Option<&'a [u8]>
+    ensures { IfSome result (λ list. length list.now ≤ LIST) }
+{
+    match read(input, buf) {
+        Ok(list) if list.len() <= LIST => return Some(list),
+        Ok(_) => print_too_long(rt, program),
+        Err(_) => print_unreadable(rt, program.as_bytes(), b"standard input"),
+    }
+    None
+}
+
 // The first k bytes, or all if there are fewer.
 pub fn first(bytes: &[u8], k: usize) -> &[u8]
     ensures { result.now ≡ take k bytes.now }
@@ -81,4 +102,15 @@ pub fn print_unreadable(rt: &impl Print, program: &[u8], what: &[u8]) {
     print(rt, b": cannot read ");
     print(rt, what);
     print(rt, b"\n");
+}
+
+fn print_too_long(rt: &impl Print, program: &str) {
+    let _ = println!(rt;
+        "{program}: the list of names is longer than {LIST} bytes, and none was looked at"
+    );
+}
+
+// The line that a program prints of a line that is not two names, by its number.
+pub fn print_wrong_line(rt: &impl Print, program: &str, number: usize) {
+    let _ = println!(rt; "{program}: line {number}: give two names parted by one space");
 }

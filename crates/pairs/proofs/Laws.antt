@@ -1,17 +1,19 @@
 -- Laws of a text up to a byte, and of the parts of a line. Assumes nothing.
-use mathlib.Core.Path.{◌≡◌, refl, sym, ap, ap₂, ◌∙◌}
+use mathlib.Core.Path.{◌≡◌, refl, sym, ap, ◌∙◌}
 use mathlib.Core.Bool.{Bool, true, false, cond, not, ◌&&◌, and-false}
 use mathlib.Core.List.{List, [], ◌∷◌, ◌++◌}
-use Prim.Native.Nat.{ℕ, suc, ◌+◌, ◌-◌, ◌≤◌, ◌<◌, min}
-use native.Mathlib.Numerals.{add-one}
-use native.Mathlib.Omega.{arith, min_cases}
-use borrow.Author.Tests.{lt-ltb, le-ltb, eq-eqb, ne_eqb}
-use lib.Dec.{eqb}
-use lib.ListN.{length, get_or, take, drop, length-drop}
-use lib.Seq.{length-take-le, take_all, take-add, drop_at, drop-cons, drop-drop}
-use Rattle.pairs.specs.declared.Named.TheVariants.{Names, Wrong, Over}
+use Prim.Native.Nat.{ℕ, suc, ◌+◌, ◌≤◌, ◌<◌}
+use native.Mathlib.Omega.{arith}
+use borrow.Author.Tests.{ltb-false, lt-ltb, le-ltb}
+use lib.Dec.{eqb, ltb}
+use lib.ListN.{length, take, drop, length-drop}
+use lib.Seq.{length-take-le, take-add, drop_at, drop-drop}
 use Rattle.ascii.specs.Ascii.{space, newline}
-use Rattle.pairs.specs.Pairs.{before, free, line_from, next_line, first_name, second_name, line_as, line_of}
+use Rattle.std.specs.Prelude.{Some, None}
+use Rattle.std.specs.List.{position, position_or_len}
+use Rattle.std.specs.Option.{unwrap_or}
+use Rattle.std.proofs.lemmas.List.Recursion.{is_position_or_len}
+use Rattle.pairs.specs.Pairs.{Over, names_as, before, free, line_from, next_line, first_name, second_name, line_as, line_of}
 
 pub length_rest : (n : ℕ) (text : List ℕ) → n ≤ length text → n + length (drop n text) ≡ length text
 length_rest n text h = omega (arith, length-drop n text)
@@ -37,18 +39,26 @@ before_start c (x ∷ xs) = go (eqb x c) (before_start c xs)
     go true e = refl
     go false e = ap (λ l. x ∷ l) e
 
--- the text up to a byte stops there, and goes on past any other byte
-module _ (c : ℕ) (text : List ℕ) (i : ℕ) (h : i < length text) where
-  pub stops : get_or text i 0 ≡ c → length (before c (drop i text)) ≡ 0
-  unfolding before
-  stops e = rw (drop-cons text i 0 h) (rw (eq-eqb (get_or text i 0) c e) refl)
+-- the text up to a byte is as long as the place where the byte stands first
+pub before_long : (c : ℕ) (xs : List ℕ) → length (before c xs) ≡ position_or_len (λ x. eqb x c) xs
+unfolding before
+before_long c xs = is_position_or_len (λ l. length (before c l)) (λ x. eqb x c) refl more xs
+  where
+    more : (x : ℕ) (l : List ℕ) → length (before c (x ∷ l)) ≡ cond (eqb x c) 0 (1 + length (before c l))
+    more x l = go (eqb x c)
+      where
+        go : (b : Bool) → length (cond b [] (x ∷ before c l)) ≡ cond b 0 (1 + length (before c l))
+        go true = refl
+        go false = omega arith
 
-  pub goes_on : (get_or text i 0 ≡ c → ⊥) → i + length (before c (drop i text)) ≡ i + 1 + length (before c (drop (i + 1) text))
-  unfolding before
-  goes_on e = rw (add-one, drop-cons text i 0 h) (rw (ne_eqb (get_or text i 0) c e) (omega arith))
-
-pub none_left : (c : ℕ) (text : List ℕ) (i : ℕ) → length text ≤ i → length (before c (drop i text)) ≡ 0
-none_left c text i h = omega (arith, before_short c (drop i text), length-drop i text)
+-- .. or the text's end, where it has none
+pub before_end : (c : ℕ) (xs : List ℕ) → unwrap_or (position (λ x. eqb x c) xs) (length xs) ≡ length (before c xs)
+before_end c xs = go (ltb (position_or_len (λ x. eqb x c) xs) (length xs)) refl (before_long c xs) (before_short c xs)
+  where
+    go : (b : Bool) → ltb (position_or_len (λ x. eqb x c) xs) (length xs) ≡ b → length (before c xs) ≡ position_or_len (λ x. eqb x c) xs → length (before c xs) ≤ length xs
+        → unwrap_or (cond b (Some (position_or_len (λ x. eqb x c) xs)) None) (length xs) ≡ length (before c xs)
+    go true t e h = sym e
+    go false t e h = omega (arith, ltb-false _ _ t)
 
 -- a text up to a byte is all of it exactly if it has no such byte
 pub all_free : (c : ℕ) (xs : List ℕ) → length xs ≤ length (before c xs) → free c xs ≡ true
@@ -70,29 +80,29 @@ not_free c (x ∷ xs) h = go (eqb x c) h (not_free c xs)
     go false h more = more (omega arith)
 
 -- ---- a line, case by case
-module _ (l : List ℕ) (at next : ℕ) where
+module _ (l : List ℕ) (at : ℕ) where
   abbrev k : ℕ
   k = length (first_name l)
 
-  pub no_first : k ≡ 0 → line_as l at next ≡ Wrong next
-  unfolding line_as
+  pub no_first : k ≡ 0 → names_as l at ≡ None
+  unfolding names_as
   no_first h = simp (le-ltb 0 k (omega arith))
 
-  pub no_second : length l ≤ k + 1 → line_as l at next ≡ Wrong next
-  unfolding line_as
+  pub no_second : length l ≤ k + 1 → names_as l at ≡ None
+  unfolding names_as
   no_second h = simp (le-ltb 0 (length (second_name l)) (omega (arith, length-drop (k + 1) l)), and-false)
 
-  pub other_space : length (before space (second_name l)) < length (second_name l) → line_as l at next ≡ Wrong next
-  unfolding line_as
+  pub other_space : length (before space (second_name l)) < length (second_name l) → names_as l at ≡ None
+  unfolding names_as
   other_space h = simp (not_free space (second_name l) h, and-false)
 
   pub two_names_lem : (s e : ℕ) → s ≡ at + k → e ≡ at + length l → 0 < k → k + 1 < length l → length (second_name l) ≤ length (before space (second_name l))
-      → Names (record { from = at; to = s }) (record { from = s + 1; to = e }) next ≡ line_as l at next
-  unfolding line_as
+      → Some (record { from = at; to = s }, record { from = s + 1; to = e }) ≡ names_as l at
+  unfolding names_as
   two_names_lem s e p q f g h =
       let r : e ≡ at + k + 1 + length (second_name l) = omega (arith, length-drop (k + 1) l) in
       let t : s + 1 ≡ at + k + 1 = omega arith in
-      (λ i. Names (record { from = at; to = p i }) (record { from = t i; to = r i }) next)
+      (λ i. Some (record { from = at; to = p i }, record { from = t i; to = r i }))
       ∙ sym (simp (lt-ltb 0 k f, lt-ltb 0 (length (second_name l)) (omega (arith, length-drop (k + 1) l)), all_free space (second_name l) h))
 
 -- what stands after the first space of a line that starts at a place
@@ -113,38 +123,11 @@ module _ (text : List ℕ) (at : ℕ) where
     unfolding line_of
     inside = simp (lt-ltb at (length text) h)
 
-    module _ (end : ℕ) (e : end ≡ at + length (line_from text at)) where
-      -- a line that a newline ends
-      pub ended : end < length text → line_as (drop at (take end text)) at (end + 1) ≡ line_of text at
-      ended g =
-          let l = line_from text at in
-          let cut : take end text ≡ take at text ++ l = ap (λ n. take n text) e ∙ take-add at (length l) text ∙ ap (λ m. take at text ++ m) (before_start newline (drop at text)) in
-          let line : drop at (take end text) ≡ l = ap (drop at) cut ∙ drop_at (take at text) l at (length-take-le at text (omega arith)) in
-          let next : end + 1 ≡ next_line text at = omega arith in
-          ap₂ (λ m n. line_as m at n) line next ∙ sym inside
-
-      -- a last line without one
-      pub last : end ≡ length text → line_as (drop at text) at end ≡ line_of text at
-      last g =
-          let l = line_from text at in
-          let all : length (drop at text) ≤ length l = omega (arith, length-drop at text) in
-          let line : drop at text ≡ l = sym (take_all (length l) (drop at text) all) ∙ before_start newline (drop at text) in
-          let next : end ≡ next_line text at = omega arith in
-          ap₂ (λ m n. line_as m at n) line next ∙ sym inside
-
--- ---- a part of a text that is cut to where the text ends
-module _ (text : List ℕ) (from to t : ℕ) where
-  pub cut_end : t ≡ min to (length text) → take (t - from) (drop from text) ≡ take (to - from) (drop from text)
-  cut_end a =
-      min_cases to (length text) (take (t - from) (drop from text) ≡ take (to - from) (drop from text))
-      (λ h e. ap (λ n. take (n - from) (drop from text)) (a ∙ e))
-      (λ h e. take_all (t - from) _ (omega (arith, length-drop from text)) ∙ sym (take_all (to - from) _ (omega (arith, length-drop from text))))
-
-  pub cut_start : (f : ℕ) → f ≡ min from t → take (t - f) (drop f text) ≡ take (t - from) (drop from text)
-  cut_start f b =
-      min_cases from t (take (t - f) (drop f text) ≡ take (t - from) (drop from text))
-      (λ h e. ap (λ n. take (t - n) (drop n text)) (b ∙ e))
-      (λ h e.
-      let p : t - f ≡ 0 = omega arith in
-      let q : t - from ≡ 0 = omega arith in
-      ap (λ n. take n (drop f text)) p ∙ sym (ap (λ n. take n (drop from text)) q))
+    -- the line up to its end, where the newline or the text's end is
+    pub line_there : (end : ℕ) → end ≡ at + length (line_from text at) → Some (record { names = names_as (drop at (take end text)) at; next = next_line text at }) ≡ line_of text at
+    unfolding line_as
+    line_there end e =
+        let l = line_from text at in
+        let cut : take end text ≡ take at text ++ l = ap (λ n. take n text) e ∙ take-add at (length l) text ∙ ap (λ m. take at text ++ m) (before_start newline (drop at text)) in
+        let line : drop at (take end text) ≡ l = ap (drop at) cut ∙ drop_at (take at text) l at (length-take-le at text (omega arith)) in
+        ap (λ m. Some (record { names = names_as m at; next = next_line text at })) line ∙ sym inside

@@ -1,3 +1,4 @@
 pub mod Laws
 pub mod Unique
 pub mod Meaning
+pub mod Listed

@@ -13,10 +13,10 @@ use lib.Dec.{ltb, eqb}
 use lib.ListN.{length, take, drop, length-append, length-drop, take-append-drop}
 use lib.Seq.{drop-append_seam, drop-append-add, take-append_seam, take_all, drop-drop}
 use Rattle.laws.proofs.Tests.{both}
+use Rattle.std.specs.Prelude.{Option, Some, None}
 use Rattle.pairs.specs.declared.Part.{Part}
-use Rattle.pairs.specs.declared.Named.TheVariants.{Names, Wrong, Over}
 use Rattle.ascii.specs.Ascii.{space, newline}
-use Rattle.pairs.specs.Pairs.{before, free, line_from, next_line, first_name, second_name, two_names, part, name_in, line_as, line_of, Name, ReadsItsNames, ReadsItsLast, Two, OnlyTwoNames, Ordered, InOrder, WrongGoesOn, GoesOn, ends, stops, NothingPassedOver, OverAtTheEnd}
+use Rattle.pairs.specs.Pairs.{Named, Names, Wrong, Over, names_as, before, free, line_from, next_line, first_name, second_name, two_names, part, name_in, line_as, line_of, Name, ReadsItsNames, ReadsItsLast, Two, OnlyTwoNames, Ordered, InOrder, WrongGoesOn, GoesOn, ends, stops, NothingPassedOver, OverAtTheEnd}
 use Rattle.pairs.proofs.Laws.{length_rest, before_short, before_start, two_names_lem, over, inside}
 
 -- ---- a text up to a byte
@@ -95,16 +95,18 @@ module _ (old new : List ℕ) (o : Name old) (n : Name new) where
   one_line = free_both newline old (space ∷ new) o.no_newline n.no_newline
 
   names_read : (at next : ℕ) → line_as two at next ≡ Names (part at old) (part (at + length old + 1) new) next
+  unfolding line_as
   names_read at next =
       let k : length (first_name two) ≡ length old = ap length first_is in
       let m : length (second_name two) ≡ length new = ap length second_is in
       let all : length (before space (second_name two)) ≡ length (second_name two) = ap (λ l. length (before space l)) second_is ∙ ap length (free_all space new n.no_space) ∙ sym m in
       let long : length two ≡ length old + suc (length new) = length-append old (space ∷ new) in
-      sym
-      (two_names_lem two at next (at + length old) (at + length old + 1 + length new) (omega arith) (omega arith)
+      ap (λ m. Some (record { names = m; next = next }))
+      (sym
+      (two_names_lem two at (at + length old) (at + length old + 1 + length new) (omega arith) (omega arith)
       (omega (arith, o.some))
       (omega (arith, n.some))
-      (omega arith))
+      (omega arith)))
 
 -- the line that starts after what is done
 line_after : (done line rest : List ℕ) → before newline (line ++ rest) ≡ line → line_from (done ++ (line ++ rest)) (length done) ≡ line
@@ -165,33 +167,38 @@ pub nothing_passed_over : NothingPassedOver
 nothing_passed_over text at h = (goes_on text at h, before_free newline (drop at text))
 
 -- ---- nothing else is read as two names
+abbrev names_of : Named → Option (Part × Part)
+names_of (Some line) = line.names
+names_of None = None
+
+abbrev pub next_of : Named → ℕ
+next_of (Some line) = line.next
+next_of None = 0
+
 module _ (l : List ℕ) (at next : ℕ) where
-  as_names : (p q : Part) (n : ℕ) → line_as l at next ≡ Names p q n
-      → (two_names l ≡ true) × (part at (first_name l) ≡ p) × (part (at + length (first_name l) + 1) (second_name l) ≡ q) × (next ≡ n)
-  unfolding line_as
-  as_names p q n e = go (two_names l) refl e
+  abbrev old : Part
+  old = part at (first_name l)
+
+  abbrev new : Part
+  new = part (at + length (first_name l) + 1) (second_name l)
+
+  as_names : (p q : Part) (n : ℕ) → line_as l at next ≡ Names p q n → (two_names l ≡ true) × (old ≡ p) × (new ≡ q) × (next ≡ n)
+  unfolding line_as names_as
+  as_names p q n e = go (two_names l) refl (ap names_of e)
     where
-      go : (b : Bool) → two_names l ≡ b
-          → cond b (Names (part at (first_name l)) (part (at + length (first_name l) + 1) (second_name l)) next) (Wrong next) ≡ Names p q n
-          → (two_names l ≡ true) × (part at (first_name l) ≡ p) × (part (at + length (first_name l) + 1) (second_name l) ≡ q) × (next ≡ n)
-      go true d e = (d, cc, cc, cc)
-      go false d e = absurd (let z : ◌≡◌ {A = ℕ} 0 1 = cc in omega arith)
+      go : (b : Bool) → two_names l ≡ b → cond {A = Option (Part × Part)} b (Some (old, new)) None ≡ Some (p, q) → (two_names l ≡ true) × (old ≡ p) × (new ≡ q) × (next ≡ n)
+      go true d f =
+          let pair : ◌≡◌ {A = Part × Part} (old, new) (p, q) = cc in
+          (d, ap (λ x. x.0) pair, ap (λ x. x.1) pair, ap next_of e)
+      go false d f = absurd (let z : ◌≡◌ {A = ℕ} 0 1 = cc in omega arith)
 
   as_wrong : (n : ℕ) → line_as l at next ≡ Wrong n → next ≡ n
   unfolding line_as
-  as_wrong n e = go (two_names l) e
-    where
-      go : (b : Bool) → cond b (Names (part at (first_name l)) (part (at + length (first_name l) + 1) (second_name l)) next) (Wrong next) ≡ Wrong n → next ≡ n
-      go true e = absurd (let z : ◌≡◌ {A = ℕ} 0 1 = cc in omega arith)
-      go false e = cc
+  as_wrong n e = ap next_of e
 
   not_over : line_as l at next ≡ Over → ⊥
   unfolding line_as
-  not_over e = go (two_names l) e
-    where
-      go : (b : Bool) → cond b (Names (part at (first_name l)) (part (at + length (first_name l) + 1) (second_name l)) next) (Wrong next) ≡ Over → ⊥
-      go true e = let z : ◌≡◌ {A = ℕ} 0 1 = cc in omega arith
-      go false e = let z : ◌≡◌ {A = ℕ} 0 1 = cc in omega arith
+  not_over e = let z : ◌≡◌ {A = ℕ} 0 1 = cc in omega arith
 
 pub over_at_the_end : OverAtTheEnd
 over_at_the_end text at = (back, over text at)
@@ -204,7 +211,7 @@ over_at_the_end text at = (back, over text at)
         ]
 
 -- a line that is there starts before the text's end
-not_yet_over : (text : List ℕ) (at : ℕ) → (line_of text at ≡ Over → ⊥) → at < length text
+pub not_yet_over : (text : List ℕ) (at : ℕ) → (line_of text at ≡ Over → ⊥) → at < length text
 not_yet_over text at h =
     elim (dec_le (length text) at) [
       | yes g ↦ absurd (h (over text at g))

@@ -1,8 +1,21 @@
 -- Two names a line, parted by one space; a last line need not end in a newline.
-use Rattle.std.specs.Prelude.{◌≡◌, Bool, true, cond, not, ◌&&◌, List, [], ◌∷◌, ◌++◌, ◌↔◌, ℕ, ◌+◌, ◌-◌, min, ◌≤◌, ◌<◌, ltb, eqb, length, take, drop}
+use Rattle.std.specs.Prelude.{◌≡◌, Bool, true, cond, not, ◌&&◌, Option, Some, None, List, [], ◌∷◌, ◌++◌, ◌↔◌, ℕ, ◌+◌, ◌-◌, min, ◌≤◌, ◌<◌, ltb, eqb, length, take, drop}
 use Rattle.ascii.specs.Ascii.{space, newline}
 use Rattle.pairs.specs.declared.Part.{Part}
-use Rattle.pairs.specs.declared.Named.{Named, TheVariants.Names, TheVariants.Wrong, TheVariants.Over}
+use Rattle.pairs.specs.declared.Line.{Line}
+
+-- what a line is: two names, or not two names, each with the place of the next line; or the text is over
+abbrev pub Named : Type 0
+Named = Option Line
+
+abbrev pub Names : Part → Part → ℕ → Named
+Names old new next = Some (record { names = Some (old, new); next = next })
+
+abbrev pub Wrong : ℕ → Named
+Wrong next = Some (record { names = None; next = next })
+
+abbrev pub Over : Named
+Over = None
 
 -- a text up to the first such byte, or all of it
 unfoldable pub before : ℕ → List ℕ → List ℕ
@@ -41,12 +54,13 @@ part from name = record { from = from; to = from + length name }
 abbrev pub name_in : List ℕ → Part → List ℕ
 name_in text p = take (p.to - p.from) (drop p.from text)
 
+-- where the names stand of a line that starts at a place, if it is two names
+unfoldable pub names_as : List ℕ → ℕ → Option (Part × Part)
+names_as l at = cond (two_names l) (Some (part at (first_name l), part (at + length (first_name l) + 1) (second_name l))) None
+
 -- what a line is that starts at a place and is followed by the next line
 unfoldable pub line_as : List ℕ → ℕ → ℕ → Named
-line_as l at next =
-    cond (two_names l)
-    (Names (part at (first_name l)) (part (at + length (first_name l) + 1) (second_name l)) next)
-    (Wrong next)
+line_as l at next = Some (record { names = names_as l at; next = next })
 
 -- what the line is that starts at a place of a text
 unfoldable pub line_of : List ℕ → ℕ → Named

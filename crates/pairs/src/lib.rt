@@ -5,10 +5,11 @@
 // must not know of files.
 #![tactic(auto)]
 
-ghost use Rattle.std.specs.Prelude.{◌≡◌, ◌+◌, ◌≤◌, length, drop};
-ghost use Rattle.pairs.specs.Pairs.{before, name_in, next_line, line_as, line_of};
-
-use laws::smaller;
+ghost use Rattle.std.specs.Prelude.{◌≡◌, ◌+◌, ◌≤◌, ◌==◌, length, drop};
+ghost use Rattle.std.specs.List.{position};
+ghost use Rattle.std.specs.Iterator.{YieldsFirstBy, item_count};
+ghost use Rattle.pairs.specs.Pairs.{before, name_in, names_as, next_line, line_of};
+ghost use Rattle.pairs.specs.Lines.{both_in, both_now, lines_left, lines_of};
 
 // The bytes of a text from a place up to another.
 #[derive(Clone, Copy)]
@@ -17,83 +18,83 @@ pub struct Part {
     pub to: usize,
 }
 
-// What a line is: two names, or not two names, each with the place where the next line starts; or the text is over.
+// A line's two names, or that it is not two names, and the place where the next line starts.
+// A name is its place, and no slice: what is proved of a line says where its names stand (Ordered, in specs/Pairs.antt).
 #[derive(Clone, Copy)]
-pub enum Named {
-    Names(Part, Part, usize),
-    Wrong(usize),
-    Over,
+pub struct Line {
+    pub names: Option<(Part, Part)>,
+    pub next: usize,
 }
 
-// The place of the first such byte from a place on, or the text's end.
+// The place of the first such byte of a text.
+fn first_of(text: &[u8], byte: u8) -> Option<usize>
+    ensures { result ≡ position (λ x. x == byte) text.now }
+{
+    text.iter().position(|b| *b == byte)
+}
+
+// The place of the first such byte, or the text's end.
+fn first_or_end(text: &[u8], byte: u8) -> usize
+    ensures value { result ≡ length (before byte text.now) }
+    ensures upper_bound { result ≤ length text.now }
+{
+    first_of(text, byte).unwrap_or(text.len())
+}
+
+// The same from a place on.
 fn place_of(text: &[u8], from: usize, byte: u8) -> usize
     requires { from ≤ length text.now }
     ensures value { result ≡ from + length (before byte (drop from text.now)) }
     ensures upper_bound { result ≤ length text.now }
 {
-    let mut i = from;
-    while i < text.len() {
-        if text[i] == byte {
-            return i;
-        }
-        i += 1;
-    }
-    i
+    from + first_or_end(&text[from..], byte)
 }
 
-// What the line is that starts at a place of a text and ends where the text does.
-fn names_in(text: &[u8], at: usize, next: usize) -> Named
+// The names of the line that starts at a place of a text and ends where the text does.
+fn names_in(text: &[u8], at: usize) -> Option<(Part, Part)>
     requires { at ≤ length text.now }
-    ensures { result ≡ line_as (drop at text.now) at next }
+    ensures { result ≡ names_as (drop at text.now) at }
 {
     let end = text.len();
     let space = place_of(text, at, b' ');
-    if space == at {
-        return Named::Wrong(next);
-    }
-    if space == end {
-        return Named::Wrong(next);
-    }
     let second = space + 1;
-    if second == end {
-        return Named::Wrong(next);
+    if space == at || end <= second {
+        return None;
     }
     if place_of(text, second, b' ') < end {
-        return Named::Wrong(next);
+        return None;
     }
-    Named::Names(
-        Part {
-            from: at,
-            to: space,
-        },
-        Part {
-            from: second,
-            to: end,
-        },
-        next,
-    )
+    let old = Part {
+        from: at,
+        to: space,
+    };
+    let new = Part {
+        from: second,
+        to: end,
+    };
+    Some((old, new))
 }
 
-// The line that starts at a place of a text.
-pub fn line_at(text: &[u8], at: usize) -> Named
+// The line that starts at a place of a text, unless the text is over there.
+pub fn line_at(text: &[u8], at: usize) -> Option<Line>
     ensures { result ≡ line_of text.now at }
 {
     if text.len() <= at {
-        return Named::Over;
+        return None;
     }
     let end = place_of(text, at, b'\n');
-    if end < text.len() {
-        return names_in(&text[..end], at, end + 1);
-    }
-    names_in(text, at, end)
+    Some(Line {
+        names: names_in(&text[..end], at),
+        next: next_line(text, at),
+    })
 }
 
 // The bytes of a part of a text, as far as the text goes.
 pub fn name_in(text: &[u8], part: Part) -> &[u8]
     ensures { result.now ≡ name_in text.now part }
 {
-    let to = smaller(part.to, text.len());
-    let from = smaller(part.from, to);
+    let to = part.to.min(text.len());
+    let from = part.from.min(to);
     &text[from..to]
 }
 
@@ -101,12 +102,43 @@ pub fn name_in(text: &[u8], part: Part) -> &[u8]
 pub fn next_line(text: &[u8], at: usize) -> usize
     ensures { result ≡ next_line text.now at }
 {
-    if text.len() <= at {
-        return text.len();
+    let end = place_of(text, at.min(text.len()), b'\n');
+    (end + 1).min(text.len())
+}
+
+// The lines of a text that are left: each one's two names, or that it is not two names.
+#[derive(Drop)]
+pub struct Lines<'a> {
+    text: &'a [u8],
+    at: usize,
+}
+
+// The names that stand at two places of a text.
+fn names_at(text: &[u8], names: Option<(Part, Part)>) -> Option<(&[u8], &[u8])>
+    ensures { both_now result ≡ both_in text.now names }
+{
+    let (old, new) = names?;
+    Some((name_in(text, old), name_in(text, new)))
+}
+
+impl<'a> Iterator for Lines<'a> {
+    type Item = Option<(&'a [u8], &'a [u8])>;
+
+    ghost next_gives = { YieldsFirstBy both_now lines_left };
+
+    ghost remaining = { item_count lines_left };
+
+    fn next(&mut self) -> Option<Option<(&'a [u8], &'a [u8])>> {
+        let line = line_at(self.text, self.at)?;
+        self.at = line.next;
+        Some(names_at(self.text, line.names))
     }
-    let end = place_of(text, at, b'\n');
-    if end < text.len() {
-        return end + 1;
-    }
-    end
+}
+
+// All the lines of a text, in their order.
+pub fn lines_of(text: &[u8]) -> Lines<'_>
+    ensures value { lines_left result ≡ lines_of text.now }
+    ensures no_more_than_bytes { length (lines_left result) ≤ length text.now }
+{
+    Lines { text, at: 0 }
 }

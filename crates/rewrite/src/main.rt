@@ -1,32 +1,14 @@
 // Reads a plan file from standard input and writes the plan in it to standard output, as a file of edition 3, or the one line of its refusal.
 //
-// A thin program: the crate desk fixes each byte that is printed. What comes out is byte for byte what went in, if that has
-// edition 3 (SameFile, in desk's claims), means the same if it is older (SameMeaning), or is a line of 43 bytes at most, which is never taken
-// for a plan file, since that has 44 at least (LineIsNoPlan).
-// A file longer than the buffer is longer than any plan file, and so is the part of it that is shown to the desk.
+// A thin program: the crate desk fixes each byte that is printed, and showing how a file is read. What comes out is byte for byte what went in, if
+// that has edition 3 (SameFile, in desk's claims), means the same if it is older (SameMeaning), or is a line of 43 bytes at most, which is never
+// taken for a plan file, since that has 44 at least (LineIsNoPlan).
+// The buffer holds every plan file (FileFits, in desk's claims) and every refusal (LargestRefusal, in text's).
 #![tactic(auto)]
 
-ghost use Rattle.std.specs.Prelude.{◌<◌, length};
-ghost use Rattle.carried.specs.Layout.{largest_file};
-
-use console::{Input, first, print_first, print_unreadable, read};
-
-// Of the n bytes that were read. The buffer has room for more than the largest file, so that no part of a file passes for all of it.
-fn show(rt: &impl Print, file: &[u8], n: usize)
-    requires { largest_file < length file.now }
-{
-    let mut out = desk::file_buffer();
-    match desk::show_file(first(file, n), &mut out) {
-        Some(k) => print_first(rt, &out, k),
-        // It holds every plan file (FileFits, in desk's claims) and every refusal (LargestRefusal, in text's).
-        None => {}
-    }
-}
+use showing::show_input;
 
 fn main(rt: HostRuntime) {
-    let mut file = desk::file_buffer();
-    match read(&mut rt.stdin(), &mut file) {
-        Input::Bytes(n) => show(&rt, &file, n),
-        Input::Failed => print_unreadable(&rt, b"rewrite", b"standard input"),
-    }
+    let mut out = desk::file_buffer();
+    show_input(&rt, b"rewrite", &mut rt.stdin(), &mut out, desk::show_file);
 }

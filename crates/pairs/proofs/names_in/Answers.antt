@@ -8,7 +8,7 @@ use Rattle.ascii.specs.Ascii.{space}
 use Rattle.pairs.specs.Pairs.{before, second_name}
 use Rattle.pairs.proofs.Laws.{length_rest, no_first, no_second, other_space, two_names_lem, after_space}
 use Rattle.pairs.proofs.names_in.Goals as goal
-use Rattle.pairs.proofs.names_in.Goals.{After-place_of-space}
+use Rattle.pairs.proofs.names_in.Goals.{After-place_of-space, then-space-at-via-then-space-at, then-space-at-via-else-space-at+then-end-second}
 
 -- what the code has once the first space is looked for: the line, and that its names are parted there
 abbrev line_at : After-place_of-space → List ℕ
@@ -33,19 +33,11 @@ pub returns-then-space-at : goal.returns-then-space-at
 returns-then-space-at c =
     let at = goal.at.returns-then-space-at c in
     let a = c.args in
-    sym (no_first (line_at at.After-place_of-space) a.at a.next (omega (arith, c.place_of-space.ensures.value)))
-
-pub returns-then-space-end : goal.returns-then-space-end
-returns-then-space-end c =
-    let at = goal.at.returns-then-space-end c in
-    let a = c.args in
-    sym (no_second (line_at at.After-place_of-space) a.at a.next (omega (arith, long at.After-place_of-space, c.place_of-space.ensures.value)))
-
-pub returns-then-second-end : goal.returns-then-second-end
-returns-then-second-end c =
-    let at = goal.at.returns-then-second-end c in
-    let a = c.args in
-    sym (no_second (line_at at.After-place_of-space) a.at a.next (omega (arith, long at.After-place_of-space, c.place_of-space.ensures.value)))
+    let l = line_at at.After-place_of-space in
+    elim c.then-space-at.branch [
+      | then-space-at-via-then-space-at w ↦ sym (no_first l a.at (omega (arith, c.place_of-space.ensures.value, w.if-space-at)))
+      | then-space-at-via-else-space-at+then-end-second w ↦ sym (no_second l a.at (omega (arith, long at.After-place_of-space, c.place_of-space.ensures.value, w.if-end-second)))
+    ]
 
 pub returns-then-place_of-end : goal.returns-then-place_of-end
 returns-then-place_of-end c =
@@ -53,11 +45,11 @@ returns-then-place_of-end c =
     let a = c.args in
     let short : length (before space (second_name (line_at at.After-place_of-space))) < length (second_name (line_at at.After-place_of-space)) =
     omega (arith, second at.After-place_of-space _ c.place_of.ensures.value, second_long at.After-place_of-space (omega arith)) in
-    sym (other_space (line_at at.After-place_of-space) a.at a.next short)
+    sym (other_space (line_at at.After-place_of-space) a.at short)
 
 pub returns : goal.returns
 returns c =
     let at = goal.at.returns c in
     let a = c.args in
-    two_names_lem (line_at at.After-place_of-space) a.at a.next c.place_of-space.result (length a.text.now) c.place_of-space.ensures.value (long at.After-place_of-space) (omega arith) (omega (arith, long at.After-place_of-space))
+    two_names_lem (line_at at.After-place_of-space) a.at c.place_of-space.result (length a.text.now) c.place_of-space.ensures.value (long at.After-place_of-space) (omega arith) (omega (arith, long at.After-place_of-space))
     (omega (arith, second at.After-place_of-space _ c.place_of.ensures.value, second_long at.After-place_of-space (omega arith)))
