@@ -6,58 +6,48 @@
 // differs is printed, and the last line counts. This program must not know of plans.
 #![tactic(auto)]
 
-mod list;
-
-use console::{Input, first, open, print, print_number, print_unreadable, read};
-use std::io::Read;
+use console::{LIST, first, open, print, print_unreadable, print_wrong_line, read, read_list};
+use pairs::lines_of;
 use std::rt::Files;
 
-// The longest list of cases, in bytes.
-const LIST: usize = 65536;
+// The name of a file that cannot be opened or read.
+#[derive(Clone, Copy)]
+struct Unreadable<'a>(&'a [u8]);
 
-// Whether the first k bytes are the expected ones.
-fn first_are(shown: &[u8], k: usize, expected: &[u8]) -> bool {
-    first(shown, k) == expected
+// Whether what is shown of a file, in a buffer that is large enough, is what it must be.
+fn shown_is<F: Fn(&[u8], &mut [u8]) -> Option<usize>>(
+    show: F,
+    out: &mut [u8],
+    file: &[u8],
+    must: &[u8],
+) -> bool
+    requires { F.IsAlwaysCallable show }
+{
+    match show(file, out) {
+        Some(k) => first(out, k) == must,
+        None => false,
+    }
 }
 
 fn listing_is(file: &[u8], must: &[u8]) -> bool {
-    let mut out = desk::listing_buffer();
-    match desk::show(file, &mut out) {
-        Some(k) => first_are(&out, k, must),
-        None => false,
-    }
+    shown_is(desk::show, &mut desk::listing_buffer(), file, must)
 }
 
 fn waits_are(file: &[u8], must: &[u8]) -> bool {
-    let mut out = desk::listing_buffer();
-    match desk::show_waits(file, &mut out) {
-        Some(k) => first_are(&out, k, must),
-        None => false,
-    }
+    shown_is(desk::show_waits, &mut desk::listing_buffer(), file, must)
 }
 
 fn refusal_is(file: &[u8], must: &[u8]) -> bool {
-    let mut out = desk::file_buffer();
-    match desk::show_refusal(file, &mut out) {
-        Some(k) => first_are(&out, k, must),
-        None => false,
-    }
+    shown_is(desk::show_refusal, &mut desk::file_buffer(), file, must)
 }
 
 fn file_is(file: &[u8], must: &[u8]) -> bool {
-    let mut out = desk::file_buffer();
-    match desk::show_file(file, &mut out) {
-        Some(k) => first_are(&out, k, must),
-        None => false,
-    }
+    shown_is(desk::show_file, &mut desk::file_buffer(), file, must)
 }
 
 // Whether a file begins as one of edition 3 does, and its LAG, from byte 72 on, is 0.
 fn is_newest(file: &[u8]) -> bool {
-    if file.len() < 76 {
-        return false;
-    }
-    first_are(file, 4, b"\x03\x00\x00\x00") & first_are(&file[72..76], 4, b"\x00\x00\x00\x00")
+    file.starts_with(b"\x03\x00\x00\x00") && file.get(72..76) == Some(b"\x00\x00\x00\x00")
 }
 
 // Whether a file that was written again is the file itself, if that is of the newest form, or else is of that form, means the same and is
@@ -66,11 +56,7 @@ fn again_is(file: &[u8], again: &[u8], must: &[u8]) -> bool {
     if is_newest(file) {
         return again == file;
     }
-    if !is_newest(again) {
-        return false;
-    }
-    let listing = listing_is(again, must);
-    file_is(again, again) & listing
+    is_newest(again) && listing_is(again, must) && file_is(again, again)
 }
 
 fn file_again(file: &[u8], must: &[u8]) -> bool {
@@ -82,10 +68,9 @@ fn file_again(file: &[u8], must: &[u8]) -> bool {
 }
 
 // Prints what differs, and answers whether nothing does.
-fn same(rt: &impl Print, holds: bool, what: &[u8], name: &[u8]) -> bool {
+fn same(rt: &impl Print, holds: bool, what: &str, name: &[u8]) -> bool {
     if !holds {
-        print(rt, what);
-        print(rt, b" differs: ");
+        let _ = print!(rt; "{what} differs: ");
         print(rt, name);
         print(rt, b"\n");
     }
@@ -94,86 +79,77 @@ fn same(rt: &impl Print, holds: bool, what: &[u8], name: &[u8]) -> bool {
 
 // What is shown of a plan beside its listing: of a refused one its line, and else that it is fine, and the file.
 fn beside(rt: &impl Print, name: &[u8], file: &[u8], must: &[u8]) -> bool {
-    if first_are(must, 8, b"refused ") {
-        let refusal = same(rt, refusal_is(file, must), b"refusal", name);
-        let waits = same(rt, waits_are(file, must), b"waits", name);
-        return same(rt, file_is(file, must), b"file", name) & refusal & waits;
+    if must.starts_with(b"refused ") {
+        let refusal = same(rt, refusal_is(file, must), "refusal", name);
+        let waits = same(rt, waits_are(file, must), "waits", name);
+        return same(rt, file_is(file, must), "file", name) & refusal & waits;
     }
-    let refusal = same(rt, refusal_is(file, b"fine\n"), b"refusal", name);
-    same(rt, file_again(file, must), b"file", name) & refusal
+    let refusal = same(rt, refusal_is(file, b"fine\n"), "refusal", name);
+    same(rt, file_again(file, must), "file", name) & refusal
 }
 
 fn compared(rt: &impl Print, name: &[u8], file: &[u8], must: &[u8]) -> bool {
-    if first_are(must, 18, b"label evaluations ") {
-        return same(rt, waits_are(file, must), b"waits", name);
+    if must.starts_with(b"label evaluations ") {
+        return same(rt, waits_are(file, must), "waits", name);
     }
-    let listing = same(rt, listing_is(file, must), b"listing", name);
+    let listing = same(rt, listing_is(file, must), "listing", name);
     beside(rt, name, file, must) & listing
 }
 
-fn unreadable(rt: &impl Print, name: &[u8]) -> bool {
-    print_unreadable(rt, b"cases", name);
-    false
-}
-
-fn read_expected(
-    rt: &impl Print,
-    name: &[u8],
-    file: &[u8],
-    out: &[u8],
-    expected: &mut impl Read,
-) -> bool {
-    let mut must = desk::listing_buffer();
-    match read(expected, &mut must) {
-        Input::Bytes(m) => compared(rt, name, file, first(&must, m)),
-        Input::Failed => unreadable(rt, out),
-    }
-}
-
-fn read_plan(
-    rt: &impl Print,
-    name: &[u8],
-    plan: &mut impl Read,
-    out: &[u8],
-    expected: &mut impl Read,
-) -> bool {
+// Both files are opened before either is read, and the first that fails is the one that is told.
+fn compared_files<'a>(
+    rt: &(impl Print + Files),
+    name: &'a [u8],
+    out: &'a [u8],
+) -> Result<bool, Unreadable<'a>> {
+    let mut plan = open(rt, name).ok_or(Unreadable(name))?;
+    let mut expected = open(rt, out).ok_or(Unreadable(out))?;
     let mut file = desk::file_buffer();
-    match read(plan, &mut file) {
-        Input::Bytes(n) => read_expected(rt, name, first(&file, n), out, expected),
-        Input::Failed => unreadable(rt, name),
-    }
+    let file = read(&mut plan, &mut file).map_err(|_| Unreadable(name))?;
+    let mut must = desk::listing_buffer();
+    let must = read(&mut expected, &mut must).map_err(|_| Unreadable(out))?;
+    Ok(compared(rt, name, file, must))
 }
 
 // Whether the case of these two files holds.
-pub(crate) fn files(rt: &(impl Print + Files), name: &[u8], out: &[u8]) -> bool {
-    let Some(mut plan) = open(rt, name) else {
-        return unreadable(rt, name);
-    };
-    let Some(mut expected) = open(rt, out) else {
-        return unreadable(rt, out);
-    };
-    read_plan(rt, name, &mut plan, out, &mut expected)
-}
-
-fn listed(rt: &(impl Print + Files), text: &[u8]) {
-    if LIST < text.len() {
-        return print(
-            rt,
-            b"cases: the list of names is longer than 65536 bytes, and none was looked at\n",
-        );
+fn files(rt: &(impl Print + Files), name: &[u8], out: &[u8]) -> bool {
+    match compared_files(rt, name, out) {
+        Ok(holds) => holds,
+        Err(Unreadable(name)) => {
+            print_unreadable(rt, b"cases", name);
+            false
+        }
     }
-    let t = list::all(rt, text);
-    print_number(rt, t.same);
-    print(rt, b" the same, ");
-    print_number(rt, t.different);
-    print(rt, b" different\n");
 }
 
-// One byte more than the longest list is read, so that a longer one is known before any of its cases is looked at.
+// Whether the case of a line holds; a line that is not two names is known by its number.
+fn line(rt: &(impl Print + Files), number: usize, names: Option<(&[u8], &[u8])>) -> bool {
+    match names {
+        Some((plan, out)) => files(rt, plan, out),
+        None => {
+            print_wrong_line(rt, "cases", number);
+            false
+        }
+    }
+}
+
+// How many cases are the same, and how many are not.
+fn listed(rt: &(impl Print + Files), list: &[u8]) {
+    let mut same: usize = 0;
+    let mut different: usize = 0;
+    for names in lines_of(list) {
+        if line(rt, same + different + 1, names) {
+            same += 1;
+        } else {
+            different += 1;
+        }
+    }
+    let _ = println!(rt; "{same} the same, {different} different");
+}
+
 fn main(rt: HostRuntime) {
-    let mut text = [0u8; LIST + 1];
-    match read(&mut rt.stdin(), &mut text) {
-        Input::Bytes(n) => listed(&rt, first(&text, n)),
-        Input::Failed => print_unreadable(&rt, b"cases", b"standard input"),
+    let mut list = [0u8; LIST + 1];
+    if let Some(list) = read_list(&rt, "cases", &mut rt.stdin(), &mut list) {
+        listed(&rt, list);
     }
 }
