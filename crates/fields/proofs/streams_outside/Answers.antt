@@ -14,7 +14,7 @@ use Rattle.fields.specs.declared.Band.{Band}
 use Rattle.fields.specs.private.Bands.{fields_of}
 use Rattle.fields.proofs.Lowest.{stream_here, stream_not_here, streams_done}
 use Rattle.fields.proofs.streams_outside.Goals as goal
-use Rattle.fields.proofs.streams_outside.Goals.{After-records-record-items}
+use Rattle.carried.proofs.Pieces.{length_records}
 
 abbrev bands : ℕ → List Band
 bands top =
@@ -38,35 +38,31 @@ module _ (words : List ℕ) (n m nb r : ℕ) {top : ℕ} {records : List (List �
       ap (λ rs. get_or rs r []) f ∙ rows_at m (λ k. take layout.stream_length (drop (layout.stream_at k) words)) [] r (omega arith) in
       rw (piece, e, stream, ← seven_back words at (omega arith)) refl
 
--- there are as many records as streams
-many : (c : After-records-record-items) → length c.records-record-items.result.now ≡ c.args.n
-many c = ap length c.records-record-items.ensures ∙ length_rows (min c.args.n streams) _ ∙ omega (arith, c.requires.n_le_streams)
-
 pub words_outside-requires-clause-words_bound : goal.words_outside-requires-clause-words_bound
 words_outside-requires-clause-words_bound c =
-    omega (arith, many (goal.at.words_outside-requires-clause-words_bound c).After-records-record-items, c.loop-r-test.true, c.requires.n_le_streams)
+    omega (arith, length_records c.args.n c.args.words.now c.records-record-items.ensures, c.loop-r-test.true, c.requires.n_le_streams)
 
 pub returns-in-Some : goal.returns-in-Some
 returns-in-Some c =
     let a = c.args in
     let ws = a.words.now in
     let r = c.loop-r.r in
-    let n = many (goal.at.returns-in-Some c).After-records-record-items in
-    sym (stream_here a.nb (streams_in a.n ws) r blank (omega (arith, n, length_rows a.n (λ k. stream_in ws (layout.stream_at k)))) c.loop-r.invariant _
-    (sym (stream_found ws a.n (min a.n streams) a.nb r (omega (arith, c.requires.n_le_streams)) (omega (arith, n)) (omega (arith, n)) c.largest_priority.ensures c.records-record-items.ensures) ∙ sym c.in-Some.ensures))
+    let n = length_records c.args.n c.args.words.now c.records-record-items.ensures in
+    sym (stream_here a.nb (streams_in a.n ws) r blank (omega (arith, n, c.requires.n_le_streams, length_rows a.n (λ k. stream_in ws (layout.stream_at k)))) c.loop-r.invariant _
+    (sym (stream_found ws a.n (min a.n streams) a.nb r (omega (arith, c.requires.n_le_streams)) (omega (arith, n, c.requires.n_le_streams)) (omega (arith, n, c.requires.n_le_streams)) c.largest_priority.ensures c.records-record-items.ensures) ∙ sym c.in-Some.ensures))
 
 pub loop-r-preserved : goal.loop-r-preserved
 loop-r-preserved c =
     let a = c.args in
     let ws = a.words.now in
     let r = c.loop-r.r in
-    let n = many (goal.at.loop-r-preserved c).After-records-record-items in
-    stream_not_here a.nb (streams_in a.n ws) r blank (omega (arith, n, length_rows a.n (λ k. stream_in ws (layout.stream_at k)))) c.loop-r.invariant
-    (sym (stream_found ws a.n (min a.n streams) a.nb r (omega (arith, c.requires.n_le_streams)) (omega (arith, n)) (omega (arith, n)) c.largest_priority.ensures c.records-record-items.ensures) ∙ sym c.in_default.ensures)
+    let n = length_records c.args.n c.args.words.now c.records-record-items.ensures in
+    stream_not_here a.nb (streams_in a.n ws) r blank (omega (arith, n, c.requires.n_le_streams, length_rows a.n (λ k. stream_in ws (layout.stream_at k)))) c.loop-r.invariant
+    (sym (stream_found ws a.n (min a.n streams) a.nb r (omega (arith, c.requires.n_le_streams)) (omega (arith, n, c.requires.n_le_streams)) (omega (arith, n, c.requires.n_le_streams)) c.largest_priority.ensures c.records-record-items.ensures) ∙ sym c.in_default.ensures)
 
 pub returns : goal.returns
 returns c =
     let a = c.args in
     let ws = a.words.now in
-    let n = many (goal.at.returns c).After-records-record-items in
-    sym (c.loop-r.invariant ∙ streams_done a.nb (streams_in a.n ws) (layout.stream_at c.loop-r.r) c.loop-r.r (omega (arith, n, length_rows a.n (λ k. stream_in ws (layout.stream_at k)))))
+    let n = length_records c.args.n c.args.words.now c.records-record-items.ensures in
+    sym (c.loop-r.invariant ∙ streams_done a.nb (streams_in a.n ws) (layout.stream_at c.loop-r.r) c.loop-r.r (omega (arith, n, c.requires.n_le_streams, length_rows a.n (λ k. stream_in ws (layout.stream_at k)))))
