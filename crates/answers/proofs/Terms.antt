@@ -17,12 +17,9 @@ use Rattle.bound.specs.Terms as bound
 use Rattle.bound.specs.Bound.{demand}
 use Rattle.bound.specs.Evaluations.{searched}
 use Rattle.bound.specs.Claims.{Sound}
-use Rattle.bound.specs.declared.Searched.{Searched}
 use Rattle.bound.proofs.Same.{instead, same_searched}
 use Rattle.terms.specs.declared.Gathered.{Gathered}
-use Rattle.analysis.specs.declared.Answered.{Answered, TheVariants.Outside, TheVariants.Exact}
 use Rattle.terms.specs.Gathered.{Lent, lent, terms_of, share_at, cost, share_fits, source_fits, row_fits, fits}
-use Rattle.analysis.specs.Answered.{answered}
 use Rattle.plan.specs.declared.Timing.{Timing}
 use Rattle.plan.specs.declared.Stream.{Stream}
 use Rattle.plan.specs.Plan.{Plan}
@@ -282,13 +279,3 @@ module _ (ws : List ℕ) (n m : ℕ) (over : Overheads) (fine : PlacesWithin ws 
             fits = terms_fit;
             same = λ D. ap (λ r. searched r D) terms_but ∙ same_searched (rule.terms p i) (terms_of given).urgent same_urgent D;
           }
-
--- ---- the analysis' answer to such terms is the rules' answer
-pub answered_is : (t : Lent) (D : ℕ) → fits t ≡ true → answered t D ≡ Exact (searched (terms_of t) D)
-answered_is t D f = simp f
-
-pub row_is : (r : Answered) (a b : Searched) → r ≡ Exact a → r ≡ Exact b → a ≡ b
-row_is r a b p q = cc
-
-pub never_outside : (r : Answered) (a : Searched) → r ≡ Outside → r ≡ Exact a → ⊥
-never_outside r a p q = let z : ◌≡◌ {A = ℕ} 0 1 = cc in omega arith
