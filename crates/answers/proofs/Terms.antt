@@ -8,6 +8,7 @@ use native.Mathlib.Omega.{arith}
 use borrow.Author.Tests.{le-leb, lt-ltb, ltb-true, eq-eqb}
 use lib.Dec.{ltb}
 use lib.ListN.{length, get_or}
+use Rattle.std.specs.Prelude.{Option, Some, None}
 use Rattle.names.specs.Limits.{streams, sources, ticks}
 use Rattle.laws.specs.Lists.{ceil, sum_to, largest_of, those, rows}
 use Rattle.laws.specs.Ranks.{rank}
@@ -17,9 +18,11 @@ use Rattle.bound.specs.Terms as bound
 use Rattle.bound.specs.Bound.{demand}
 use Rattle.bound.specs.Evaluations.{searched}
 use Rattle.bound.specs.Claims.{Sound}
+use Rattle.bound.specs.declared.Searched.{Searched}
 use Rattle.bound.proofs.Same.{instead, same_searched}
 use Rattle.terms.specs.declared.Gathered.{Gathered}
 use Rattle.terms.specs.Gathered.{Lent, lent, terms_of, share_at, cost, share_fits, source_fits, row_fits, fits}
+use Rattle.analysis.specs.Answered.{answered}
 use Rattle.plan.specs.declared.Timing.{Timing}
 use Rattle.plan.specs.declared.Stream.{Stream}
 use Rattle.plan.specs.Plan.{Plan}
@@ -279,3 +282,10 @@ module _ (ws : List ℕ) (n m : ℕ) (over : Overheads) (fine : PlacesWithin ws 
             fits = terms_fit;
             same = λ D. ap (λ r. searched r D) terms_but ∙ same_searched (rule.terms p i) (terms_of given).urgent same_urgent D;
           }
+
+-- ---- the analysis' answer to such terms is the rules' answer
+pub answered_is : (t : Lent) (D : ℕ) → fits t ≡ true → answered t D ≡ Some (searched (terms_of t) D)
+answered_is t D f = simp f
+
+pub never_outside : (r : Option Searched) (a : Searched) → r ≡ None → r ≡ Some a → ⊥
+never_outside r a p q = cc
