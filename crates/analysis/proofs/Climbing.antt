@@ -2,7 +2,7 @@
 use mathlib.Core.Path.{◌≡◌, refl, sym, ap, ◌∙◌}
 use mathlib.Core.List.{List}
 use Prim.Native.Nat.{ℕ, ◌+◌, ◌-◌, ◌*◌, ◌≤◌, ◌<◌, min}
-use native.Mathlib.Nat.{le_refl, min-le_left, min-le_right, lt_of_not-le, zero-mul, add-mul, mul-le-mul_right, div-eq_of_lt-le}
+use native.Mathlib.Nat.{le_refl, min-le_left, min-le_right, lt_of_not-le, zero-mul, add-mul, mul-le-mul_right}
 use native.Mathlib.Decide.{dec_le}
 use native.Mathlib.Omega.{arith}
 use borrow.Author.Count.{below_more}
@@ -19,9 +19,6 @@ use Rattle.analysis.specs.private.Chains.{side}
 -- ---- one stair
 pub not_yet : (x edge period : ℕ) → x ≤ edge → 0 ≡ ceil (x - edge) period
 not_yet x edge period h = let z : x - edge ≡ 0 = omega arith in rw z (sym (ceil_zero period))
-
-pub just_one : (over period : ℕ) → 1 ≤ over → over ≤ period → 1 ≡ ceil over period
-just_one over period h k = sym (div-eq_of_lt-le period (omega arith) (omega arith))
 
 pub onward_below : (edge period x : ℕ) → edge < far → period ≤ ticks → x ≤ latest → onward edge period x < far
 onward_below edge period x a b h = go (dec_le x edge)
@@ -195,16 +192,3 @@ near_on periods edges next nearest found n b from to x s e p f r =
   where
     other : (a k : ℕ) → a * lot ≤ k → k < a * lot + lot → k < n → (a ≡ b → ⊥) → get_or next k 0 ≡ get_or edges k 0 → get_or found a 0 ≤ get_or next k 0
     other a k l g m d s = rw (f.others a d, s) (r.before a k l g m)
-
--- a lot whose edges are not passed keeps its nearest ..
-pub nearest_still : (edges nearest : List ℕ) (b from to : ℕ) → NoEdgeBefore (get_or nearest b 0) edges from to → NewNearest edges nearest nearest b from to
-nearest_still edges nearest b from to h = record { long = refl; this = h; others = λ a d. refl }
-
--- .. and one that was gone through has that which was found
-pub nearest_set : (edges nearest : List ℕ) (b from to v : ℕ) → b < length nearest → NoEdgeBefore v edges from to → NewNearest edges nearest (set nearest b v) b from to
-nearest_set edges nearest b from to v h f =
-    record {
-      long = length-set nearest b v;
-      this = λ k a l. rw (get_or-set_same nearest b v 0 h) (f k a l);
-      others = λ a d. get_or-set_other nearest b a v 0 d;
-    }

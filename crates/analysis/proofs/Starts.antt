@@ -1,13 +1,11 @@
--- Laws of starting the stairs, one a turn, and what stairs that have started make up. Assumes nothing.
+-- Laws of starting the stairs, and what stairs that have started make up. Assumes nothing.
 use mathlib.Core.Path.{◌≡◌, refl, sym, ap₂, ◌∙◌}
 use mathlib.Core.List.{List}
 use Prim.Native.Nat.{ℕ, ◌+◌, ◌-◌, ◌*◌, ◌≤◌, ◌<◌}
 use native.Mathlib.Nat.{add_comm, lt_of_not-le}
 use native.Mathlib.Decide.{dec_le}
 use native.Mathlib.Omega.{arith}
-use borrow.Author.Count.{below_more}
-use lib.ListN.{length, get_or, set, length-set}
-use lib.Seq.{get_or-set_same, get_or-set_other}
+use lib.ListN.{length, get_or}
 use Rattle.names.specs.Limits.{ticks}
 use Rattle.laws.specs.Lists.{ceil}
 use Rattle.laws.proofs.Lists.{sum_to_append, sum_to_same, sum_rows, sum_times}
@@ -17,32 +15,6 @@ use Rattle.analysis.specs.private.Stairs.{start, earliest, stair, height, Stairs
 use Rattle.analysis.specs.private.Chains.{MakesUp}
 use Rattle.terms.specs.Fit.{Fit}
 use Rattle.analysis.proofs.Climbing.{near_start}
-
-pub sources_none : (window : ℕ) (r : List ℕ) → SourcesStarted 0 window r r
-sources_none window r = record { long = refl; source = λ k h. absurd (omega arith) }
-
-pub sources_more : (n window : ℕ) (edges r : List ℕ) (v : ℕ) → n < length edges → v ≡ start - window → SourcesStarted n window edges r → SourcesStarted (n + 1) window edges (set r n v)
-sources_more n window edges r v h e s =
-    record {
-      long = length-set r n v ∙ s.long;
-      source = below_more (λ k. get_or (set r n v) k 0 ≡ start - window) n
-          (λ k g. get_or-set_other r n k v 0 (λ d. omega arith) ∙ s.source k g)
-          (get_or-set_same r n v 0 (omega (arith, s.long)) ∙ e);
-    }
-
-pub streams_none : (jitters : List ℕ) (from late : ℕ) (r : List ℕ) → StreamsStarted jitters from 0 late r r
-streams_none jitters from late r = record { long = refl; front = λ k h. refl; stream = λ k h. absurd (omega arith) }
-
-pub streams_more : (jitters : List ℕ) (from n late : ℕ) (edges r : List ℕ) (v : ℕ) → from + n < length edges → v ≡ start - (get_or jitters n 0 + late)
-    → StreamsStarted jitters from n late edges r → StreamsStarted jitters from (n + 1) late edges (set r (from + n) v)
-streams_more jitters from n late edges r v h e s =
-    record {
-      long = length-set r (from + n) v ∙ s.long;
-      front = λ k g. get_or-set_other r (from + n) k v 0 (λ d. omega arith) ∙ s.front k g;
-      stream = below_more (λ k. get_or (set r (from + n) v) (from + k) 0 ≡ start - (get_or jitters k 0 + late)) n
-          (λ k g. get_or-set_other r (from + n) (from + k) v 0 (λ d. omega arith) ∙ s.stream k g)
-          (get_or-set_same r (from + n) v 0 (omega (arith, s.long)) ∙ e);
-    }
 
 -- both, one after the other
 pub both_started : (jitters : List ℕ) (sources urgent late window : ℕ) (edges begun r : List ℕ) → sources + urgent ≤ length edges → SourcesStarted sources window edges begun

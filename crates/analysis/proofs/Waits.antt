@@ -23,6 +23,7 @@ use Rattle.bound.proofs.Largest.{some_instance}
 use Rattle.bound.proofs.Instances.{room, settles, w_exists, w_rises, side_W_suc}
 use Rattle.terms.specs.Gathered.{Lent, terms_of}
 use Rattle.analysis.specs.declared.searches.Reached.{Reached}
+use Rattle.analysis.specs.private.Stairs.{Near}
 use Rattle.analysis.specs.private.Chains.{side, rest_W, alone_terms, MakesUp, RestKept, Bounded, Settled, larger_of}
 use Rattle.analysis.proofs.Chains.{kept_start, kept_up}
 
@@ -129,6 +130,15 @@ worst_more f q best z k e =
           (sym (field (λ r. r.instance) (lt_z best.term z) next best ∙ ap (λ t. cond t (q + 1) best.instance) test))
           (first_more f q best.instance k.first);
     }
+
+-- ---- what is kept from instance to instance: the wait of q, the edges where it came to, and the worst so far
+pub record WaitsTo (r : Terms) (L : ℕ) (costs periods edges nearest : List ℕ) (n q base wait : ℕ) (best : Reached) : Type 0 where
+  pub counts : q < Q r L
+  pub based : base ≡ r.B + q * r.own.C''
+  pub is : wait ≡ w r q
+  pub kept : RestKept costs periods edges n (rest_W r) wait (wait - base)
+  pub worst : WorstTo (term r) q best
+  pub near : Near edges nearest n
 
 -- ---- nobody else on the channel
 pub alone_terms_lem : (t : Lent) → t.row.urgent ≡ 0 → t.row.sources ≡ 0 → terms_of t ≡ alone_terms t.row

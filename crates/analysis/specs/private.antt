@@ -1,3 +1,4 @@
 -- Only for the contracts of private functions; no other crate names it.
+pub mod Fitting
 pub mod Stairs
 pub mod Chains

@@ -7,18 +7,23 @@ ghost use Rattle.names.specs.Limits.{ticks};
 ghost use Rattle.laws.specs.Lists.{ceil};
 ghost use Rattle.bound.specs.Bound as rule;
 ghost use Rattle.bound.specs.Evaluations.{searched};
-ghost use Rattle.terms.specs.Gathered.{lent, terms_of};
-ghost use Rattle.terms.specs.Fit.{FitRow, Fit};
-ghost use Rattle.analysis.specs.private.Stairs.{few_stairs, Room, Stand, Near};
+ghost use Rattle.terms.specs.Gathered.{stairs as most};
+ghost use Rattle.analysis.specs.private.Fitting.{terms_in, stairs_in};
+ghost use Rattle.analysis.specs.private.Stairs.{lot, Room, Stand, Near};
 ghost use Rattle.analysis.specs.private.Chains.{OwnKept, own_l, EndsAs, no_bound, Bounded, side, Settled, larger_of};
 
+use crate::fitting::Fitting;
 use crate::stairs::{LOT, START, climbed, periods_past, start};
 use bound::{Answer, Searched, Verdict};
 use names::{FEW, SOURCES, TICKS};
-use terms::{Gathered, STAIRS};
+use terms::STAIRS;
 
-// The stairs of few streams: a whole number of lots, as all stairs are.
+// The stairs of few streams, and the lots of these and of the most: whole numbers.
 const FEW_STAIRS: usize = SOURCES + FEW;
+
+const FEW_LOTS: usize = FEW_STAIRS / LOT;
+
+const LOTS: usize = STAIRS / LOT;
 
 // The least busy period there can be, where the chains for L start.
 pub(crate) const FIRST: u64 = 1;
@@ -30,94 +35,83 @@ pub(crate) struct Own {
     pub(crate) sum: u64,
 }
 
-pub(crate) fn own_start(g: Gathered) -> Own
-    ensures { OwnKept g result 0 }
+pub(crate) fn own_start(fitting: Fitting) -> Own
+    ensures { OwnKept fitting.entry.terms.row result 0 }
 {
     Own {
         edge: 0,
-        sum: g.blocking,
+        sum: fitting.terms.row.blocking,
     }
 }
 
 // i's own stair at x, with its edge gone on.
-pub(crate) fn own_at(g: Gathered, own: Own, x: u64) -> Own
-    requires fit_row { FitRow g }
+pub(crate) fn own_at(fitting: Fitting, own: Own, x: u64) -> Own
     requires x_le_ticks { x ≤ ticks }
-    requires own_kept { OwnKept g own x }
-    ensures sum_value { result.sum ≡ own_l g x }
-    ensures own_kept_2 { OwnKept g result x }
+    requires own_kept { OwnKept fitting.terms.row own x }
+    ensures sum_value { result.sum ≡ own_l fitting.entry.terms.row x }
+    ensures own_kept_2 { OwnKept fitting.entry.terms.row result x }
 {
+    let g = fitting.terms.row;
     let d = periods_past(x + g.jitter, own.edge, g.period);
     let edge = own.edge + d * g.period;
     let sum = own.sum + d * g.cost;
     Own { edge, sum }
 }
 
-// Where the chain for L ended: its last value, which is L or beyond the last tick, and how many evaluations there were.
+// Where the chain for L ended: at L, or with none if it passed the last tick; and how many evaluations there were.
 #[derive(Clone, Copy)]
 pub(crate) struct Ended {
-    pub(crate) last: u64,
+    pub(crate) busy: Option<u64>,
     pub(crate) evaluations: u64,
 }
 
 // The chain for L: from 1, one evaluation of the right side a turn. The stairs come before i's own: measured, that is faster.
-fn busy_period<'a>(
-    g: Gathered,
-    costs: &'a [u64],
-    periods: &'a [u64],
-    jitters: &'a [u64],
-    edges: &mut [u64],
-    nearest: &mut [u64],
-) -> Ended
-    requires fit { Fit (lent g costs.now periods.now jitters.now) }
-    requires room { Room (g.sources + g.urgent) edges.old nearest.old }
-    ensures { EndsAs (terms_of (lent g costs.now periods.now jitters.now)) result }
+fn busy_period(fitting: Fitting, edges: &mut [u64], nearest: &mut [u64]) -> Ended
+    requires { Room (stairs_in fitting) edges.old nearest.old }
+    ensures { EndsAs (terms_in fitting.entry) result }
 {
-    let n = g.sources + g.urgent;
-    start(jitters, g.sources, g.urgent, 0, 0, edges, nearest);
-    let mut own = own_start(g);
+    start(fitting, 0, 0, edges, nearest);
+    let mut own = own_start(fitting);
     let mut rest: u64 = 0;
     let mut x = FIRST;
     let mut evaluations: u64 = 0;
     while x <= TICKS {
-        rest = climbed(x + START, n, costs, periods, edges, nearest, rest);
-        own = own_at(g, own, x);
+        rest = climbed(fitting, x + START, edges, nearest, rest);
+        own = own_at(fitting, own, x);
         let y = own.sum + rest;
         evaluations += 1;
         if y == x {
             return Ended {
-                last: y,
+                busy: Some(y),
                 evaluations,
             };
         }
         x = y;
     }
     Ended {
-        last: x,
+        busy: None,
         evaluations,
     }
 }
 
 // The least fixed point from `from` on of base + sum + what the stairs rise by: w(q), once it is known not to be below.
 fn settled(
+    fitting: Fitting,
     base: u64,
     from: u64,
     sum: u64,
-    n: usize,
-    costs: &[u64],
-    periods: &[u64],
     edges: &mut [u64],
     nearest: &mut [u64],
 ) -> u64
-    requires stand { Stand costs.now periods.now edges.old nearest.old n }
-    requires bounded { Bounded (side costs.now periods.now edges.old n base sum) from }
-    ensures settled { Settled costs.now periods.now edges.old edges.new n base sum from result }
-    ensures near { Near edges.new nearest.new n }
+    requires stand { Stand fitting.terms.costs.now fitting.terms.periods.now edges.old nearest.old (stairs_in fitting) }
+    requires bounded { Bounded (side fitting.terms.costs.now fitting.terms.periods.now edges.old (stairs_in fitting) base sum) from }
+    ensures settled { Settled fitting.entry.terms.costs.now fitting.entry.terms.periods.now edges.old edges.new (stairs_in fitting.entry) base sum from result }
+    ensures near { Near edges.new nearest.new (stairs_in fitting.entry) }
 {
     let mut x = from;
     let mut total = sum;
     loop {
-        total = climbed(x + START, n, costs, periods, edges, nearest, total);
+        total = climbed(fitting, x + START, edges, nearest, total);
         let y = base + total;
         if y == x {
             return x;
@@ -157,60 +151,33 @@ fn instances(l: u64, jitter: u64, period: u64) -> u64
     requires period_le_ticks { period ≤ ticks }
     ensures { result ≡ ceil (l + jitter) period }
 {
-    (l + jitter + (period - 1)) / period
+    (l + jitter).div_ceil(period)
 }
 
-// The bound, and the instance that gives it.
-#[derive(Clone, Copy)]
-struct Worst {
-    bound: u64,
-    instance: u64,
-}
-
-// The largest term J + w(q) + C'' - q * T, and the first q that has it. The search for w(q + 1) starts at w(q) + C'', with the edges
-// where they are.
-fn largest_term<'a>(
-    g: Gathered,
-    l: u64,
-    costs: &'a [u64],
-    periods: &'a [u64],
-    jitters: &'a [u64],
-    edges: &mut [u64],
-    nearest: &mut [u64],
-) -> Worst
-    requires fit { Fit (lent g costs.now periods.now jitters.now) }
-    requires jitters_value { rule.busy (terms_of (lent g costs.now periods.now jitters.now)) ≡ Some l }
-    requires room { Room (g.sources + g.urgent) edges.old nearest.old }
-    ensures bound_value { result.bound ≡ rule.bound (terms_of (lent g costs.now periods.now jitters.now)) l }
-    ensures instance_value { result.instance ≡ rule.worst (terms_of (lent g costs.now periods.now jitters.now)) l }
+// What the largest term J + w(q) + C'' - q * T gives, and the first q that has it. The search for w(q + 1) starts at w(q) + C'', with the
+// edges where they are.
+fn worst(fitting: Fitting, l: u64, edges: &mut [u64], nearest: &mut [u64], deadline: u64) -> Answer
+    requires busy { rule.busy (terms_in fitting) ≡ Some l }
+    requires room { Room (stairs_in fitting) edges.old nearest.old }
+    ensures { result ≡ rule.answer (terms_in fitting.entry) deadline }
 {
-    let n = g.sources + g.urgent;
-    start(
-        jitters,
-        g.sources,
-        g.urgent,
-        g.late + 1,
-        g.cost,
-        edges,
-        nearest,
-    );
-    let count = instances(l, g.jitter, g.period);
-    let ends = g.jitter + g.last;
-    let cost = g.cost;
-    let mut base = g.blocking;
-    let mut wait = settled(base, 0, 0, n, costs, periods, edges, nearest);
-    let mut q: u64 = 0;
+    let row = fitting.terms.row;
+    start(fitting, row.late + 1, row.cost, edges, nearest);
+    let count = instances(l, row.jitter, row.period);
+    let ends = row.jitter + row.last;
+    let cost = row.cost;
+    let mut base = row.blocking;
+    let mut wait = settled(fitting, base, 0, 0, edges, nearest);
     let first = term(ends + wait, 0);
     let mut best = Reached {
         term: first,
-        instance: q,
+        instance: 0,
     };
-    while q + 1 < count {
+    for q in 1..count {
         let sum = wait - base;
         base += cost;
-        wait = settled(base, wait + cost, sum, n, costs, periods, edges, nearest);
-        q += 1;
-        let next = term(ends + wait, q * g.period);
+        wait = settled(fitting, base, wait + cost, sum, edges, nearest);
+        let next = term(ends + wait, q * row.period);
         best = larger(
             best,
             Reached {
@@ -219,27 +186,21 @@ fn largest_term<'a>(
             },
         );
     }
-    Worst {
-        bound: best.term as u64,
-        instance: best.instance,
-    }
+    judged(best.term as u64, best.instance, deadline)
 }
 
 pub(crate) fn judged(bound: u64, instance: u64, deadline: u64) -> Answer
     ensures { result ≡ record { verdict = rule.verdict bound deadline; bound = bound; instance = instance } }
 {
-    if bound <= deadline {
-        Answer {
-            verdict: Verdict::Met,
-            bound,
-            instance,
-        }
+    let verdict = if bound <= deadline {
+        Verdict::Met
     } else {
-        Answer {
-            verdict: Verdict::Missed,
-            bound,
-            instance,
-        }
+        Verdict::Missed
+    };
+    Answer {
+        verdict,
+        bound,
+        instance,
     }
 }
 
@@ -260,80 +221,42 @@ pub(crate) fn no_bound(evaluations: u64) -> Searched
 }
 
 // The answer among other streams and noise sources, in rooms that are set before they are read.
-fn search<'a>(
-    g: Gathered,
-    costs: &'a [u64],
-    periods: &'a [u64],
-    jitters: &'a [u64],
-    edges: &mut [u64],
-    nearest: &mut [u64],
-    deadline: u64,
-) -> Searched
-    requires fit { Fit (lent g costs.now periods.now jitters.now) }
-    requires room { Room (g.sources + g.urgent) edges.old nearest.old }
-    ensures { result ≡ searched (terms_of (lent g costs.now periods.now jitters.now)) deadline }
+fn search(fitting: Fitting, edges: &mut [u64], nearest: &mut [u64], deadline: u64) -> Searched
+    requires { Room (stairs_in fitting) edges.old nearest.old }
+    ensures { result ≡ searched (terms_in fitting.entry) deadline }
 {
-    let ended = busy_period(g, costs, periods, jitters, edges, nearest);
-    if TICKS < ended.last {
-        return no_bound(ended.evaluations);
-    }
-    let worst = largest_term(g, ended.last, costs, periods, jitters, edges, nearest);
-    let answer = judged(worst.bound, worst.instance, deadline);
-    Searched {
-        answer,
-        evaluations: ended.evaluations,
-        x: ended.last,
+    let ended = busy_period(fitting, edges, nearest);
+    match ended.busy {
+        Some(l) => {
+            let answer = worst(fitting, l, edges, nearest, deadline);
+            Searched {
+                answer,
+                evaluations: ended.evaluations,
+                x: l,
+            }
+        }
+        None => no_bound(ended.evaluations),
     }
 }
 
-// Few stairs have small rooms.
-fn answer_few<'a>(
-    g: Gathered,
-    costs: &'a [u64],
-    periods: &'a [u64],
-    jitters: &'a [u64],
-    deadline: u64,
-) -> Searched
-    requires fit { Fit (lent g costs.now periods.now jitters.now) }
-    requires urgent_bound { g.sources + g.urgent ≤ few_stairs }
-    ensures { result ≡ searched (terms_of (lent g costs.now periods.now jitters.now)) deadline }
+// The same in rooms for so many stairs, and for the lots that these stand in.
+fn answer_in<const ROOM: usize, const LOTS_ROOM: usize>(fitting: Fitting, deadline: u64) -> Searched
+    requires stairs { stairs_in fitting ≤ ROOM }
+    requires lots { ROOM ≡ LOTS_ROOM * lot }
+    requires few { ROOM ≤ most }
+    ensures { result ≡ searched (terms_in fitting.entry) deadline }
 {
-    let mut edges = [0; FEW_STAIRS];
-    let mut nearest = [0; FEW_STAIRS / LOT];
-    search(
-        g,
-        costs,
-        periods,
-        jitters,
-        &mut edges,
-        &mut nearest,
-        deadline,
-    )
+    let mut edges = [0; ROOM];
+    let mut nearest = [0; LOTS_ROOM];
+    search(fitting, &mut edges, &mut nearest, deadline)
 }
 
-// The answer among other streams and noise sources.
-pub(crate) fn answer_among<'a>(
-    g: Gathered,
-    costs: &'a [u64],
-    periods: &'a [u64],
-    jitters: &'a [u64],
-    deadline: u64,
-) -> Searched
-    requires { Fit (lent g costs.now periods.now jitters.now) }
-    ensures { result ≡ searched (terms_of (lent g costs.now periods.now jitters.now)) deadline }
+// The answer among other streams and noise sources. Few stairs have small rooms.
+pub(crate) fn answer_among(fitting: Fitting, deadline: u64) -> Searched
+    ensures { result ≡ searched (terms_in fitting.entry) deadline }
 {
-    if g.sources + g.urgent <= FEW_STAIRS {
-        return answer_few(g, costs, periods, jitters, deadline);
+    if fitting.stairs() <= FEW_STAIRS {
+        return answer_in::<FEW_STAIRS, FEW_LOTS>(fitting, deadline);
     }
-    let mut edges = [0; STAIRS];
-    let mut nearest = [0; STAIRS / LOT];
-    search(
-        g,
-        costs,
-        periods,
-        jitters,
-        &mut edges,
-        &mut nearest,
-        deadline,
-    )
+    answer_in::<STAIRS, LOTS>(fitting, deadline)
 }

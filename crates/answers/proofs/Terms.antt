@@ -8,6 +8,7 @@ use native.Mathlib.Omega.{arith}
 use borrow.Author.Tests.{le-leb, lt-ltb, ltb-true, eq-eqb}
 use lib.Dec.{ltb}
 use lib.ListN.{length, get_or}
+use Rattle.std.specs.Prelude.{Option, Some, None}
 use Rattle.names.specs.Limits.{streams, sources, ticks}
 use Rattle.laws.specs.Lists.{ceil, sum_to, largest_of, those, rows}
 use Rattle.laws.specs.Ranks.{rank}
@@ -20,7 +21,6 @@ use Rattle.bound.specs.Claims.{Sound}
 use Rattle.bound.specs.declared.Searched.{Searched}
 use Rattle.bound.proofs.Same.{instead, same_searched}
 use Rattle.terms.specs.declared.Gathered.{Gathered}
-use Rattle.analysis.specs.declared.Answered.{Answered, TheVariants.Outside, TheVariants.Exact}
 use Rattle.terms.specs.Gathered.{Lent, lent, terms_of, share_at, cost, share_fits, source_fits, row_fits, fits}
 use Rattle.analysis.specs.Answered.{answered}
 use Rattle.plan.specs.declared.Timing.{Timing}
@@ -284,11 +284,8 @@ module _ (ws : List ℕ) (n m : ℕ) (over : Overheads) (fine : PlacesWithin ws 
           }
 
 -- ---- the analysis' answer to such terms is the rules' answer
-pub answered_is : (t : Lent) (D : ℕ) → fits t ≡ true → answered t D ≡ Exact (searched (terms_of t) D)
+pub answered_is : (t : Lent) (D : ℕ) → fits t ≡ true → answered t D ≡ Some (searched (terms_of t) D)
 answered_is t D f = simp f
 
-pub row_is : (r : Answered) (a b : Searched) → r ≡ Exact a → r ≡ Exact b → a ≡ b
-row_is r a b p q = cc
-
-pub never_outside : (r : Answered) (a : Searched) → r ≡ Outside → r ≡ Exact a → ⊥
-never_outside r a p q = let z : ◌≡◌ {A = ℕ} 0 1 = cc in omega arith
+pub never_outside : (r : Option Searched) (a : Searched) → r ≡ None → r ≡ Some a → ⊥
+never_outside r a p q = cc

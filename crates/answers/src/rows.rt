@@ -15,13 +15,12 @@ use crate::Told;
 use crate::order::{put_gaps, put_hits, put_in_order, put_places, put_priorities};
 use crate::own::{cheapest, gathered};
 use crate::read::{DEADLINE, FIRST, word_of};
-use analysis::Answered;
-use bound::{Answer, Searched, Verdict, Wait};
+use bound::{Searched, Wait};
 use carried::{CARRIED, STREAM, timing_in};
 use costs::{Overheads, overheads_of};
 use names::{FEW, Row, SOURCES, STREAMS};
 use row_words::{put_answer, put_wait};
-use terms::{Gathered, STAIRS};
+use terms::{Gathered, LentTerms, STAIRS};
 
 // The answer of terms that are within the limits, as a plan's are.
 fn row_answer<'a>(
@@ -34,22 +33,13 @@ fn row_answer<'a>(
     requires { fits (lent g costs.now periods.now jitters.now) ≡ true }
     ensures { result ≡ searched (terms_of (lent g costs.now periods.now jitters.now)) deadline }
 {
-    match analysis::answer(g, costs, periods, jitters, deadline) {
-        Answered::Exact(s) => s,
-        // Never got to.
-        Answered::Outside => {
-            let answer = Answer {
-                verdict: Verdict::None,
-                bound: 0,
-                instance: 0,
-            };
-            Searched {
-                answer,
-                evaluations: 0,
-                x: 0,
-            }
-        }
-    }
+    let terms = LentTerms {
+        row: g,
+        costs,
+        periods,
+        jitters,
+    };
+    analysis::answer(terms, deadline).unwrap()
 }
 
 // The answer of row k, from streams that stand in order; its hits are put before them.

@@ -32,7 +32,7 @@ pub struct Gathered {
 
 // A row's own terms, and the costs and periods that are lent beside them: first as many hits and gaps as there are noise sources, and then
 // those of hp(i), `urgent` of them; and the jitters of these. More may be lent than that: one list of streams in order of urgency serves all
-// rows, and hp(i) is its front.
+// rows, and hp(i) is its front. They are three lists, and not one of shares, since `long_enough` speaks of the length of each.
 #[derive(Clone, Copy)]
 pub struct LentTerms<'a> {
     pub row: Gathered,

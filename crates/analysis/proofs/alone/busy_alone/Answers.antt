@@ -16,11 +16,11 @@ abbrev round : After-own_at-own → At-loop-x
 round c = c.before.before
 
 -- the evaluation is L's right side at x
-evaluated : (c : After-own_at-own) → let g = (begun (round c)).args.g in c.own_at-own.result.sum ≡ side_L (alone_terms g) (round c).loop-x.x
-evaluated c = omega (arith, c.own_at-own.ensures.sum_value, side_L_alone (begun (round c)).args.g (round c).loop-x.x)
+evaluated : (c : After-own_at-own) → let g = (begun (round c)).args.fitting.terms.row in c.own_at-own.result.sum ≡ side_L (alone_terms g) (round c).loop-x.x
+evaluated c = omega (arith, c.own_at-own.ensures.sum_value, side_L_alone (begun (round c)).args.fitting.terms.row (round c).loop-x.x)
 
 pub loop-x-init : goal.loop-x-init
-loop-x-init c = busy_start (fit_sound _ _ _ c.requires) c.own_start-own.ensures
+loop-x-init c = busy_start (fit_sound _ _ _ c.args.fitting.fit.row) c.own_start-own.ensures
 
 pub returns-then-y-x : goal.returns-then-y-x
 returns-then-y-x c =

@@ -1,9 +1,9 @@
-use mathlib.Core.Path.{◌≡◌, refl, ap, ◌∙◌}
+use mathlib.Core.Path.{◌≡◌, ap, ◌∙◌}
 use Prim.Native.Nat.{◌+◌, ◌^◌, ◌<◌}
 use native.Mathlib.Nat.{add-zero}
 use native.Mathlib.Omega.{arith}
 use Rattle.bound.specs.Bound.{demand, E, side_L}
-use Rattle.terms.specs.Gathered.{Lent, lent, terms_of}
+use Rattle.terms.specs.Gathered.{Lent, lent_terms, terms_of}
 use Rattle.analysis.specs.private.Chains.{own_l, rest_L, MakesUp, RestKept}
 use Rattle.analysis.proofs.Chains.{kept_start, kept_now, kept_on, kept_up, busy_start, busy_rises, busy_found, busy_more, busy_beyond}
 use Rattle.terms.proofs.Fit.{fit_sound, side_L_fits}
@@ -15,52 +15,50 @@ use Rattle.analysis.proofs.searches.busy_period.Goals.{After-climbed-rest, After
 -- for L no one is late, and the noise's window is as long as L
 started : (c : After-start)
     → let a = c.args in
-    let t : Lent = lent a.g a.costs.now a.periods.now a.jitters.now in
+    let t : Lent = lent_terms a.fitting.terms in
     MakesUp t.costs t.periods c.start.new.edges (t.row.sources + t.row.urgent) (rest_L (terms_of t))
 started c =
     let a = c.args in
-    let t : Lent = lent a.g a.costs.now a.periods.now a.jitters.now in
+    let t : Lent = lent_terms a.fitting.terms in
     let r = terms_of t in
-    laid t c.requires.fit 0 0 (omega arith) (omega arith) _ c.start.ensures.started (rest_L r) (λ x. ap (λ z. demand r.urgent z + E r z) (add-zero x))
+    laid t c.args.fitting.fit 0 0 (omega arith) (omega arith) _ c.start.ensures.started (rest_L r) (λ x. ap (λ z. demand r.urgent z + E r z) (add-zero x))
 
 -- the right side at x fits, and with it each of its parts
 room : (c : In-loop-x)
     → let a = c.args in
-    let t : Lent = lent a.g a.costs.now a.periods.now a.jitters.now in
+    let t : Lent = lent_terms a.fitting.terms in
     own_l t.row c.loop-x.x + rest_L (terms_of t) c.loop-x.x < 2 ^ 64
 room c =
     let a = c.args in
-    let t : Lent = lent a.g a.costs.now a.periods.now a.jitters.now in
+    let t : Lent = lent_terms a.fitting.terms in
     let x = c.loop-x.x in
-    omega (arith, side_L_parts t x, side_L_fits t c.requires.fit x c.loop-x-test.true)
+    omega (arith, side_L_parts t x, side_L_fits t c.args.fitting.fit x c.loop-x-test.true)
 
 -- the rest at x, and the edges after it
 theirs : (c : After-climbed-rest)
     → let a = c.args in
-    c.climbed-rest.result ≡ rest_L (terms_of (lent a.g a.costs.now a.periods.now a.jitters.now)) c.loop-x.x
+    c.climbed-rest.result ≡ rest_L (terms_of (lent_terms a.fitting.terms)) c.loop-x.x
 theirs c = c.climbed-rest.ensures.value ∙ kept_now _ _ _ _ _ _ _ c.loop-x.invariant.1
 
 came : (c : After-climbed-rest)
     → let a = c.args in
-    let t : Lent = lent a.g a.costs.now a.periods.now a.jitters.now in
+    let t : Lent = lent_terms a.fitting.terms in
     RestKept t.costs t.periods c.climbed-rest.new.edges (t.row.sources + t.row.urgent) (rest_L (terms_of t)) c.loop-x.x c.climbed-rest.result
 came c = kept_on _ _ _ _ _ _ _ _ _ c.climbed-rest.ensures.value c.climbed-rest.ensures.moved c.loop-x.invariant.1
 
 -- the evaluation is L's right side at x
 evaluated : (c : After-own_at-own)
     → let a = c.args in
-    c.own_at-own.result.sum + c.climbed-rest.result ≡ side_L (terms_of (lent a.g a.costs.now a.periods.now a.jitters.now)) c.loop-x.x
+    c.own_at-own.result.sum + c.climbed-rest.result ≡ side_L (terms_of (lent_terms a.fitting.terms)) c.loop-x.x
 evaluated c =
     let a = c.args in
-    omega (arith, c.own_at-own.ensures.sum_value, c.climbed-rest.ensures.value ∙ kept_now _ _ _ _ _ _ _ c.loop-x.invariant.1, side_L_parts (lent a.g a.costs.now a.periods.now a.jitters.now) c.loop-x.x)
+    omega (arith, c.own_at-own.ensures.sum_value, c.climbed-rest.ensures.value ∙ kept_now _ _ _ _ _ _ _ c.loop-x.invariant.1, side_L_parts (lent_terms a.fitting.terms) c.loop-x.x)
 
 pub loop-x-init : goal.loop-x-init
 loop-x-init c = (
-  busy_start (fit_sound _ _ _ c.requires.fit.row) c.own_start-own.ensures,
+  busy_start (fit_sound _ _ _ c.args.fitting.fit.row) c.own_start-own.ensures,
   kept_start _ _ _ _ _ 1 (started (goal.at.loop-x-init c).After-start),
   c.start.ensures.near,
-  refl,
-  refl,
 )
 
 pub climbed-rest-requires-clause-due : goal.climbed-rest-requires-clause-due
@@ -93,8 +91,6 @@ loop-x-preserved c =
       busy_more b e c.loop-x-test.true c.if-y-x.false c.own_at-own.ensures.own_kept_2,
       kept_up _ _ _ _ _ _ _ _ (busy_rises b e) (came (goal.at.loop-x-preserved c).After-climbed-rest),
       c.climbed-rest.ensures.near_2,
-      c.climbed-rest.auto.edges ∙ c.loop-x.invariant.3,
-      c.climbed-rest.auto.nearest ∙ c.loop-x.invariant.4,
     )
 
 pub returns : goal.returns

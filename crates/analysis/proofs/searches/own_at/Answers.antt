@@ -8,8 +8,9 @@ use Rattle.analysis.proofs.searches.own_at.Goals.{After-periods_past-d}
 -- the sum and the edge after it
 on : (c : After-periods_past-d)
     → let a = c.args in
-    OwnKept a.g (record { edge = a.own.edge + c.periods_past-d.result * a.g.period; sum = a.own.sum + c.periods_past-d.result * a.g.cost }) a.x
-on c = own_on c.args.g c.args.own c.args.x _ c.periods_past-d.ensures c.requires.fit_row c.requires.x_le_ticks c.requires.own_kept
+    let g = a.fitting.terms.row in
+    OwnKept g (record { edge = a.own.edge + c.periods_past-d.result * g.period; sum = a.own.sum + c.periods_past-d.result * g.cost }) a.x
+on c = own_on c.args.fitting.terms.row c.args.own c.args.x _ c.periods_past-d.ensures c.args.fitting.fit.row c.requires.x_le_ticks c.requires.own_kept
 
 pub returns-clause-own_kept_2 : goal.returns-clause-own_kept_2
 returns-clause-own_kept_2 c = on (goal.at.returns-clause-own_kept_2 c).After-periods_past-d

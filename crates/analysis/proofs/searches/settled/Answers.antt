@@ -2,6 +2,7 @@ use mathlib.Core.Path.{◌≡◌, sym, ◌∙◌, subst}
 use Prim.Native.Nat.{◌+◌, ◌-◌, ◌≤◌}
 use native.Mathlib.Omega.{arith}
 use Rattle.laws.proofs.Chain.{climb_least, climb_below, stays}
+use Rattle.analysis.specs.private.Fitting.{stairs_in}
 use Rattle.analysis.specs.private.Stairs.{height, start}
 use Rattle.analysis.specs.private.Chains.{side, RestKept}
 use Rattle.analysis.proofs.Climbing.{side_mono}
@@ -17,20 +18,20 @@ below c =
 
 next : (c : At-loop-x)
     → let a = c.args in
-    a.base + (c.loop-x.total + height a.costs.now a.periods.now c.loop-x.edges a.n (c.loop-x.x + start)) ≤ c.requires.bounded.top
+    a.base + (c.loop-x.total + height a.fitting.terms.costs.now a.fitting.terms.periods.now c.loop-x.edges (stairs_in a.fitting) (c.loop-x.x + start)) ≤ c.requires.bounded.top
 next c =
     let a = c.args in
-    omega (arith, kept_now _ _ _ _ _ _ _ c.loop-x.invariant.1, stays _ (side_mono a.costs.now a.periods.now a.edges.now a.n a.base a.sum) c.loop-x.x _ (below c) c.requires.bounded.stops)
+    omega (arith, kept_now _ _ _ _ _ _ _ c.loop-x.invariant.1, stays _ (side_mono a.fitting.terms.costs.now a.fitting.terms.periods.now a.edges.now (stairs_in a.fitting) a.base a.sum) c.loop-x.x _ (below c) c.requires.bounded.stops)
 
 -- the evaluation is the side at x, and the edges have come there
 evaluated : (c : After-climbed-total)
     → let a = c.args in
-    a.base + c.climbed-total.result ≡ side a.costs.now a.periods.now a.edges.now a.n a.base a.sum c.loop-x.x
+    a.base + c.climbed-total.result ≡ side a.fitting.terms.costs.now a.fitting.terms.periods.now a.edges.now (stairs_in a.fitting) a.base a.sum c.loop-x.x
 evaluated c = omega (arith, c.climbed-total.ensures.value, kept_now _ _ _ _ _ _ _ c.loop-x.invariant.1)
 
 came : (c : After-climbed-total)
     → let a = c.args in
-    RestKept a.costs.now a.periods.now c.climbed-total.new.edges a.n (λ y. a.sum + height a.costs.now a.periods.now a.edges.now a.n (y + start)) c.loop-x.x c.climbed-total.result
+    RestKept a.fitting.terms.costs.now a.fitting.terms.periods.now c.climbed-total.new.edges (stairs_in a.fitting) (λ y. a.sum + height a.fitting.terms.costs.now a.fitting.terms.periods.now a.edges.now (stairs_in a.fitting) (y + start)) c.loop-x.x c.climbed-total.result
 came c = kept_on _ _ _ _ _ _ _ _ _ c.climbed-total.ensures.value c.climbed-total.ensures.moved c.loop-x.invariant.1
 
 pub overflow_add-x : goal.overflow_add-x

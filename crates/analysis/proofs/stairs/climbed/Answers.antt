@@ -1,68 +1,97 @@
-use mathlib.Core.Path.{◌≡◌, refl, ◌∙◌}
+use mathlib.Core.Path.{◌≡◌, ap, ◌∙◌}
 use Prim.Native.Nat.{◌+◌, ◌*◌}
 use native.Mathlib.Omega.{arith}
-use Rattle.analysis.specs.private.Stairs.{height, lot}
-use Rattle.analysis.proofs.Climbing.{gone_none, gone_on, gone_edges, gone_moved, height_none, height_le, height_part, fewer_stairs, fewer_edges, near_on}
+use Rattle.analysis.specs.private.Fitting.{stairs_in}
+use Rattle.analysis.specs.private.Stairs.{height, lot, LotEnds}
+use Rattle.analysis.proofs.Climbing.{gone_none, gone_on, gone_edges, gone_moved, height_none, height_le, height_part, fewer_stairs, fewer_edges, near_lot, near_on}
 use Rattle.analysis.proofs.stairs.climbed.Goals as goal
-use Rattle.analysis.proofs.stairs.climbed.Goals.{After-lot_end-to, In-loop-k}
+use Rattle.analysis.proofs.stairs.climbed.Goals.{After-min-to, In-loop-b}
 
 -- the lot of this turn
-starts : (c : In-loop-k) → c.loop-k.k ≡ c.loop-k.b * lot
-starts c = c.loop-k.invariant.1 c.loop-k-test.true
+starts : (c : In-loop-b) → c.loop-b.from ≡ c.loop-b.b * lot
+starts c = omega (arith, c.loop-b.invariant.0, c.loop-b-test.true, c.div_ceil-b-end.ensures, c.stairs-n.ensures)
+
+ends : (c : After-min-to) → LotEnds c.loop-b.from (stairs_in c.args.fitting) c.min-to.result
+ends c =
+    let s = starts (goal.at.After-min-to c).In-loop-b in
+    record {
+      after = omega (arith, s, c.min-to.ensures, c.loop-b-test.true, c.div_ceil-b-end.ensures);
+      within = omega (arith, c.min-to.ensures, c.stairs-n.ensures);
+      short = omega (arith, c.min-to.ensures);
+      whole = λ h. omega (arith, c.min-to.ensures, c.stairs-n.ensures);
+    }
 
 -- what the stairs up to there rise by, from the edges at this turn, is no more than what all rise by from the first ones
-room : (c : After-lot_end-to)
+room : (c : After-min-to)
     → let a = c.args in
-    let l = c.loop-k in
-    l.total + height a.costs.now a.periods.now l.edges c.lot_end-to.result a.x
-    ≡ a.sum + height a.costs.now a.periods.now a.edges.now c.lot_end-to.result a.x + height a.costs.now a.periods.now l.edges l.k a.x
+    let t = a.fitting.terms in
+    let l = c.loop-b in
+    l.total + height t.costs.now t.periods.now l.edges c.min-to.result a.x
+    ≡ a.sum + height t.costs.now t.periods.now a.edges.now c.min-to.result a.x + height t.costs.now t.periods.now l.edges l.from a.x
 room c =
     let a = c.args in
-    let l = c.loop-k in
-    omega (arith, l.invariant.2, height_part a.costs.now a.periods.now a.edges.now l.edges a.x l.k c.lot_end-to.result (omega (arith, c.lot_end-to.ensures.after)) l.invariant.3)
+    let t = a.fitting.terms in
+    let l = c.loop-b in
+    omega (arith, l.invariant.1, height_part t.costs.now t.periods.now a.edges.now l.edges a.x l.from c.min-to.result (omega (arith, (ends c).after)) l.invariant.2)
 
-pub loop-k-init : goal.loop-k-init
-loop-k-init c =
+pub loop-b-init : goal.loop-b-init
+loop-b-init c =
     let a = c.args in
-    (omega arith, (λ h. omega arith), omega (arith, height_none a.costs.now a.periods.now a.edges.now a.x), gone_none _ _ _ _, c.requires.near, refl)
+    let t = a.fitting.terms in
+    (omega arith, omega (arith, height_none t.costs.now t.periods.now a.edges.now a.x), gone_none _ _ _ _, c.requires.near)
 
 pub climbed_lot-total-requires-clause-due : goal.climbed_lot-total-requires-clause-due
 climbed_lot-total-requires-clause-due c =
-    let l = c.loop-k in
+    let l = c.loop-b in
     let a = c.args in
+    let t = a.fitting.terms in
     let p = c.requires.due in
-    let e = c.lot_end-to.ensures in
+    let m = (goal.at.climbed_lot-total-requires-clause-due c).After-min-to in
+    let e = ends m in
     record {
       up = omega (arith, e.after);
       stairs = fewer_stairs _ _ _ _ e.within p.stairs;
-      known = fewer_edges _ _ _ e.within (gone_edges _ _ _ _ _ _ _ p.stairs p.known p.early l.invariant.3);
+      known = fewer_edges _ _ _ e.within (gone_edges _ _ _ _ _ _ _ p.stairs p.known p.early l.invariant.2);
       early = p.early;
       room = omega (
         arith,
-        room (goal.at.climbed_lot-total-requires-clause-due c).After-lot_end-to,
+        room m,
         p.room,
-        height_none a.costs.now a.periods.now a.edges.now a.x,
-        height_le a.costs.now a.periods.now a.edges.now a.x c.lot_end-to.result a.n e.within,
+        height_none t.costs.now t.periods.now a.edges.now a.x,
+        height_le t.costs.now t.periods.now a.edges.now a.x c.min-to.result (stairs_in a.fitting) e.within,
       );
     }
 
-pub loop-k-preserved : goal.loop-k-preserved
-loop-k-preserved c =
-    let l = c.loop-k in
-    let s = starts (goal.at.loop-k-preserved c).In-loop-k in
-    let e = c.lot_end-to.ensures in
+pub climbed_lot-total-requires-clause-no_edge_before : goal.climbed_lot-total-requires-clause-no_edge_before
+climbed_lot-total-requires-clause-no_edge_before c =
+    let g = goal.at.climbed_lot-total-requires-clause-no_edge_before c in
+    near_lot _ _ _ _ _ _ (starts g.In-loop-b) (ends g.After-min-to) c.loop-b.invariant.3
+
+pub loop-b-preserved : goal.loop-b-preserved
+loop-b-preserved c =
+    let l = c.loop-b in
+    let m = (goal.at.loop-b-preserved c).After-min-to in
+    let s = starts (goal.at.loop-b-preserved c).In-loop-b in
+    let e = ends m in
     let t = c.climbed_lot-total.ensures in (
-      e.within,
-      (λ h. omega (arith, e.whole h, s)),
-      omega (arith, room (goal.at.loop-k-preserved c).After-lot_end-to, t.risen.gained),
-      gone_on _ _ _ _ _ _ _ (omega (arith, e.after)) l.invariant.3 t.risen.gone,
-      near_on _ _ _ _ _ _ _ _ _ _ s e t.risen.gone t.new_nearest l.invariant.4,
-      t.new_nearest.long ∙ l.invariant.5,
+      omega (arith, s, c.min-to.ensures),
+      omega (arith, room m, t.risen.gained),
+      gone_on _ _ _ _ _ _ _ (omega (arith, e.after)) l.invariant.2 t.risen.gone,
+      near_on _ _ _ _ _ _ _ _ _ _ s e t.risen.gone t.new_nearest l.invariant.3,
     )
+
+-- after the last lot all stairs have gone on
+all : (c : goal.After-loop-b) → c.loop-b.from ≡ stairs_in c.args.fitting
+all c = omega (arith, c.loop-b.invariant.0, c.loop-b-test.false, c.loop-b.auto.b-end, c.div_ceil-b-end.ensures, c.stairs-n.ensures)
+
+pub returns-clause-value : goal.returns-clause-value
+returns-clause-value c =
+    let a = c.args in
+    let t = a.fitting.terms in
+    c.loop-b.invariant.1 ∙ ap (λ k. a.sum + height t.costs.now t.periods.now a.edges.now k a.x) (all c)
 
 pub returns-clause-moved : goal.returns-clause-moved
 returns-clause-moved c =
-    let l = c.loop-k in
     let p = c.requires.due in
-    let e : l.k ≡ c.args.n = omega (arith, l.invariant.0, c.loop-k-test.false) in
-    gone_moved _ _ _ _ _ _ p.stairs p.known p.early (rw e at l.invariant.3)
+    let e = all c in
+    gone_moved _ _ _ _ _ _ p.stairs p.known p.early (rw e at c.loop-b.invariant.2)

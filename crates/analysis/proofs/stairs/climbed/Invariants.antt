@@ -1,13 +1,11 @@
 -- Each turn takes one lot on to x; the sum has gained what all stairs up to there rise by.
 use mathlib.Core.Path.{◌≡◌}
-use Prim.Native.Nat.{◌+◌, ◌-◌, ◌*◌, ◌≤◌, ◌<◌}
-use lib.ListN.{length}
+use Prim.Native.Nat.{◌+◌, ◌*◌, min}
+use Rattle.analysis.specs.private.Fitting.{stairs_in}
 use Rattle.analysis.specs.private.Stairs.{height, lot, Gone, Near}
 use Rattle.analysis.proofs.stairs.climbed.Given as goal
 
-abbrev pub invariant-loop-k : goal.invariant-loop-k
-invariant-loop-k l =
-    (l.k ≤ l.n) × (l.k < l.n → l.k ≡ l.b * lot) × (l.total ≡ l.sum + height l.costs l.periods l.initial.edges l.k l.x) × Gone l.periods l.initial.edges l.edges 0 l.k l.x × Near l.edges l.nearest l.n × (length l.nearest ≡ length l.initial.nearest)
-
-abbrev pub decreases-loop-k : goal.decreases-loop-k
-decreases-loop-k l = l.n - l.k
+abbrev pub invariant-loop-b : goal.invariant-loop-b
+invariant-loop-b l =
+    let t = l.fitting.terms in
+    (l.from ≡ min l.n (l.b * lot)) × (l.total ≡ l.sum + height t.costs.now t.periods.now l.initial.edges l.from l.x) × Gone t.periods.now l.initial.edges l.edges 0 l.from l.x × Near l.edges l.nearest (stairs_in l.fitting)

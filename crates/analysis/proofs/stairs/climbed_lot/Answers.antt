@@ -13,6 +13,6 @@ pub returns-then-x-nearest-clause-risen : goal.returns-then-x-nearest-clause-ris
 returns-then-x-nearest-clause-risen c =
     let a = c.args in
     record {
-      gained = omega (arith, height_still a.costs.now a.periods.now a.edges.now a.x a.from a.to c.requires.due.up (still c));
+      gained = omega (arith, height_still a.fitting.terms.costs.now a.fitting.terms.periods.now a.edges.now a.x a.from a.to c.requires.due.up (still c));
       gone = gone_still _ _ _ _ _ (still c);
     }

@@ -16,7 +16,7 @@ within c =
     let l = c.loop-k in
     let p = c.requires in
     let t = c.loop-k-test.true in
-    (omega (arith, l.invariant.3.long, p.known.long, t), l.invariant.3.long, omega (arith, p.stairs.costs_long, t), omega (arith, p.stairs.periods_long, t))
+    (omega (arith, l.invariant.1.long, p.known.long, t), l.invariant.1.long, omega (arith, p.stairs.costs_long, t), omega (arith, p.stairs.periods_long, t))
 
 -- where the edge goes on to
 on : (c : After-rises-d)
@@ -36,7 +36,7 @@ gained : (c : After-rises-d)
 gained c =
     let l = c.loop-k in
     let a = c.args in
-    gone_height a.costs.now a.periods.now a.edges.now l.edges a.from a.x l.k c.rises-d.result c.rises-d.ensures l.invariant.3
+    gone_height a.costs.now a.periods.now a.edges.now l.edges a.from a.x l.k c.rises-d.result c.rises-d.ensures l.invariant.1
 
 rest : (c : After-rises-d)
     → let l = c.loop-k in
@@ -44,7 +44,7 @@ rest : (c : After-rises-d)
 rest c =
     let a = c.args in
     let l = c.loop-k in
-    omega (arith, gained c, l.invariant.2, height_le a.costs.now a.periods.now a.edges.now a.x (l.k + 1) a.to (omega (arith, c.loop-k-test.true)), c.requires.room)
+    omega (arith, gained c, l.invariant.0, height_le a.costs.now a.periods.now a.edges.now a.x (l.k + 1) a.to (omega (arith, c.loop-k-test.true)), c.requires.room)
 
 pub overflow_mul-total : goal.overflow_mul-total
 overflow_mul-total c = omega (arith, rest (goal.at.overflow_mul-total c).After-rises-d)
@@ -57,9 +57,7 @@ loop-k-preserved c =
     let l = c.loop-k in
     let w = within (goal.at.loop-k-preserved c).In-loop-k in
     let r = (goal.at.loop-k-preserved c).After-rises-d in (
-      omega (arith, l.invariant.0),
-      omega (arith, c.loop-k-test.true),
-      omega (arith, gained r, l.invariant.2),
-      gone_more _ _ _ _ _ _ _ l.invariant.0 (omega (arith, w.0, w.1)) (on r) l.invariant.3,
-      nearest_more l.edges _ l.k _ _ _ w.0 c.nearer-nearest.ensures l.invariant.4,
+      omega (arith, gained r, l.invariant.0),
+      gone_more _ _ _ _ _ _ _ l.auto.k (omega (arith, w.0, w.1)) (on r) l.invariant.1,
+      nearest_more l.edges _ l.k _ _ _ w.0 c.min-nearest.ensures l.invariant.2,
     )
