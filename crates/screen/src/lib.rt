@@ -16,7 +16,7 @@ use plan::Stream;
 
 // The first of the values, as many as have room, over the places from the front; the places after them stay.
 fn over<T: Copy, const N: usize>(mut places: [T; N], values: &[T]) -> [T; N]
-    ensures { result ≡ take N values.now ++ drop (length values.now) places.entry }
+    ensures { result ≡ take N values.now ++ drop (length values.now) places }
 {
     let n = values.len().min(N);
     places[..n].copy_from_slice(&values[..n]);
