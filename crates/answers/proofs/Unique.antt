@@ -9,7 +9,7 @@ use Rattle.answers.proofs.answer_values.Kinds as answer-values-kinds
 use Rattle.answers.proofs.answer_values.Reads as answer-values
 
 pub answer_words_one : OneOutcome 2 answer-words-kinds.ps answer-words-kinds.r answer_words.Post
-answer_words_one κs a x y ws us p q = (p.0 ∙ sym q.0, ap (λ (l : List ℕ). (tt, (tt, (tt, (tt, (tt, (l, tt))))))) (p.1 ∙ sym q.1))
+answer_words_one κs a x y ws us p q = (p.0 ∙ sym q.0, ap (λ (l : List ℕ). (tt, (tt, (tt, (l, tt))))) (p.1 ∙ sym q.1))
 
 pub answer_values_one : OneOutcome 1 answer-values-kinds.ps answer-values-kinds.r answer-values.Post
 answer_values_one κs a x y ws us p q = (p.0 ∙ sym q.0, ap (λ (l : List ℕ). (tt, (tt, (l, tt)))) (p.1 ∙ sym q.1))

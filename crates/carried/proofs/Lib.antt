@@ -1,3 +1,4 @@
 pub mod Editions
+pub mod Pieces
 pub mod Plans
 pub mod Unique

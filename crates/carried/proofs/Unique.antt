@@ -1,5 +1,8 @@
 -- The contracts determine the outcomes: each equates the result with one value. Assumes nothing.
-use mathlib.Core.Path.{refl, sym, ◌∙◌}
+use mathlib.Core.Path.{◌≡◌, refl, sym, ◌∙◌}
+use borrow.Fn.Kinds.{Dens, res_t, ended_of}
+use contract.Lifetimes.{Lfts}
+use denote.Triple.Clauses.{Lasts, at_exit}
 use Rattle.laws.specs.Determined.{OneOutcome}
 use Rattle.carried.proofs.timing_body.Kinds as timing-body-kinds
 use Rattle.carried.proofs.timing_body.Reads as timing-body
@@ -27,6 +30,8 @@ use Rattle.carried.proofs.timing_from.Kinds as timing-from-kinds
 use Rattle.carried.proofs.timing_from.Reads as timing-from
 use Rattle.carried.proofs.no_streams.Kinds as no-streams-kinds
 use Rattle.carried.proofs.no_streams.Reads as no-streams
+use Rattle.carried.proofs.records.Kinds as records-kinds
+use Rattle.carried.proofs.records.Reads as records
 use Rattle.carried.proofs.sheet_in.Kinds as sheet-in-kinds
 use Rattle.carried.proofs.sheet_in.Reads as sheet-in
 
@@ -71,3 +76,9 @@ no_streams_one κs a x y ws us p q = (p ∙ sym q, refl)
 
 pub sheet_in_one : OneOutcome 1 sheet-in-kinds.ps sheet-in-kinds.r sheet-in.Post
 sheet_in_one κs a x y ws us p q = (p ∙ sym q, refl)
+
+-- What is lent is one; where it lies no contract says.
+pub records_one : (κs : Lfts 1) (a : Dens κs records-kinds.ps) (x y : (res_t records-kinds.r κs).Denot) (ws us : Lasts (ended_of 1 records-kinds.ps records-kinds.r) κs a)
+    → records.Post κs a x (at_exit (ended_of 1 records-kinds.ps records-kinds.r) κs a ws) → records.Post κs a y (at_exit (ended_of 1 records-kinds.ps records-kinds.r) κs a us)
+    → (x.now ≡ y.now) × (ws ≡ us)
+records_one κs a x y ws us p q = (p ∙ sym q, refl)

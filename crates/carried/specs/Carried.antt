@@ -1,6 +1,6 @@
 -- What is entered, in a file or by a caller, and the plan that is meant by it; both as the words that are carried, lent with their counts
 -- beside them; and a plan's one sheet.
-use Rattle.std.specs.Prelude.{◌≡◌, ℕ, ◌+◌, min, ◌≤◌, length, get_or, take}
+use Rattle.std.specs.Prelude.{◌≡◌, ℕ, ◌+◌, min, ◌≤◌, length, get_or, take, drop}
 use mathlib.Core.List.{List, [], ◌∷◌, ◌++◌, flat_map}
 use Rattle.names.specs.Limits.{streams, sources, ticks}
 use Rattle.laws.specs.Lists.{rows, placed}
@@ -86,6 +86,10 @@ stream_in ws k =
       deadline = get_or ws (k + 5) 0;
       acknowledgement = get_or ws (k + 6) 0;
     }
+
+-- the records of n streams, as they stand, seven words each
+abbrev pub records_in : ℕ → List ℕ → List (List ℕ)
+records_in n ws = rows n (λ r. take layout.stream_length (drop (layout.stream_at r) ws))
 
 -- n streams, and m gaps after them
 abbrev pub streams_in : ℕ → List ℕ → List Stream

@@ -16,10 +16,9 @@ ghost use Rattle.plan.specs.Plan.{blank as no_stream};
 ghost use Rattle.carried.specs.Layout as layout;
 ghost use Rattle.carried.specs.Carried.{held_timing, held, plain_timing};
 ghost use Rattle.carried.specs.Carried.{entered_timing_in, stream_in, streams_in, gaps_in, entered_in};
-ghost use Rattle.carried.specs.Carried.{timing_words, stream_words, entered_words, values_of, in_places, sheet_of};
+ghost use Rattle.carried.specs.Carried.{timing_words, stream_words, records_in, entered_words, values_of, in_places, sheet_of};
 
-use laws::smaller;
-use names::{Label, OLDER_STREAMS, Priority, SOURCES, STREAMS, TICKS};
+use names::{Label, OLDER_STREAMS, Priority, SOURCES, STREAMS};
 use plan::{Sheet, Stream, Timing};
 
 // A file of edition 1 has a plan without a master node, and no word for P; one of edition 2 has a plan with one; neither has a word for K.
@@ -80,8 +79,7 @@ pub fn timing_body(edition: Edition) -> usize
 {
     match edition {
         Edition::One => TIMING - 1,
-        Edition::Two => TIMING,
-        Edition::Three => TIMING,
+        Edition::Two | Edition::Three => TIMING,
     }
 }
 
@@ -92,8 +90,7 @@ pub fn stream_body(edition: Edition) -> usize
     ensures upper_bound { result ≤ layout.stream_length }
 {
     match edition {
-        Edition::One => STREAM - 1,
-        Edition::Two => STREAM - 1,
+        Edition::One | Edition::Two => STREAM - 1,
         Edition::Three => STREAM,
     }
 }
@@ -103,8 +100,7 @@ pub fn most_streams(edition: Edition) -> usize
     ensures { result ≡ layout.most_streams edition }
 {
     match edition {
-        Edition::One => OLDER_STREAMS,
-        Edition::Two => OLDER_STREAMS,
+        Edition::One | Edition::Two => OLDER_STREAMS,
         Edition::Three => STREAMS,
     }
 }
@@ -114,34 +110,21 @@ pub fn record_at(edition: Edition, r: u16) -> usize
     ensures value { result ≡ layout.record_at edition r }
     ensures upper_bound { result ≤ layout.stream_at r }
 {
-    match edition {
-        Edition::One => TIMING - 1 + (STREAM - 1) * r as usize,
-        Edition::Two => TIMING + (STREAM - 1) * r as usize,
-        Edition::Three => TIMING + STREAM * r as usize,
-    }
+    timing_body(edition) + stream_body(edition) * usize::from(r)
 }
 
 // Whether word k of those that are carried of n streams is the K of one of them.
 fn is_acknowledgement(n: usize, k: usize) -> bool
     ensures { result ≡ layout.is_acknowledgement n k }
 {
-    if k < TIMING {
-        return false;
-    }
-    if n <= (k - TIMING) / STREAM {
-        return false;
-    }
-    (k - TIMING) % STREAM == STREAM - 1
+    TIMING <= k && (k - TIMING) / STREAM < n && (k - TIMING) % STREAM == STREAM - 1
 }
 
 // How many K come before it.
 fn acknowledgements_before(n: usize, k: usize) -> usize
     ensures { result ≡ layout.acknowledgements_before n k }
 {
-    if k < TIMING {
-        return 0;
-    }
-    smaller(n, (k - TIMING) / STREAM)
+    n.min(k.saturating_sub(TIMING) / STREAM)
 }
 
 // Whether a file of n streams has word k of those that are carried: edition 1 has no P, and editions 1 and 2 have no K.
@@ -149,12 +132,7 @@ pub fn has_word(edition: Edition, n: usize, k: usize) -> bool
     ensures { result ≡ layout.has_word edition n k }
 {
     match edition {
-        Edition::One => {
-            if k == SLOT {
-                return false;
-            }
-            !is_acknowledgement(n, k)
-        }
+        Edition::One => k != SLOT && !is_acknowledgement(n, k),
         Edition::Two => !is_acknowledgement(n, k),
         Edition::Three => true,
     }
@@ -166,32 +144,30 @@ pub fn in_bodies(edition: Edition, n: usize, k: usize) -> usize
     ensures upper_bound { result ≤ k }
 {
     match edition {
-        Edition::One => {
-            if k < TIMING {
-                return k;
-            }
-            k - 1 - acknowledgements_before(n, k)
-        }
+        Edition::One if k < TIMING => k,
+        Edition::One => k - 1 - acknowledgements_before(n, k),
         Edition::Two => k - acknowledgements_before(n, k),
         Edition::Three => k,
     }
 }
 
 // A plan's timing is entered with a LAG of 0.
-fn entered(t: Timing) -> EnteredTiming
-    ensures { result ≡ plain_timing t }
-{
-    EnteredTiming {
-        f: t.f,
-        e: t.e,
-        tfcs: t.tfcs,
-        swx: t.swx,
-        h: t.h,
-        g: t.g,
-        etg: t.etg,
-        lag: 0,
-        nb: t.nb,
-        p: t.p,
+impl From<Timing> for EnteredTiming {
+    ghost from_gives = { λ t r. r ≡ plain_timing t };
+
+    fn from(t: Timing) -> EnteredTiming {
+        EnteredTiming {
+            f: t.f,
+            e: t.e,
+            tfcs: t.tfcs,
+            swx: t.swx,
+            h: t.h,
+            g: t.g,
+            etg: t.etg,
+            lag: 0,
+            nb: t.nb,
+            p: t.p,
+        }
     }
 }
 
@@ -205,7 +181,7 @@ fn entered_words(t: EnteredTiming) -> [u32; TIMING]
 pub fn timing_words(t: Timing) -> [u32; TIMING]
     ensures { result ≡ timing_words (plain_timing t) }
 {
-    entered_words(entered(t))
+    entered_words(EnteredTiming::from(t))
 }
 
 fn stream_words(s: Stream) -> [u32; STREAM]
@@ -227,9 +203,7 @@ fn lay<'a>(out: &'a mut [u32], k: usize, words: &'a [u32])
     requires { k + length words.now ≤ length out.old }
     ensures { out.new ≡ paste out.old k words.now (length words.now) }
 {
-    for i in 0..words.len() {
-        out[k + i] = words[i];
-    }
+    out[k..k + words.len()].copy_from_slice(words);
 }
 
 // The words of a timing, of the first of these streams and of the first of these gaps, as many as are counted. Of counts past the places
@@ -243,14 +217,12 @@ pub fn words_entered(
 ) -> [u32; CARRIED]
     ensures { result ≡ in_places (entered_words (record { timing = timing; streams = take count streams; gaps = take sources gaps })) }
 {
-    let n = smaller(count, STREAMS);
-    let m = smaller(sources, SOURCES);
+    let n = count.min(STREAMS);
+    let m = sources.min(SOURCES);
     let mut out = [0; CARRIED];
-    let words = entered_words(timing);
-    lay(&mut out, 0, &words);
-    for r in 0..n {
-        let words = stream_words(streams[r]);
-        lay(&mut out, TIMING + STREAM * r, &words);
+    lay(&mut out, 0, &entered_words(timing));
+    for (r, stream) in streams[..n].iter().enumerate() {
+        lay(&mut out, TIMING + STREAM * r, &stream_words(*stream));
     }
     lay(&mut out, TIMING + STREAM * n, &gaps[..m]);
     out
@@ -260,21 +232,23 @@ pub fn words_entered(
 pub fn words_of(sheet: Sheet) -> [u32; CARRIED]
     ensures { result ≡ in_places (values_of (plan_of sheet)) }
 {
-    let timing = entered(sheet.timing);
-    let streams = sheet.streams;
-    let gaps = sheet.gaps;
-    words_entered(timing, streams, sheet.count, gaps, sheet.sources)
+    let timing = EnteredTiming::from(sheet.timing);
+    words_entered(
+        timing,
+        sheet.streams,
+        sheet.count,
+        sheet.gaps,
+        sheet.sources,
+    )
 }
 
 // The words that a caller lends. What has no place is not taken, and a word that is not lent is 0.
 pub fn words_from(values: &[u32]) -> [u32; CARRIED]
     ensures { result ≡ in_places values.now }
 {
-    let n = smaller(values.len(), CARRIED);
+    let n = values.len().min(CARRIED);
     let mut out = [0; CARRIED];
-    for i in 0..n {
-        out[i] = values[i];
-    }
+    out[..n].copy_from_slice(&values[..n]);
     out
 }
 
@@ -300,36 +274,25 @@ fn entered_in(words: &[u32; CARRIED]) -> EnteredTiming
 pub fn timing_from(values: &[u32]) -> EnteredTiming
     ensures { result ≡ entered_timing_in values.now }
 {
-    let words = words_from(values);
-    entered_in(&words)
+    entered_in(&words_from(values))
 }
 
-// ETG and LAG as the one ETG of a plan, as much of it as a word holds.
-fn joined(etg: u32, lag: u32) -> u32
-    ensures { result ≡ min (etg + lag) limit.ticks }
-{
-    let sum = etg as u64 + lag as u64;
-    if TICKS < sum {
-        TICKS as u32
-    } else {
-        sum as u32
-    }
-}
+// The one place where a LAG is added to ETG: as much of the sum as a word holds.
+impl From<EnteredTiming> for Timing {
+    ghost from_gives = { λ t r. r ≡ held_timing t };
 
-// The one place where a LAG is added to ETG.
-fn meant(t: EnteredTiming) -> Timing
-    ensures { result ≡ held_timing t }
-{
-    Timing {
-        f: t.f,
-        e: t.e,
-        tfcs: t.tfcs,
-        swx: t.swx,
-        h: t.h,
-        g: t.g,
-        etg: joined(t.etg, t.lag),
-        nb: t.nb,
-        p: t.p,
+    fn from(t: EnteredTiming) -> Timing {
+        Timing {
+            f: t.f,
+            e: t.e,
+            tfcs: t.tfcs,
+            swx: t.swx,
+            h: t.h,
+            g: t.g,
+            etg: t.etg.saturating_add(t.lag),
+            nb: t.nb,
+            p: t.p,
+        }
     }
 }
 
@@ -337,22 +300,21 @@ fn meant(t: EnteredTiming) -> Timing
 pub fn timing_in(words: &[u32; CARRIED]) -> Timing
     ensures { result ≡ held_timing (entered_timing_in words.now) }
 {
-    meant(entered_in(words))
+    Timing::from(entered_in(words))
 }
 
-// The one place where a stream is built. It starts at word k.
-fn stream_in(words: &[u32], k: usize) -> Stream
-    requires { k + layout.stream_length ≤ length words.now }
-    ensures { result ≡ stream_in words.now k }
+// The one place where a stream is built.
+fn stream_in(words: &[u32; STREAM]) -> Stream
+    ensures { result ≡ stream_in words.now 0 }
 {
     Stream {
-        label: Label(words[k]),
-        priority: Priority(words[k + 1]),
-        period: words[k + 2],
-        jitter: words[k + 3],
-        payload: words[k + 4],
-        deadline: words[k + 5],
-        acknowledgement: words[k + 6],
+        label: Label(words[0]),
+        priority: Priority(words[1]),
+        period: words[2],
+        jitter: words[3],
+        payload: words[4],
+        deadline: words[5],
+        acknowledgement: words[6],
     }
 }
 
@@ -360,8 +322,15 @@ fn stream_in(words: &[u32], k: usize) -> Stream
 pub fn no_streams() -> [Stream; STREAMS]
     ensures { result ≡ replicate limit.streams no_stream }
 {
-    let zeros = [0; STREAM];
-    [stream_in(&zeros, 0); STREAMS]
+    [stream_in(&[0; STREAM]); STREAMS]
+}
+
+// The records of the first n streams; of a count past the places there are as many as there are places.
+pub fn records(words: &[u32; CARRIED], n: usize) -> &[[u32; STREAM]]
+    ensures { result.now ≡ records_in (min n limit.streams) words.now }
+{
+    let (records, _) = words[TIMING..].as_chunks::<STREAM>();
+    &records[..n.min(STREAMS)]
 }
 
 fn streams_in(words: &[u32; CARRIED], n: usize) -> [Stream; STREAMS]
@@ -369,8 +338,8 @@ fn streams_in(words: &[u32; CARRIED], n: usize) -> [Stream; STREAMS]
     ensures { result ≡ placed limit.streams no_stream (streams_in n words.now) }
 {
     let mut out = no_streams();
-    for r in 0..n {
-        out[r] = stream_in(words, TIMING + STREAM * r);
+    for (r, record) in records(words, n).iter().enumerate() {
+        out[r] = stream_in(record);
     }
     out
 }
@@ -380,10 +349,9 @@ fn gaps_in(words: &[u32; CARRIED], n: usize, m: usize) -> [u32; SOURCES]
     requires m_le_sources { m ≤ limit.sources }
     ensures { result ≡ placed limit.sources 0 (gaps_in n m words.now) }
 {
+    let first = TIMING + STREAM * n;
     let mut out = [0; SOURCES];
-    for k in 0..m {
-        out[k] = words[TIMING + STREAM * n + k];
-    }
+    out[..m].copy_from_slice(&words[first..first + m]);
     out
 }
 
@@ -391,16 +359,13 @@ fn gaps_in(words: &[u32; CARRIED], n: usize, m: usize) -> [u32; SOURCES]
 pub fn sheet_in(words: &[u32; CARRIED], n: usize, m: usize) -> Sheet
     ensures { result ≡ sheet_of (held (entered_in (min n limit.streams) (min m limit.sources) words.now)) }
 {
-    let count = smaller(n, STREAMS);
-    let sources = smaller(m, SOURCES);
-    let timing = timing_in(words);
-    let streams = streams_in(words, count);
-    let gaps = gaps_in(words, count, sources);
+    let count = n.min(STREAMS);
+    let sources = m.min(SOURCES);
     Sheet {
-        timing,
-        streams,
+        timing: timing_in(words),
+        streams: streams_in(words, count),
         count,
-        gaps,
+        gaps: gaps_in(words, count, sources),
         sources,
     }
 }

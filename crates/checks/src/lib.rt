@@ -15,17 +15,16 @@ ghost use Rattle.carried.specs.Layout as layout;
 ghost use Rattle.plan.specs.Plan.{TimingWithin};
 ghost use Rattle.costs.specs.Costs.{most_V, most_U};
 ghost use Rattle.carried.specs.Carried.{entered_timing_in, timing_in, streams_in, entered_in};
-ghost use Rattle.checks.specs.Checks.{range_lines, field_lines, lag_lines, row_lines, slot_lines, lines, checked_of};
+ghost use Rattle.checks.specs.Checks.{in_range, range_lines, field_lines, lag_lines, row_lines, slot_lines, lines, checked_of};
 
 use carried::{
-    CARRIED, CONTENTS, ETG, Edition, LAG, STREAM, TIMING, WORD, in_bodies, most_streams, timing_in,
-    words_of,
+    CARRIED, CONTENTS, Counts, ETG, Edition, LAG, STREAM, TIMING, WORD, in_bodies, most_streams,
+    timing_in, words_of,
 };
 use costs::overheads_of;
 use fields::outside;
 use judge::refused;
-use laws::smaller;
-use names::{CONSTANT, FEW, SOURCES, STREAMS};
+use names::{CONSTANT, FEW, Refusal, Row, SOURCES, STREAMS};
 use plan::Sheet;
 use repeats::first_repeat;
 
@@ -78,20 +77,21 @@ fn repeat_of(words: &[u32; CARRIED], n: usize, k: usize) -> Option<Row>
     repeat_in(words, n, k, &mut room)
 }
 
-// 2: n is not 1 to 256, in editions 1 and 2 not 1 to 64, or m is more than 8.
-pub fn check_counts(edition: Edition, n: usize, m: usize) -> Result<(), Refusal>
-    ensures { result ≡ judge (range_lines edition n m) }
+// Whether there may be so many streams and gaps.
+fn in_range(counts: Counts) -> bool
+    ensures { result ≡ in_range counts.edition counts.n counts.m }
 {
-    if n < 1 {
-        return refused(2, 0);
+    1 <= counts.n && counts.n <= most_streams(counts.edition) && counts.m <= SOURCES
+}
+
+// 2: n is not 1 to 256, in editions 1 and 2 not 1 to 64, or m is more than 8.
+pub fn check_counts(counts: Counts) -> Result<(), Refusal>
+    ensures { result ≡ judge (range_lines counts.edition counts.n counts.m) }
+{
+    if in_range(counts) {
+        return Ok(());
     }
-    if most_streams(edition) < n {
-        return refused(2, 0);
-    }
-    if SOURCES < m {
-        return refused(2, 0);
-    }
-    Ok(())
+    refused(2, 0)
 }
 
 // Where in a file of n streams word k of those that are carried stands.
@@ -104,17 +104,12 @@ fn byte_of(edition: Edition, n: usize, k: usize) -> usize
 
 // 3: the byte of the lowest field outside its limits, of what is entered in the words of n streams and m gaps. Of counts past the limits
 // there are as many as there may be; with no stream the timing and the gaps alone are looked at.
-pub fn check_fields(
-    edition: Edition,
-    words: &[u32; CARRIED],
-    n: usize,
-    m: usize,
-) -> Result<(), Refusal>
-    ensures { result ≡ judge (field_lines edition (entered_in (min n limit.streams) (min m limit.sources) words.now)) }
+pub fn check_fields(counts: Counts, words: &[u32; CARRIED]) -> Result<(), Refusal>
+    ensures { result ≡ judge (field_lines counts.edition (entered_in (min counts.n limit.streams) (min counts.m limit.sources) words.now)) }
 {
-    let rows = smaller(n, STREAMS);
-    match outside(edition, words, n, m) {
-        Some(k) => refused(3, byte_of(edition, rows, k as usize)),
+    let rows = counts.n.min(STREAMS);
+    match outside(counts, words) {
+        Some(k) => refused(3, byte_of(counts.edition, rows, k as usize)),
         None => Ok(()),
     }
 }
@@ -140,15 +135,14 @@ pub fn check_lag(words: &[u32; CARRIED]) -> Result<(), Refusal>
 pub fn check_rows(words: &[u32; CARRIED], n: usize) -> Result<(), Refusal>
     ensures { result ≡ judge (row_lines (streams_in (min n limit.streams) words.now)) }
 {
-    let count = smaller(n, STREAMS);
-    match repeat_of(words, count, PRIORITY) {
-        Some(r) => return refused(4, r.0),
-        None => {}
+    let count = n.min(STREAMS);
+    if let Some(r) = repeat_of(words, count, PRIORITY) {
+        return refused(4, r.0);
     }
-    match repeat_of(words, count, LABEL) {
-        Some(r) => refused(5, r.0),
-        None => Ok(()),
+    if let Some(r) = repeat_of(words, count, LABEL) {
+        return refused(5, r.0);
     }
+    Ok(())
 }
 
 // Whether a message does not fit its slot: what comes to its payload and its acknowledgement is given beside.
@@ -189,25 +183,24 @@ fn check_slots(words: &[u32; CARRIED], n: usize) -> Result<(), Refusal>
 
 // The first refusal of 2, 3, 11, 4, 5, 10 that applies to what is entered in the words of n streams and m gaps, as they stand in a file of an
 // edition.
-pub fn check_words(
-    edition: Edition,
-    words: &[u32; CARRIED],
-    n: usize,
-    m: usize,
-) -> Result<(), Refusal>
-    ensures { result ≡ judge (lines edition n m (entered_in n m words.now)) }
+pub fn check_words(counts: Counts, words: &[u32; CARRIED]) -> Result<(), Refusal>
+    ensures { result ≡ judge (lines counts.edition counts.n counts.m (entered_in counts.n counts.m words.now)) }
 {
-    check_counts(edition, n, m)?;
-    check_fields(edition, words, n, m)?;
+    check_counts(counts)?;
+    check_fields(counts, words)?;
     check_lag(words)?;
-    check_rows(words, n)?;
-    check_slots(words, n)
+    check_rows(words, counts.n)?;
+    check_slots(words, counts.n)
 }
 
 // The same of a sheet's values, with the places of edition 3.
 pub fn check(sheet: Sheet) -> Result<(), Refusal>
     ensures { result ≡ checked_of sheet }
 {
-    let words = words_of(sheet);
-    check_words(Edition::Three, &words, sheet.count, sheet.sources)
+    let counts = Counts {
+        edition: Edition::Three,
+        n: sheet.count,
+        m: sheet.sources,
+    };
+    check_words(counts, &words_of(sheet))
 }

@@ -13,8 +13,7 @@ ghost use Rattle.carried.specs.Carried.{entered_timing_in, streams_in, gaps_in, 
 ghost use Rattle.fields.specs.Fields.{slot_least, slot_most, timing_fields, stream_fields, gap_field, fields, lowest};
 ghost use Rattle.fields.specs.private.Bands.{fields_of};
 
-use carried::{CARRIED, Edition, STREAM, TIMING};
-use laws::smaller;
+use carried::{CARRIED, Counts, Edition, STREAM, TIMING};
 use names::{ACKNOWLEDGEMENT, BITS, CONSTANT, PAYLOAD, SLOT, SOURCES, STREAMS, TICKS};
 
 // The timing's word that has the number of priority bits.
@@ -126,18 +125,15 @@ fn gaps_outside(words: &[u32], n: usize, m: usize) -> Option<u64>
 
 // The lowest field that is outside its limits in an edition, counted from 0, of what is entered in the words of n streams and m gaps; of
 // counts past the limits there are as many as there may be. No number is raised to the power NB before NB is known to be in its limits.
-pub fn outside(edition: Edition, words: &[u32; CARRIED], n: usize, m: usize) -> Option<u64>
-    ensures { result ≡ lowest 0 (fields edition (entered_in (min n limit.streams) (min m limit.sources) words.now)) }
+pub fn outside(counts: Counts, words: &[u32; CARRIED]) -> Option<u64>
+    ensures { result ≡ lowest 0 (fields counts.edition (entered_in (min counts.n limit.streams) (min counts.m limit.sources) words.now)) }
 {
-    let rows = smaller(n, STREAMS);
-    match timing_outside(edition, words) {
-        Some(p) => return Some(p),
-        None => {}
+    if let Some(p) = timing_outside(counts.edition, words) {
+        return Some(p);
     }
-    let nb = words[NB];
-    match streams_outside(words, rows, nb) {
-        Some(p) => return Some(p),
-        None => {}
+    let rows = counts.n.min(STREAMS);
+    if let Some(p) = streams_outside(words, rows, words[NB]) {
+        return Some(p);
     }
-    gaps_outside(words, rows, smaller(m, SOURCES))
+    gaps_outside(words, rows, counts.m.min(SOURCES))
 }

@@ -11,7 +11,7 @@ unfolding answer_of
 returns-clause-value c =
     let s = c.args.s in
     let out = c.args.out.now in
-    let e = ap (λ ws. answer_with c.args.told Three s.count s.sources (entered_in s.count s.sources ws) out) c.words_of-words.ensures
+    let e = ap (λ ws. answer_with c.args.told Three s.count s.sources (entered_in s.count s.sources ws) out) c.words_of.ensures
     ∙ same_answer c.args.told s (_, c.well_formed.1.0.1.1) out in
     c.answer_words.ensures.value ∙ ap (λ o. o.0) e
 
@@ -20,6 +20,6 @@ unfolding answer_of
 returns-clause-out_after c =
     let s = c.args.s in
     let out = c.args.out.now in
-    let e = ap (λ ws. answer_with c.args.told Three s.count s.sources (entered_in s.count s.sources ws) out) c.words_of-words.ensures
+    let e = ap (λ ws. answer_with c.args.told Three s.count s.sources (entered_in s.count s.sources ws) out) c.words_of.ensures
     ∙ same_answer c.args.told s (_, c.well_formed.1.0.1.1) out in
     c.answer_words.ensures.out_after ∙ ap (λ o. o.1) e

@@ -1,16 +1,21 @@
-use mathlib.Core.Path.{refl}
+-- The gaps stand in the first places, and 0 in the others. Assumes nothing.
+use mathlib.Core.Path.{◌≡◌, sym, ap, ◌∙◌}
+use Prim.Native.Nat.{◌+◌, ◌-◌}
 use native.Mathlib.Omega.{arith}
-use lib.ListN.{get_or}
-use Rattle.names.specs.Limits as limit
+use lib.ListN.{take, drop}
+use Rattle.names.specs.Limits.{sources}
+use Rattle.laws.proofs.Lists.{length_rows}
 use Rattle.carried.specs.Layout as layout
-use Rattle.laws.proofs.Placed.{no_rows_placed, row_placed}
+use Rattle.carried.specs.Carried.{gaps_in}
+use Rattle.carried.proofs.Pieces.{put_short}
+use Rattle.carried.proofs.Plans.{gaps_back}
 use Rattle.carried.proofs.gaps_in.Goals as goal
 
-pub loop-k-init : goal.loop-k-init
-loop-k-init c = (omega arith, no_rows_placed limit.sources 0 _)
-
-pub loop-k-preserved : goal.loop-k-preserved
-loop-k-preserved c =
-    let l = c.loop-k in
+pub returns : goal.returns
+returns c =
     let a = c.args in
-    (omega arith, row_placed limit.sources 0 (λ k. get_or a.words.now (layout.gap_at a.n k) 0) l.k (omega arith) l.invariant.1 refl)
+    let ws = a.words.now in
+    let first = layout.stream_at a.n in
+    let many : first + a.m - first ≡ a.m = omega arith in
+    put_short sources a.m 0 (gaps_in a.n a.m ws) (length_rows a.m _) (omega arith)
+    (c.copy_from_slice.ensures.after ∙ ap (λ k. take k (drop first ws)) many ∙ sym (gaps_back ws a.n a.m (omega arith)))

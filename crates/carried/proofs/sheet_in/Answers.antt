@@ -12,11 +12,11 @@ pub returns : goal.returns
 unfolding entered_in
 returns c =
     let ws = c.args.words.now in
-    let n : c.smaller-count.result ≡ min c.args.n streams = c.smaller-count.ensures in
-    let m : c.smaller-sources.result ≡ min c.args.m sources = c.smaller-sources.ensures in
-    let count = sym (length_rows c.smaller-count.result (λ r. stream_in ws (layout.stream_at r))) in
-    let sources = sym (length_rows c.smaller-sources.result (λ k. get_or ws (layout.gap_at c.smaller-count.result k) 0)) in
-    let timing = c.timing_in-timing.ensures in
-    let rows = c.streams_in-streams.ensures in
-    let gaps = c.gaps_in-gaps.ensures in
+    let n : c.min-count.result ≡ min c.args.n streams = c.min-count.ensures in
+    let m : c.min-sources.result ≡ min c.args.m sources = c.min-sources.ensures in
+    let count = sym (length_rows c.min-count.result (λ r. stream_in ws (layout.stream_at r))) in
+    let sources = sym (length_rows c.min-sources.result (λ k. get_or ws (layout.gap_at c.min-count.result k) 0)) in
+    let timing = c.timing_in.ensures in
+    let rows = c.streams_in.ensures in
+    let gaps = c.gaps_in.ensures in
     rw (← n, ← m) (λ i. record { timing = timing i; streams = rows i; count = count i; gaps = gaps i; sources = sources i })

@@ -1,6 +1,6 @@
 -- After r turns the first r places hold the streams of the first r rows, and the others are blank. Assumes nothing.
 use mathlib.Core.Path.{◌≡◌}
-use Prim.Native.Nat.{◌-◌, ◌≤◌}
+use Prim.Native.Nat.{◌≤◌}
 use Rattle.names.specs.Limits as limit
 use Rattle.laws.specs.Lists.{rows, placed}
 use Rattle.plan.specs.Plan.{blank}
@@ -10,7 +10,4 @@ use Rattle.carried.proofs.streams_in.Given as goal
 
 abbrev pub invariant-loop-r : goal.invariant-loop-r
 invariant-loop-r l =
-    (l.r ≤ l.n) × (l.out ≡ placed limit.streams blank (rows l.r (λ k. stream_in l.words (layout.stream_at k))))
-
-abbrev pub decreases-loop-r : goal.decreases-loop-r
-decreases-loop-r l = l.n - l.r
+    (l.r ≤ l.fn.n) × (l.out ≡ placed limit.streams blank (rows l.r (λ k. stream_in l.fn.words (layout.stream_at k))))

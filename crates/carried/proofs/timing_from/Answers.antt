@@ -7,5 +7,5 @@ use Rattle.carried.proofs.timing_from.Goals as goal
 pub returns : goal.returns
 returns c =
     c.entered_in.ensures
-    ∙ ap entered_timing_in c.words_from-words.ensures
+    ∙ ap entered_timing_in c.words_from.ensures
     ∙ timing_in_places c.args.values.now

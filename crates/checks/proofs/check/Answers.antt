@@ -11,5 +11,5 @@ pub returns : goal.returns
 returns c =
     let s = c.args.sheet in
     c.check_words.ensures
-    ∙ ap (λ ws. judge (lines Three s.count s.sources (entered_in s.count s.sources ws))) c.words_of-words.ensures
+    ∙ ap (λ ws. judge (lines Three s.count s.sources (entered_in s.count s.sources ws))) c.words_of.ensures
     ∙ same_check s (_, c.well_formed.0.1.1)

@@ -10,6 +10,7 @@ use Rattle.judge.specs.Table.{Checked}
 use Rattle.judge.specs.Table.{judge, ◌then◌}
 use Rattle.judge.proofs.Table.{not_given}
 use Rattle.plan.specs.Plan.{TimingWithin}
+use Rattle.carried.specs.declared.Edition.{Edition}
 use Rattle.carried.specs.Carried.{entered_timing_in, timing_in, streams_in, entered_in}
 use Rattle.fields.specs.Fields.{fields}
 use Rattle.fields.proofs.Inside.{nothing_if_inside}
@@ -18,24 +19,15 @@ use Rattle.checks.specs.Checks.{range_lines, field_lines, lag_lines, row_lines, 
 use Rattle.checks.proofs.Counts.{fine_range, carried_in_parts}
 use Rattle.checks.proofs.Fine.{byte_not, lag_fine, another_etg}
 use Rattle.checks.proofs.check_words.Goals as goal
-use Rattle.checks.proofs.check_words.Goals.{In-Fine, In-Fine-check_fields, In-Fine-check_lag, Start}
+use Rattle.std.proofs.lemmas.Result.{err_from_is_err_and}
 
--- the parts of the table of what is asked about
-module _ (b : Start) where
-  abbrev n : ℕ
-  n = b.args.n
-
-  abbrev m : ℕ
-  m = b.args.m
-
-  abbrev ws : List ℕ
-  ws = b.args.words.now
-
+-- the parts of the table of what is asked about, once those before are known to be fine
+module _ (edition : Edition) (n m : ℕ) (ws : List ℕ) where
   abbrev all : Checked
-  all = judge (lines b.args.edition n m (entered_in n m ws))
+  all = judge (lines edition n m (entered_in n m ws))
 
   abbrev fields_of : ℕ → ℕ → Checked
-  fields_of i j = judge (field_lines b.args.edition (entered_in i j ws))
+  fields_of i j = judge (field_lines edition (entered_in i j ws))
 
   abbrev lag_of : Checked
   lag_of = judge (lag_lines (entered_timing_in ws))
@@ -47,20 +39,20 @@ module _ (b : Start) where
   slots_of k = judge (slot_lines (timing_in ws) (streams_in k ws))
 
   -- the table of what is asked about, part by part
-  parts : all ≡ judge (range_lines b.args.edition n m) then fields_of n m then lag_of then rows_of n then slots_of n
+  parts : all ≡ judge (range_lines edition n m) then fields_of n m then lag_of then rows_of n then slots_of n
   unfolding entered_in
-  parts = carried_in_parts b.args.edition n m ws
+  parts = carried_in_parts edition n m ws
 
-  counts_refused : (r : Refusal) → judge (range_lines b.args.edition n m) ≡ Err r → all ≡ Err r
+  counts_refused : (r : Refusal) → judge (range_lines edition n m) ≡ Err r → all ≡ Err r
   counts_refused r e = parts ∙ ap (λ c. c then fields_of n m then lag_of then rows_of n then slots_of n) e
 
-  module _ (fine : judge (range_lines b.args.edition n m) ≡ Ok tt) where
+  module _ (fine : judge (range_lines edition n m) ≡ Ok tt) where
     -- the plan is no larger than it may be
     few : n ≤ streams
-    few = (fine_range b.args.edition n m fine).1
+    few = (fine_range edition n m fine).1
 
     least : (min n streams ≡ n) × (min m sources ≡ m)
-    least = (omega (arith, few), omega (arith, (fine_range b.args.edition n m fine).2))
+    least = (omega (arith, few), omega (arith, (fine_range edition n m fine).2))
 
     after_fields : (c : Checked) → fields_of (min n streams) (min m sources) ≡ c → all ≡ c then lag_of then rows_of n then slots_of n
     after_fields c e =
@@ -81,50 +73,40 @@ module _ (b : Start) where
         unfolding entered_in
         timing =
             let v = entered_in (min n streams) (min m sources) ws in
-            let w = (inside_if_fields_within b.args.edition v).0 ((nothing_if_inside 0 (fields b.args.edition v)).0 (byte_not b.args.edition _ _ (not_given _ _ inside).0)) in
+            let w = (inside_if_fields_within edition v).0 ((nothing_if_inside 0 (fields edition v)).0 (byte_not edition _ _ (not_given _ _ inside).0)) in
             another_etg (entered_timing_in ws) w.timing (lag_fine (entered_timing_in ws) [] folds)
 
-counts_fine : (t : In-Fine) → let b = t.before.before in judge (range_lines b.args.edition b.args.n b.args.m) ≡ Ok tt
-counts_fine t = sym t.check_counts.ensures ∙ t.in-Fine.is
+pub returns-in_err-check_counts : goal.returns-in_err-check_counts
+returns-in_err-check_counts c =
+    let a = c.args in
+    let p = err_from_is_err_and c.from_residual.result c.from_residual.ensures.1 in
+    rw (p.1, p.2) (sym (counts_refused a.counts.edition a.counts.n a.counts.m a.words.now _ (sym c.check_counts.ensures ∙ c.in_err-check_counts.was)))
 
-fields_fine : (u : In-Fine-check_fields) → let b = u.before.before.before.before in fields_of b (min b.args.n streams) (min b.args.m sources) ≡ Ok tt
-fields_fine u = sym u.check_fields.ensures ∙ u.in-Fine-check_fields.is
+pub returns-in_err-check_fields : goal.returns-in_err-check_fields
+returns-in_err-check_fields c =
+    let a = c.args in
+    let p = err_from_is_err_and c.from_residual-in_err-check_fields.result c.from_residual-in_err-check_fields.ensures.1 in
+    rw (p.1, p.2) (sym (after_fields a.counts.edition a.counts.n a.counts.m a.words.now (sym c.check_counts.ensures ∙ c.in_ok-check_counts.was) (Err _) (sym c.check_fields.ensures ∙ c.in_err-check_fields.was)))
 
-sum_fine : (v : In-Fine-check_lag) → lag_of v.before.before.before.before.before.before ≡ Ok tt
-sum_fine v = sym v.check_lag.ensures ∙ v.in-Fine-check_lag.is
+pub returns-in_err-check_lag : goal.returns-in_err-check_lag
+returns-in_err-check_lag c =
+    let a = c.args in
+    let p = err_from_is_err_and c.from_residual-in_err-check_lag.result c.from_residual-in_err-check_lag.ensures.1 in
+    rw (p.1, p.2) (sym (after_lag a.counts.edition a.counts.n a.counts.m a.words.now (sym c.check_counts.ensures ∙ c.in_ok-check_counts.was) (sym c.check_fields.ensures ∙ c.in_ok-check_fields.was) (Err _) (sym c.check_lag.ensures ∙ c.in_err-check_lag.was)))
 
-pub returns-in-Refused : goal.returns-in-Refused
-returns-in-Refused c =
-    let at = goal.at.returns-in-Refused c in
-    sym (counts_refused at.Start _ (sym c.check_counts.ensures ∙ c.in-Refused.is))
-
-pub returns-in-Refused-check_fields : goal.returns-in-Refused-check_fields
-returns-in-Refused-check_fields c =
-    let at = goal.at.returns-in-Refused-check_fields c in
-    sym (after_fields at.Start (counts_fine at.In-Fine) (Err _) (sym c.check_fields.ensures ∙ c.in-Refused-check_fields.is))
-
-pub returns-in-Refused-check_lag : goal.returns-in-Refused-check_lag
-returns-in-Refused-check_lag c =
-    let at = goal.at.returns-in-Refused-check_lag c in
-    sym (after_lag at.Start (counts_fine at.In-Fine) (fields_fine at.In-Fine-check_fields) (Err _) (sym c.check_lag.ensures ∙ c.in-Refused-check_lag.is))
-
-pub returns-in-Refused-check_rows : goal.returns-in-Refused-check_rows
-returns-in-Refused-check_rows c =
-    let at = goal.at.returns-in-Refused-check_rows c in
-    sym (after_rows at.Start (counts_fine at.In-Fine) (fields_fine at.In-Fine-check_fields) (sum_fine at.In-Fine-check_lag) (Err _) (sym c.check_rows.ensures ∙ c.in-Refused-check_rows.is))
+pub returns-in_err-check_rows : goal.returns-in_err-check_rows
+returns-in_err-check_rows c =
+    let a = c.args in
+    let p = err_from_is_err_and c.from_residual-in_err-check_rows.result c.from_residual-in_err-check_rows.ensures.1 in
+    rw (p.1, p.2) (sym (after_rows a.counts.edition a.counts.n a.counts.m a.words.now (sym c.check_counts.ensures ∙ c.in_ok-check_counts.was) (sym c.check_fields.ensures ∙ c.in_ok-check_fields.was) (sym c.check_lag.ensures ∙ c.in_ok-check_lag.was) (Err _) (sym c.check_rows.ensures ∙ c.in_err-check_rows.was)))
 
 pub returns : goal.returns
 returns c =
-    let at = goal.at.returns c in
-    c.check_slots.ensures
-    ∙ sym (after_rows at.Start (counts_fine at.In-Fine) (fields_fine at.In-Fine-check_fields) (sum_fine at.In-Fine-check_lag) (Ok tt) (sym c.check_rows.ensures ∙ c.in-Fine-check_rows.is))
+    let a = c.args in
+    c.check_slots.ensures ∙ sym (after_rows a.counts.edition a.counts.n a.counts.m a.words.now (sym c.check_counts.ensures ∙ c.in_ok-check_counts.was) (sym c.check_fields.ensures ∙ c.in_ok-check_fields.was) (sym c.check_lag.ensures ∙ c.in_ok-check_lag.was) (Ok tt) (sym c.check_rows.ensures ∙ c.in_ok-check_rows.was))
 
 pub check_slots-requires-clause-timing_within : goal.check_slots-requires-clause-timing_within
-check_slots-requires-clause-timing_within c =
-    let at = goal.at.check_slots-requires-clause-timing_within c in
-    timing at.Start (counts_fine at.In-Fine) (fields_fine at.In-Fine-check_fields) (sum_fine at.In-Fine-check_lag)
+check_slots-requires-clause-timing_within c = let a = c.args in timing a.counts.edition a.counts.n a.counts.m a.words.now (sym c.check_counts.ensures ∙ c.in_ok-check_counts.was) (sym c.check_fields.ensures ∙ c.in_ok-check_fields.was) (sym c.check_lag.ensures ∙ c.in_ok-check_lag.was)
 
 pub check_slots-requires-clause-n_le_streams : goal.check_slots-requires-clause-n_le_streams
-check_slots-requires-clause-n_le_streams c =
-    let at = goal.at.check_slots-requires-clause-n_le_streams c in
-    few at.Start (counts_fine at.In-Fine)
+check_slots-requires-clause-n_le_streams c = let a = c.args in few a.counts.edition a.counts.n a.counts.m a.words.now (sym c.check_counts.ensures ∙ c.in_ok-check_counts.was)

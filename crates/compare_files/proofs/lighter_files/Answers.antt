@@ -3,7 +3,6 @@ use mathlib.Core.Path.{◌≡◌, ap₂, ◌∙◌}
 use mathlib.Core.List.{List}
 use Prim.Native.Nat.{ℕ}
 use Rattle.plan.specs.Plan.{plan_of}
-use Rattle.file.specs.declared.ReadPlan.{ReadPlan}
 use Rattle.compare.specs.declared.Compared.{Compared}
 use Rattle.compare.specs.Changes.{changes, compared_as}
 use Rattle.compare_files.specs.Files.{compared_files, SaysLighterOfFiles}

@@ -26,14 +26,14 @@ module _ (words : List ℕ) (n nb r : ℕ) {top : ℕ} (h : r < n) (long : layou
       let row : get_or (in_words words n) r blank ≡ stream_in words at = ap (λ l. get_or l r blank) (sym (append-nil (in_words words n))) ∙ rows_front (λ k. stream_in words (layout.stream_at k)) [] blank n r h in
       rw (part, e, row, ← seven_back words at (omega arith)) refl
 
-pub returns-in-At : goal.returns-in-At
-returns-in-At c =
+pub returns-in-Some : goal.returns-in-Some
+returns-in-Some c =
     let l = c.loop-r in
     let t = c.largest_priority in
     let a = c.args in
     let ws = a.words.now in
     sym (stream_here a.nb (in_words ws a.n) l.r blank (omega (arith, length_rows a.n (λ k. stream_in ws (layout.stream_at k)))) l.invariant.1 _
-    (sym (stream_found ws a.n a.nb l.r (omega arith) (omega arith) t.ensures) ∙ sym c.in-At.ensures))
+    (sym (stream_found ws a.n a.nb l.r (omega arith) (omega arith) t.ensures) ∙ sym c.in-Some.ensures))
 
 pub loop-r-preserved : goal.loop-r-preserved
 loop-r-preserved c =
@@ -43,7 +43,7 @@ loop-r-preserved c =
     let ws = a.words.now in (
       omega arith,
       stream_not_here a.nb (in_words ws a.n) l.r blank (omega (arith, length_rows a.n (λ k. stream_in ws (layout.stream_at k)))) l.invariant.1
-          (sym (stream_found ws a.n a.nb l.r (omega arith) (omega arith) t.ensures) ∙ sym c.in-Nothing.ensures),
+          (sym (stream_found ws a.n a.nb l.r (omega arith) (omega arith) t.ensures) ∙ sym c.in-None.ensures),
     )
 
 pub returns : goal.returns

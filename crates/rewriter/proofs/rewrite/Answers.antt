@@ -1,4 +1,5 @@
 -- A file whose contents are refused is refused, and else its words are written. Assumes nothing.
+use Rattle.file.specs.File.{counted}
 use mathlib.Core.Path.{◌≡◌, refl, sym, ap, ◌∙◌}
 use mathlib.Core.List.{List}
 use Prim.Native.Nat.{ℕ}
@@ -7,7 +8,6 @@ use Rattle.names.specs.declared.Refusal.{Refusal}
 use Rattle.carried.specs.declared.Edition.{Edition}
 use Rattle.carried.specs.Layout as layout
 use Rattle.carried.specs.Carried.{entered_in}
-use Rattle.file.specs.declared.Counts.TheVariants.{Of, Refused as Counts-as-Refused}
 use Rattle.std.specs.Prelude.{Result, Err}
 use Rattle.file.specs.File.{counts_of, carried_of, write_with, write_of}
 use Rattle.file.proofs.Carried.{not_counted, by_words}
@@ -19,11 +19,11 @@ module _ (bytes buf : List ℕ) where
   abbrev no : Refusal → Result ℕ Refusal × List ℕ
   no r = (Err r, buf)
 
-  not_read : (r : Refusal) → counts_of bytes ≡ Counts-as-Refused r → rewrite_of bytes buf ≡ (Err r, buf)
+  not_read : (r : Refusal) → counts_of bytes ≡ Err r → rewrite_of bytes buf ≡ (Err r, buf)
   unfolding rewrite_of write_of
   not_read r e = not_counted (λ c s. rewrite_as c s buf) no (λ x n m p. write_with x n m p buf) (λ s. refl) (λ r s. refl) (λ x n m p. write_refused x n m p buf) (written_alike buf) bytes r e
 
-  read : (x : Edition) (n m : ℕ) → counts_of bytes ≡ Of x n m → {ws : List ℕ} → ws ≡ carried_of bytes (replicate layout.largest 0)
+  read : (x : Edition) (n m : ℕ) → counts_of bytes ≡ counted x n m → {ws : List ℕ} → ws ≡ carried_of bytes (replicate layout.largest 0)
       → rewrite_of bytes buf ≡ write_with x n m (entered_in n m ws) buf
   unfolding rewrite_of write_of
   read x n m e d = by_words (λ c s. rewrite_as c s buf) no (λ x n m p. write_with x n m p buf) (λ s. refl) (λ r s. refl) (λ x n m p. write_refused x n m p buf) (written_alike buf) bytes x n m e d
