@@ -4,6 +4,7 @@
 use Rattle.std.specs.Prelude.{Bool, not, cond, ◌&&◌, List, [], ◌∷◌, ℕ, zero, suc, leb, ltb, eqb, length, get_or}
 use Rattle.std.specs.Bool.{beq}
 use Rattle.names.specs.declared.Label.{Label}
+use Rattle.names.specs.declared.Refusal.{Refusal}
 use Rattle.std.specs.Prelude.{Option, Some, None, Result, Ok, Err}
 use Rattle.judge.specs.Table.{Checked}
 use Rattle.laws.specs.Lists.{those}
@@ -152,6 +153,12 @@ compared_as (Err r) second c = FirstRefused r
 compared_as (Ok _) (Err r) c = SecondRefused r
 compared_as (Ok _) (Ok _) (Ok _) = Lighter
 compared_as (Ok _) (Ok _) (Err r) = RunAgain r
+
+-- the same of two plans, or their refusals
+abbrev pub compared_with : Result Sheet Refusal → Result Sheet Refusal → Compared
+compared_with (Err r) second = FirstRefused r
+compared_with (Ok old) (Err r) = SecondRefused r
+compared_with (Ok old) (Ok new) = compared_as (Ok tt) (Ok tt) (changes (plan_of old) (plan_of new))
 
 unfoldable pub compared_of : Sheet → Sheet → Compared
 compared_of old new = compared_as (checked_of old) (checked_of new) (changes (plan_of old) (plan_of new))

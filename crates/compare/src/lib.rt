@@ -8,7 +8,7 @@ ghost use Rattle.std.specs.Prelude.{◌≡◌, ◌≤◌, ◌==◌, leb, length,
 ghost use Rattle.names.specs.Limits as limit;
 ghost use Rattle.plan.specs.Plan.{plan_of};
 ghost use Rattle.compare.specs.Changes as rule;
-ghost use Rattle.compare.specs.Changes.{compared_as};
+ghost use Rattle.compare.specs.Changes.{compared_with};
 ghost use Rattle.compare.specs.Claims.{SaysLighter};
 ghost use Rattle.compare.specs.private.Moves.{moves_of, overtaken_by, order_by, noise_by};
 
@@ -211,24 +211,19 @@ pub fn changes(old: Sheet, new: Sheet) -> Result<(), Reason>
     noise(gaps_of(&old), gaps_of(&new))
 }
 
-// The answer to two plans that were looked at already: the first is reported first.
-pub fn outcome(
-    first: Result<(), Refusal>,
-    second: Result<(), Refusal>,
-    old: Sheet,
-    new: Sheet,
-) -> Compared
-    ensures { result ≡ compared_as first second (rule.changes (plan_of old) (plan_of new)) }
+// The answer to two plans, or their refusals: the first is reported first.
+pub fn outcome(first: Result<Sheet, Refusal>, second: Result<Sheet, Refusal>) -> Compared
+    ensures { result ≡ compared_with first second }
 {
-    if let Err(r) = first {
-        return Compared::FirstRefused(r);
-    }
-    if let Err(r) = second {
-        return Compared::SecondRefused(r);
-    }
-    match changes(old, new) {
-        Err(why) => Compared::RunAgain(why),
-        Ok(()) => Compared::Lighter,
+    match first {
+        Err(r) => Compared::FirstRefused(r),
+        Ok(old) => match second {
+            Err(r) => Compared::SecondRefused(r),
+            Ok(new) => match changes(old, new) {
+                Err(why) => Compared::RunAgain(why),
+                Ok(()) => Compared::Lighter,
+            },
+        },
     }
 }
 
@@ -236,7 +231,5 @@ pub fn outcome(
 pub fn lighter(old: Sheet, new: Sheet) -> Compared
     ensures { SaysLighter old new result }
 {
-    let first = check(old);
-    let second = check(new);
-    outcome(first, second, old, new)
+    outcome(check(old).and(Ok(old)), check(new).and(Ok(new)))
 }

@@ -39,7 +39,7 @@ module _ (bs buf : List ℕ) where
         let f = fine_read bs fine in
         let p = plan_read bs f in
         written
-        ∙ ap (λ (r : Result Sheet Refusal). write_of r.sheet buf) f.read
+        ∙ ap (λ (r : Result Sheet Refusal). write_of (read_sheet r) buf) f.read
         ∙ write_no_room Three (length p.streams) (length p.gaps) (plainly (plan_of (sheet_of p))) buf (sheet_fine bs f) (omega (arith, ap length (file_is bs f) ∙ length_file p))
 
     -- .. and with it

@@ -13,6 +13,7 @@ use Rattle.file.specs.File.{counts_of, carried_of, write_with, write_of}
 use Rattle.file.proofs.Carried.{not_counted, by_words}
 use Rattle.file.proofs.Writing.{write_refused, written_alike}
 use Rattle.rewriter.specs.Rewriter.{rewrite_as, rewrite_of}
+use Rattle.std.proofs.lemmas.Result.{err_from_is_err_and}
 use Rattle.rewriter.proofs.rewrite.Goals as goal
 
 module _ (bytes buf : List ℕ) where
@@ -28,26 +29,25 @@ module _ (bytes buf : List ℕ) where
   unfolding rewrite_of write_of
   read x n m e d = by_words (λ c s. rewrite_as c s buf) no (λ x n m p. write_with x n m p buf) (λ s. refl) (λ r s. refl) (λ x n m p. write_refused x n m p buf) (written_alike buf) bytes x n m e d
 
-pub returns-in-Refused-clause-value : goal.returns-in-Refused-clause-value
-returns-in-Refused-clause-value c =
+pub returns-in_err-counts-clause-value : goal.returns-in_err-counts-clause-value
+returns-in_err-counts-clause-value c =
     let a = c.args in
-    let e = sym (not_read a.file.now a.out.now _ (sym c.carry.ensures.value ∙ c.in-Refused.is)) in
-    ap (λ w. w.0) e
+    let p = err_from_is_err_and c.from_residual.result c.from_residual.ensures.1 in
+    rw (p.1, p.2) (ap (λ w. w.0) (sym (not_read a.file.now a.out.now _ (sym c.carry.ensures.value ∙ c.in_err-counts.was))))
 
-pub returns-in-Refused-clause-out_after : goal.returns-in-Refused-clause-out_after
-returns-in-Refused-clause-out_after c =
+pub returns-in_err-counts-clause-out_after : goal.returns-in_err-counts-clause-out_after
+returns-in_err-counts-clause-out_after c =
     let a = c.args in
-    let e = sym (not_read a.file.now a.out.now _ (sym c.carry.ensures.value ∙ c.in-Refused.is)) in
-    ap (λ w. w.1) e
+    ap (λ w. w.1) (sym (not_read a.file.now a.out.now _ (sym c.carry.ensures.value ∙ c.in_err-counts.was)))
 
-pub returns-in-Of-clause-value : goal.returns-in-Of-clause-value
-returns-in-Of-clause-value c =
+pub returns-clause-value : goal.returns-clause-value
+returns-clause-value c =
     let a = c.args in
-    let e = sym (read a.file.now a.out.now _ _ _ (sym c.carry.ensures.value ∙ c.in-Of.is) c.carry.ensures.words_after) in
+    let e = sym (read a.file.now a.out.now _ _ _ (sym c.carry.ensures.value ∙ c.in_ok-counts.was) c.carry.ensures.words_after) in
     c.write_words.ensures.value ∙ ap (λ p. p.0) e
 
-pub returns-in-Of-clause-out_after : goal.returns-in-Of-clause-out_after
-returns-in-Of-clause-out_after c =
+pub returns-clause-out_after : goal.returns-clause-out_after
+returns-clause-out_after c =
     let a = c.args in
-    let e = sym (read a.file.now a.out.now _ _ _ (sym c.carry.ensures.value ∙ c.in-Of.is) c.carry.ensures.words_after) in
+    let e = sym (read a.file.now a.out.now _ _ _ (sym c.carry.ensures.value ∙ c.in_ok-counts.was) c.carry.ensures.words_after) in
     c.write_words.ensures.buf_after ∙ ap (λ p. p.1) e
