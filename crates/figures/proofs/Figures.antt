@@ -29,7 +29,7 @@ use Rattle.text.specs.Listing.{listing_of}
 use Rattle.text.specs.Listing as text
 use Rattle.tournament_state.specs.Refusals.{lowest_unfit, verdict_of}
 use Rattle.tournament.specs.Rule.{begun_of, heard_at, silenced_at, marks_after, lowest_marked, winner_of, next_at, steps}
-use Rattle.tournament.specs.Answers.{start_of, run_of}
+use Rattle.tournament.specs.Answers.{left, checked, nobody, start_of, run_of}
 use Rattle.figures.specs.Plans.{older_file}
 use Rattle.figures.specs.Load.{load, delayed}
 use Rattle.figures.specs.Figures.{Entry, of_timing, of_plan, of_row, of_listing, of_older, of_bytes, of_tournament}
@@ -73,7 +73,8 @@ again (of_older v size c) = of_older v (length (older_file v)) (file (older_file
 again (of_bytes bs size number) = of_bytes bs (length bs) (by_size (size_right bs) number)
 again (of_tournament NB n places a b ss) =
     let start = start_of NB n places in
-    of_tournament NB n places start.checked (run_of start.tournament).checked (states start.tournament)
+    let t = left start nobody in
+    of_tournament NB n places (checked start) (checked (run_of t)) (states t)
 
 -- ---- an entry that is the same again holds
 

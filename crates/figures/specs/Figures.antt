@@ -24,7 +24,7 @@ use Rattle.text.specs.Listing.{listing_of}
 use Rattle.tournament_state.specs.declared.Phase.{Phase, TheVariants.AtBit, TheVariants.Finished}
 use Rattle.tournament_state.specs.declared.Tournament.{Tournament}
 use Rattle.tournament.specs.Rule.{steps}
-use Rattle.tournament.specs.Answers.{start_of, run_of}
+use Rattle.tournament.specs.Answers.{left, checked, nobody, start_of, run_of}
 use Rattle.figures.specs.Plans.{base, P1, P2, alone, P3, P4, P5, P6, P7, P8, P9, P10, P11, P12}
 use Rattle.figures.specs.Plans.{older_file, slots, equally_late, waits, lagging}
 
@@ -70,7 +70,7 @@ state t = (t.phase, take t.count t.marks)
 
 -- the states before each step, and the one that the run ends in
 abbrev pub states : Tournament → List (Phase × List Bool)
-states t = rows t.bits (λ k. state (steps k t)) ++ state (run_of t).tournament ∷ []
+states t = rows t.bits (λ k. state (steps k t)) ++ state (left (run_of t) t) ∷ []
 
 abbrev pub Holds : Entry → Type 0
 Holds (of_timing t v u) = («V» (meant_timing t) ≡ v) × (U (meant_timing t) ≡ u)
@@ -84,7 +84,8 @@ Holds (of_older v size c) = (length (older_file v) ≡ size) × (file (older_fil
 Holds (of_bytes bs size number) = (length bs ≡ size) × ((any : List ℕ) → length any ≡ size → file any ≡ refusal number 0)
 Holds (of_tournament NB n places a b ss) =
     let start = start_of NB n places in
-    (start.checked ≡ a) × ((run_of start.tournament).checked ≡ b) × (states start.tournament ≡ ss)
+    let t = left start nobody in
+    (checked start ≡ a) × (checked (run_of t) ≡ b) × (states t ≡ ss)
 
 -- ---- the table
 

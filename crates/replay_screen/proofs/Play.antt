@@ -1,6 +1,6 @@
 -- A start that is not refused is refused at no bit, so its steps are those of the rule and its carrier is heard at each bit. Assumes nothing.
 use mathlib.Core.Path.{◌≡◌, refl, sym, ap, ap₂, ◌∙◌}
-use mathlib.Core.Bool.{Bool, true, false}
+use mathlib.Core.Bool.{Bool}
 use mathlib.Core.List.{List, ◌++◌}
 use Prim.Native.Nat.{ℕ, zero, suc, ◌+◌, ◌-◌, ◌≤◌, ◌<◌}
 use native.Mathlib.Numerals.{add-one}
@@ -12,19 +12,16 @@ use Rattle.names.specs.declared.Refusal.{Refusal}
 use Rattle.names.specs.Limits.{contenders}
 use Rattle.tournament_state.specs.declared.Phase.TheVariants.{AtBit}
 use Rattle.tournament_state.specs.declared.Tournament.{Tournament}
-use Rattle.std.specs.Prelude.{Ok, Err}
+use Rattle.std.specs.Prelude.{Result, Ok, IsOk}
 use Rattle.tournament_state.specs.Refusals.{none, verdict_of}
 use Rattle.tournament_state.proofs.Meaning.{fine_passed}
-use Rattle.text.specs.Listing.{refused_of}
-use Rattle.tournament.specs.declared.Outcome.{Outcome}
-use Rattle.tournament.specs.declared.Carrier.TheVariants.{Heard, NotHeard}
 use Rattle.tournament.specs.Rule.{begun_of, heard_at, next, steps}
-use Rattle.tournament.specs.Answers.{judged_of, heard_now, heard_unless, carrier_of, start_of, step_of}
+use Rattle.tournament.specs.Answers.{judged_of, heard_now, carrier_of, start_of, step_of}
 use Rattle.tournament_laws.proofs.Steps.{next_bit}
 use Rattle.tournament_laws.proofs.Start.{start_long, kept, start_bits, start_count, start_phase}
 use Rattle.tournament_laws.proofs.Calls.{outcome_of, judged_steps as steps-judged, start_fine, start_judged}
-use Rattle.replay_screen.specs.Shown.{gone, bit_line, bit_lines, played_of, shown_by, shown_of}
-use Rattle.replay_screen.specs.private.Begun.{Begun, is_heard}
+use Rattle.replay_screen.specs.Shown.{gone, bit_line, bit_lines}
+use Rattle.replay_screen.specs.private.Begun.{Begun}
 
 -- ---- what a start hands out
 module _ (NB n : ℕ) (places : List Priority) (long : length places ≡ contenders) where
@@ -44,21 +41,8 @@ module _ (NB n : ℕ) (places : List Priority) (long : length places ≡ contend
         start = again few ∙ ap₂ (λ b c. begun_of b c (begun_of NB n places).priorities) (sym (start_bits NB n places)) (sym (start_count NB n places));
       }
 
-  begun_start : (start_of NB n places).checked ≡ Ok tt → Begun (start_of NB n places).tournament
-  begun_start e = let (d, s) = start_fine NB n places e in rw s (begun_fine d)
-
--- the same of what a call handed back, with what is shown of it
-module _ (NB n : ℕ) (places : List Priority) (o : Outcome) (e : o ≡ start_of NB n places) where
-  pub begun_of_lem : length places ≡ contenders → o.checked ≡ Ok tt → Begun o.tournament
-  begun_of_lem long d = rw e (begun_start NB n places long (rw e at d))
-
-  pub shown_fine : o.checked ≡ Ok tt → played_of o.tournament ≡ shown_of NB n places
-  unfolding shown_of
-  shown_fine d = sym (ap (λ a. shown_by a o.tournament) d) ∙ ap (λ (o : Outcome). shown_by o.checked o.tournament) e
-
-  pub shown_refused : (r : Refusal) → o.checked ≡ Err r → refused_of r ≡ shown_of NB n places
-  unfolding shown_of
-  shown_refused r d = sym (ap (λ a. shown_by a o.tournament) d) ∙ ap (λ (o : Outcome). shown_by o.checked o.tournament) e
+  pub begun_start : (t : Tournament) → start_of NB n places ≡ Ok t → Begun t
+  begun_start t e = let (d, s) = start_fine NB n places t e in rw s (begun_fine d)
 
 -- ---- its steps, and what is heard at each
 module _ (t : Tournament) (b : Begun t) where
@@ -72,26 +56,29 @@ module _ (t : Tournament) (b : Begun t) where
       let q : suc k + 1 ≡ k + 1 + 1 = omega arith in
       rw q (next_bit (steps k t) (k + 1) (at_bit k (omega arith)) (omega (arith, (kept t k).bits)))
 
-  stepped : (k : ℕ) → (step_of (steps k t)).tournament ≡ steps (k + 1) t
+  stepped : (k : ℕ) → step_of (steps k t) ≡ Ok (steps (k + 1) t)
   unfolding steps step_of
-  stepped k = rw (add-one k) (outcome_of (judged_of (steps k t)) (steps k t) (next (steps k t)) (judged_steps k))
+  stepped k = rw (add-one k) (outcome_of (judged_of (steps k t)) (next (steps k t)) (judged_steps k))
 
-  heard_is : (h : Bool) → is_heard (elim h [ true ↦ Heard | false ↦ NotHeard ]) ≡ h
-  heard_is true = refl
-  heard_is false = refl
-
-  heard_at_lem : (k : ℕ) → k < t.bits → is_heard (carrier_of (steps k t)) ≡ heard_at (steps k t) (k + 1)
+  heard_at_lem : (k : ℕ) → k < t.bits → carrier_of (steps k t) ≡ Ok (heard_at (steps k t) (k + 1))
   unfolding carrier_of
   heard_at_lem k h =
       let s = steps k t in
-      ap (λ a. is_heard (heard_unless a (heard_now s s.phase))) (judged_steps k) ∙ ap (λ p. is_heard (heard_now s p)) (at_bit k h) ∙ heard_is (heard_at s (k + 1))
+      outcome_of (judged_of s) (heard_now s s.phase) (judged_steps k) ∙ ap (λ p. Ok (heard_now s p)) (at_bit k h)
+
+  -- neither a step nor a carrier is refused
+  pub step_fine : (k : ℕ) (now : Tournament) → now ≡ steps k t → IsOk (step_of now)
+  step_fine k now e = rw (e, stepped k) refl
+
+  pub carrier_fine : (k : ℕ) (now : Tournament) → k < t.bits → now ≡ steps k t → IsOk (carrier_of now)
+  carrier_fine k now l e = rw (e, heard_at_lem k l) refl
 
   -- one bit more
-  pub bit_more : (k : ℕ) (now after : Tournament) (h : Bool) (silent : List Bool) → k < t.bits → now ≡ steps k t → h ≡ is_heard (carrier_of now)
-      → after ≡ (step_of now).tournament → silent ≡ gone (steps k t).marks (steps (k + 1) t).marks
+  pub bit_more : (k : ℕ) (now after : Tournament) (h : Bool) (silent : List Bool) → k < t.bits → now ≡ steps k t → carrier_of now ≡ Ok h
+      → step_of now ≡ Ok after → silent ≡ gone (steps k t).marks (steps (k + 1) t).marks
       → (after ≡ steps (k + 1) t) × (bit_lines t k ++ bit_line (k + 1) h silent after.marks ≡ bit_lines t (k + 1))
   unfolding bit_lines
   bit_more k now after h silent l e p q g =
-      let d : after ≡ steps (k + 1) t = q ∙ ap (λ s. (step_of s).tournament) e ∙ stepped k in
-      let f : h ≡ heard_at (steps k t) (k + 1) = p ∙ ap (λ s. is_heard (carrier_of s)) e ∙ heard_at_lem k l in
+      let d : after ≡ steps (k + 1) t = let o : ◌≡◌ {A = Result Tournament Refusal} (Ok after) (Ok (steps (k + 1) t)) = sym q ∙ ap step_of e ∙ stepped k in cc in
+      let f : h ≡ heard_at (steps k t) (k + 1) = let o : ◌≡◌ {A = Result Bool Refusal} (Ok h) (Ok (heard_at (steps k t) (k + 1))) = sym p ∙ ap carrier_of e ∙ heard_at_lem k l in cc in
       (d, rw (f, g, d, add-one k) refl)

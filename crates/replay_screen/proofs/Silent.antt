@@ -11,7 +11,9 @@ use native.Mathlib.Omega.{arith}
 use borrow.Author.Tests.{eqb-true, eqb-false, eq-eqb, ne_eqb, lt-ltb, le-ltb}
 use lib.Dec.{eqb, ltb}
 use lib.ListN.{get_or, replicate}
+use Rattle.std.specs.Prelude.{Result, Ok, Err, IsOk}
 use Rattle.names.specs.declared.Priority.{Priority}
+use Rattle.names.specs.declared.Refusal.{Refusal}
 use Rattle.names.specs.Limits.{contenders, bits}
 use Rattle.laws.specs.Lists.{rows}
 use Rattle.laws.proofs.Lists.{rows_at}
@@ -19,7 +21,6 @@ use Rattle.tournament_state.specs.declared.Phase.TheVariants.{AtBit, Finished}
 use Rattle.tournament_state.specs.declared.Tournament.{Tournament}
 use Rattle.tournament_state.specs.Refusals.{none, PlayablePair}
 use Rattle.tournament_state.proofs.Meaning.{fine_if_playable}
-use Rattle.tournament.specs.declared.Parting.{Parting, TheVariants.At as Parting-as-At, TheVariants.Refused as Parting-as-Refused}
 use Rattle.tournament.specs.Rule.{is_in, steps}
 use Rattle.tournament.specs.Answers.{parting_bit, parting_of, run_of}
 use Rattle.tournament.proofs.Parts.{first_difference, parting_answer}
@@ -69,9 +70,9 @@ module _ (NB n : ℕ) (places : List Priority) (s : Start NB n places) (narrow :
   unfolding silent_bit
   nowhere p k = by_answer (parting_of NB p p) refl
     where
-      by_answer : (r : Parting) → parting_of NB p p ≡ r → eqb (bit_of r) (suc k) ≡ false
-      by_answer (Parting-as-At d) e = absurd (((parting_answer NB p p d).0 e).0.differ refl)
-      by_answer (Parting-as-Refused r) e = ne_eqb 0 (suc k) (λ z. omega arith)
+      by_answer : (r : Result ℕ Refusal) → parting_of NB p p ≡ r → eqb (bit_of r) (suc k) ≡ false
+      by_answer (Ok d) e = absurd (((parting_answer NB p p d).0 e).0.differ refl)
+      by_answer (Err r) e = ne_eqb 0 (suc k) (λ z. omega arith)
 
   winner : (k : ℕ) → k < NB → goes k w ≡ eqb (silent_bit NB (own w) (own w)) (suc k)
   winner k h =
@@ -97,33 +98,36 @@ module _ (NB n : ℕ) (places : List Priority) (s : Start NB n places) (narrow :
 -- ---- what is shown
 pub silent_where_they_part : SilentWhereTheyPart
 unfolding gone silent_bit
-silent_where_they_part NB n places long e w m k h i l = (λ t. to _ (eqb-true _ _ (sym each ∙ t)), λ q. each ∙ eq-eqb _ _ (ap bit_of q))
+silent_where_they_part NB n places long t₀ e w m k h i l = (λ t. to _ (eqb-true _ _ (sym each ∙ t)), λ q. each ∙ eq-eqb _ _ (ap bit_of q))
   where
-    to : (p : Parting) → bit_of p ≡ suc k → p ≡ Parting-as-At (suc k)
-    to (Parting-as-At d) q = ap Parting-as-At q
-    to (Parting-as-Refused r) q = absurd (omega arith)
+    to : (p : Result ℕ Refusal) → bit_of p ≡ suc k → p ≡ Ok (suc k)
+    to (Ok d) q = ap Ok q
+    to (Err r) q = absurd (omega arith)
 
     each : get_or (gone (after NB n places k).marks (after NB n places (suc k)).marks) i false ≡ eqb (silent_bit NB (get_or places i none) (get_or places w none)) (suc k)
     each =
-        let p = (fine_if_playable NB n places (AtBit 1) long).0 (start_fine NB n places e).0 in
+        let p = (fine_if_playable NB n places (AtBit 1) long).0 (start_fine NB n places t₀ e).0 in
         rows_at contenders _ false i (omega (arith, p.fair.few))
         ∙ contender NB n places (record { bits = p.from; long = long; fair = p.fair }) p.to w m i l k h
 
 -- ---- a tournament that was begun
 module _ (t : Tournament) (b : Begun t) where
-  pub end_is : (run_of t).tournament ≡ steps t.bits t
-  end_is = run_is_steps t b.judged
+  pub end_is : (end : Tournament) → run_of t ≡ Ok end → end ≡ steps t.bits t
+  end_is end e = let o : ◌≡◌ {A = Result Tournament Refusal} (Ok end) (Ok (steps t.bits t)) = sym e ∙ run_is_steps t b.judged in cc
 
-  pub silent_gone : (won : Priority) → won ≡ won_with (run_of t).tournament.priorities (run_of t).tournament.phase
+  pub run_fine : IsOk (run_of t)
+  run_fine = rw (run_is_steps t b.judged) refl
+
+  pub silent_gone : (end : Tournament) (won : Priority) → run_of t ≡ Ok end → won ≡ won_with end.priorities end.phase
       → (k : ℕ) → k < t.bits → silent_at t won (k + 1) ≡ gone (steps k t).marks (steps (k + 1) t).marks
   unfolding silent_at
-  silent_gone won e k h =
+  silent_gone end won r e k h =
       let p = (fine_if_playable t.bits t.count t.priorities t.phase b.long).0 b.judged in
       let s : Start t.bits t.count t.priorities = record { bits = p.from; long = b.long; fair = p.fair } in
       let (w, o) = smallest_wins t.bits t.count t.priorities s in
       let phase : (steps t.bits t).phase ≡ Finished (record { 0 = w }) = ap (λ r. (steps t.bits r).phase) b.start ∙ o.ends in
       let its : won ≡ get_or t.priorities w none =
-      e ∙ ap (λ (r : Tournament). won_with r.priorities r.phase) end_is ∙ ap₂ won_with (kept t t.bits).priorities phase in
+      e ∙ ap (λ (r : Tournament). won_with r.priorities r.phase) (end_is end r) ∙ ap₂ won_with (kept t t.bits).priorities phase in
       rw (its, add-one k)
       (marks_gone t.bits t.count t.priorities s p.to w o.smallest k h
       ∙ ap (λ r. gone (steps k r).marks (steps (suc k) r).marks) (sym b.start))

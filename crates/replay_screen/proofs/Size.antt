@@ -23,7 +23,7 @@ use Rattle.tournament_state.specs.Refusals.{number, none, verdict_of, number_at,
 use Rattle.tournament_state.proofs.Meaning.{fine_passed}
 use Rattle.tournament_state.proofs.Ranges.{refusal_range}
 use Rattle.tournament.specs.Rule.{begun_of, heard_at, steps}
-use Rattle.tournament.specs.Answers.{outcome, nobody, start_of}
+use Rattle.tournament.specs.Answers.{outcome, start_of}
 use Rattle.tournament_laws.proofs.Start.{start_priority, kept, unused_at_start}
 use Rattle.ascii.specs.Ascii.{ascii}
 use Rattle.replay_screen.specs.Shown.{marked, gone, spaced, rows_text, carrier_text, bit_line, bit_lines, wins_line, winner_line, played_of, shown_by, shown_of}
@@ -120,7 +120,7 @@ unfolding shown_of start_of
 largest_shown NB n places l = by_verdict (verdict_of NB n places (AtBit 1)) refl
   where
     by_verdict : (c : Checked) → verdict_of NB n places (AtBit 1) ≡ c
-        → length (shown_by (outcome c nobody (begun_of NB n places)).checked (outcome c nobody (begun_of NB n places)).tournament) ≤ most_shown
+        → length (shown_by (outcome c (begun_of NB n places))) ≤ most_shown
     by_verdict (Ok _) e =
         played_size (begun_of NB n places) (begun_fine NB n places l.long e)
         (begun_small NB n places (omega (arith, (fine_passed NB n places (AtBit 1) e).few, l.long)) l.small)

@@ -6,7 +6,7 @@ use Rattle.names.specs.Limits.{contenders, bits, ticks}
 use Rattle.laws.specs.Lists.{rows}
 use Rattle.std.specs.Prelude.{Ok}
 use Rattle.tournament_state.specs.Refusals.{none, number_at}
-use Rattle.tournament.specs.declared.Parting.TheVariants.{At as Parting-as-At}
+use Rattle.tournament_state.specs.declared.Tournament.{Tournament}
 use Rattle.tournament.specs.Rule.{begun_of}
 use Rattle.tournament.specs.Answers.{start_of, parting_of}
 use Rattle.tournament_laws.specs.Facts.{after, Smallest}
@@ -16,17 +16,17 @@ use Rattle.replay_screen.specs.Shown.{gone, spaced, bit_lines, wins_line, shown_
 -- a start that is not refused: a line for each of the NB bits, and the row and the priority of the smallest
 abbrev pub SmallestShown : Type 0
 SmallestShown =
-    (NB n : ℕ) (places : List Priority) → length places ≡ contenders → (start_of NB n places).checked ≡ Ok tt
+    (NB n : ℕ) (places : List Priority) → length places ≡ contenders → (t : Tournament) → start_of NB n places ≡ Ok t
     → (w : ℕ) × Smallest n places w
     × (shown_of NB n places ≡ bit_lines (begun_of NB n places) NB ++ wins_line (record { 0 = w }) (get_or places w none))
 
 -- so what is shown can be checked by hand: a contender goes silent at a bit exactly if its priority and the smallest part there
 abbrev pub SilentWhereTheyPart : Type 0
 SilentWhereTheyPart =
-    (NB n : ℕ) (places : List Priority) → length places ≡ contenders → (start_of NB n places).checked ≡ Ok tt
+    (NB n : ℕ) (places : List Priority) → length places ≡ contenders → (t : Tournament) → start_of NB n places ≡ Ok t
     → (w : ℕ) → Smallest n places w → (k : ℕ) → k < NB → (i : ℕ) → i < n
     → (get_or (gone (after NB n places k).marks (after NB n places (suc k)).marks) i false ≡ true)
-    ↔ (parting_of NB (get_or places i none) (get_or places w none) ≡ Parting-as-At (suc k))
+    ↔ (parting_of NB (get_or places i none) (get_or places w none) ≡ Ok (suc k))
 
 -- every row after its space
 abbrev pub most_rows : ℕ

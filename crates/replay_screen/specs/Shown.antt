@@ -8,8 +8,8 @@ use Rattle.decimal.specs.Decimal.{digits}
 use Rattle.text.specs.Listing.{refused_of}
 use Rattle.tournament_state.specs.declared.Phase.{Phase, TheVariants.AtBit, TheVariants.Finished, TheVariants.NoWinner}
 use Rattle.tournament_state.specs.declared.Tournament.{Tournament}
-use Rattle.std.specs.Prelude.{Ok, Err}
-use Rattle.judge.specs.Table.{Checked}
+use Rattle.std.specs.Prelude.{Result, Ok, Err}
+use Rattle.names.specs.declared.Refusal.{Refusal}
 use Rattle.tournament_state.specs.Refusals.{none}
 use Rattle.tournament.specs.Rule.{heard_at, steps}
 use Rattle.tournament.specs.Answers.{start_of}
@@ -79,9 +79,9 @@ unfoldable pub played_of : Tournament → List ℕ
 played_of t = bit_lines t t.bits ++ winner_line (steps t.bits t).priorities (steps t.bits t).phase
 
 -- what is shown of a bit count and the priorities of n contenders: the line of the refusal, or all of the tournament
-abbrev pub shown_by : Checked → Tournament → List ℕ
-shown_by (Ok _) t = played_of t
-shown_by (Err refusal) t = refused_of refusal
+abbrev pub shown_by : Result Tournament Refusal → List ℕ
+shown_by (Ok t) = played_of t
+shown_by (Err refusal) = refused_of refusal
 
 unfoldable pub shown_of : ℕ → ℕ → List Priority → List ℕ
-shown_of NB n places = shown_by (start_of NB n places).checked (start_of NB n places).tournament
+shown_of NB n places = shown_by (start_of NB n places)

@@ -10,15 +10,14 @@ ghost use Rattle.names.specs.Limits.{contenders as Limits·contenders};
 ghost use Rattle.text.specs.Put.{Lays};
 ghost use Rattle.decimal.specs.Decimal.{digits};
 ghost use Rattle.tournament_state.specs.Refusals.{none as Refusals·none};
-ghost use Rattle.tournament.specs.Answers.{carrier_of};
 ghost use Rattle.ascii.specs.Ascii.{ascii};
 ghost use Rattle.replay_screen.specs.Shown.{marked, rows_text, carrier_text};
 ghost use Rattle.replay_screen.specs.Shown.{bit_line, wins_line, winner_line, played_of, shown_of};
-ghost use Rattle.replay_screen.specs.private.Begun.{Begun, is_heard, won_with, silent_bit, silent_at};
+ghost use Rattle.replay_screen.specs.private.Begun.{Begun, won_with, silent_bit, silent_at};
 
 use names::{BITS, CONTENDERS, Priority, Row};
 use text::{lay_number, lay_refusal, lay_text};
-use tournament::{Carrier, Parting, listen, parting_bit, run, start, step};
+use tournament::{listen, parting_bit, run, start, step};
 use tournament_state::{Phase, Tournament};
 
 // Every row after its space: ten rows have one digit, ninety have two, and the others three.
@@ -72,16 +71,6 @@ fn lay_rows(out: &mut [u8], at: usize, marks: [bool; CONTENDERS]) -> usize
         some = either(some, mark);
     }
     lay_none(out, next, some)
-}
-
-fn heard(t: Tournament) -> bool
-    ensures { result ≡ is_heard (carrier_of t) }
-{
-    match listen(t) {
-        Carrier::Heard => true,
-        Carrier::NotHeard => false,
-        Carrier::Refused(_) => false,
-    }
 }
 
 fn lay_carrier(out: &mut [u8], at: usize, heard: bool) -> usize
@@ -160,10 +149,7 @@ fn winning(priorities: [Priority; CONTENDERS], phase: Phase) -> Priority
 fn silent_bit(bits: u32, p: Priority, won: Priority) -> u32
     ensures { result ≡ silent_bit bits p won }
 {
-    match parting_bit(bits, p, won) {
-        Parting::At(k) => k,
-        Parting::Refused(_) => 0,
-    }
+    parting_bit(bits, p, won).unwrap_or(0)
 }
 
 // Marks for those that go silent at bit k.
@@ -181,28 +167,24 @@ fn silent_at(t: Tournament, won: Priority, k: u32) -> [bool; CONTENDERS]
     marks
 }
 
-// All lines of a tournament that is at its first bit.
+// All lines of a tournament that is at its first bit: it is refused at none.
 fn lay_played(out: &mut [u8], at: usize, t: Tournament) -> usize
     requires { Begun t }
     ensures { Lays out.old at (played_of t) result out.new }
 {
-    let bits = t.bits;
-    let end = run(t).tournament;
-    let priorities = end.priorities;
-    let phase = end.phase;
-    let won = winning(priorities, phase);
+    let end = run(t).unwrap();
+    let won = winning(end.priorities, end.phase);
     let mut next = at;
     let mut now = t;
-    for k in 0..bits {
+    for k in 0..t.bits {
         let bit = k + 1;
-        let after = step(now).tournament;
-        let carrier = heard(now);
+        let after = step(now).unwrap();
+        let carrier = listen(now).unwrap();
         let silent = silent_at(t, won, bit);
-        let still = after.marks;
-        next = lay_bit(out, next, bit as u64, carrier, silent, still);
+        next = lay_bit(out, next, bit as u64, carrier, silent, after.marks);
         now = after;
     }
-    lay_winner(out, next, priorities, phase)
+    lay_winner(out, next, end.priorities, end.phase)
 }
 
 // What is shown of a bit count and the priorities of so many contenders, from a place on.
@@ -215,10 +197,8 @@ pub fn lay_shown(
 ) -> usize
     ensures { Lays out.old at (shown_of bits count priorities) result out.new }
 {
-    let begun = start(bits, count, priorities);
-    let checked = begun.checked;
-    match checked {
-        Ok(()) => lay_played(out, at, begun.tournament),
+    match start(bits, count, priorities) {
+        Ok(begun) => lay_played(out, at, begun),
         Err(no) => lay_refusal(out, at, no),
     }
 }

@@ -1,15 +1,16 @@
 -- What each call answers: the refusal of document 01, or what it was asked for by the rule.
-use Rattle.std.specs.Prelude.{◌≡◌, false, not, List, ◌↔◌, ℕ, ◌+◌, ◌-◌, ◌^◌, ◌≤◌, ◌<◌, eqb}
+use Rattle.std.specs.Prelude.{◌≡◌, false, not, List, ◌↔◌, ℕ, ◌+◌, ◌-◌, ◌^◌, ◌≤◌, ◌<◌, eqb, replicate}
 use Rattle.std.specs.Int.Bits.{bit_xor}
 use Rattle.std.specs.Int.Count.{count_leading_zeros}
 use Rattle.names.specs.declared.Priority.{Priority}
 use Rattle.names.specs.declared.Refusal.{Refusal}
+use Rattle.names.specs.Limits.{contenders}
 use Rattle.laws.specs.Search.{first, or_zero}
 use Rattle.std.specs.Prelude.{Bool, Result, Ok, Err}
 use Rattle.judge.specs.Table.{Checked}
 use Rattle.tournament_state.specs.declared.Phase.{Phase, TheVariants.AtBit, TheVariants.Finished, TheVariants.NoWinner}
 use Rattle.tournament_state.specs.declared.Tournament.{Tournament}
-use Rattle.tournament_state.specs.Refusals.{number, verdict_of, pair_verdict_of, PlayablePair}
+use Rattle.tournament_state.specs.Refusals.{number, none, verdict_of, pair_verdict_of, PlayablePair}
 use Rattle.tournament.specs.Rule.{bit_at, begun_of, heard_at, next, steps}
 
 -- the verdict on a state
@@ -25,6 +26,15 @@ outcome (Err refusal) after = Err refusal
 abbrev pub left : Result Tournament Refusal → Tournament → Tournament
 left (Ok after) before = after
 left (Err refusal) before = before
+
+-- whether a call was fine, or why not
+abbrev pub checked : {A : Type 0} → Result A Refusal → Checked
+checked (Ok _) = Ok tt
+checked (Err refusal) = Err refusal
+
+-- a start's caller has no state before it: no bits, no contenders, no winner
+abbrev pub nobody : Tournament
+nobody = record { bits = 0; count = 0; priorities = replicate contenders none; marks = replicate contenders false; phase = NoWinner }
 
 -- a start meets 7, 8 and 9 as its state would
 unfoldable pub start_of : ℕ → ℕ → List Priority → Result Tournament Refusal

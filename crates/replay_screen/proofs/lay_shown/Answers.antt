@@ -1,17 +1,19 @@
 -- The line of the refusal, or all lines of the tournament that was begun. Assumes nothing.
+use mathlib.Core.Path.{sym, ap, ◌∙◌}
 use Rattle.text.proofs.Laying.{is}
-use Rattle.replay_screen.proofs.Play.{begun_of_lem, shown_fine, shown_refused}
+use Rattle.replay_screen.specs.Shown.{shown_by, shown_of}
+use Rattle.replay_screen.proofs.Play.{begun_start}
 use borrow.Author.Rules.{rules}
 use Rattle.replay_screen.proofs.lay_shown.Goals as goal
 
 pub lay_played-requires : goal.lay_played-requires
 lay_played-requires c =
-    begun_of_lem _ _ _ _ c.start-begun.ensures (search rules) c.in-Fine.is
+    begun_start _ _ _ (search rules) _ (sym c.start.ensures ∙ c.in-Ok.is)
 
-pub returns-in-Fine : goal.returns-in-Fine
-returns-in-Fine c =
-    is (shown_fine _ _ _ _ c.start-begun.ensures c.in-Fine.is) c.lay_played.ensures
+pub returns-in-Ok : goal.returns-in-Ok
+unfolding shown_of
+returns-in-Ok c = is (ap shown_by (sym c.in-Ok.is ∙ c.start.ensures)) c.lay_played.ensures
 
-pub returns-in-Refused : goal.returns-in-Refused
-returns-in-Refused c =
-    is (shown_refused _ _ _ _ c.start-begun.ensures _ c.in-Refused.is) c.lay_refusal.ensures
+pub returns-in-Err : goal.returns-in-Err
+unfolding shown_of
+returns-in-Err c = is (ap shown_by (sym c.in-Err.is ∙ c.start.ensures)) c.lay_refusal.ensures

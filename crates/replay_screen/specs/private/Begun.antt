@@ -1,14 +1,14 @@
 -- What laying a tournament asks of its state, and the private functions' answers.
-use Rattle.std.specs.Prelude.{◌≡◌, Bool, true, false, List, ◌++◌, ℕ, ◌-◌, eqb, length, get_or, replicate}
+use Rattle.std.specs.Prelude.{◌≡◌, Bool, false, List, ◌++◌, ℕ, ◌-◌, eqb, length, get_or, replicate}
 use Rattle.names.specs.declared.Priority.{Priority}
 use Rattle.names.specs.Limits.{contenders}
 use Rattle.laws.specs.Lists.{rows}
 use Rattle.tournament_state.specs.declared.Phase.{Phase, TheVariants.AtBit, TheVariants.Finished, TheVariants.NoWinner}
 use Rattle.tournament_state.specs.declared.Tournament.{Tournament}
-use Rattle.std.specs.Prelude.{Ok}
+use Rattle.names.specs.declared.Refusal.{Refusal}
+use Rattle.std.specs.Prelude.{Result, Ok}
+use Rattle.std.specs.Result.{result_unwrap_or}
 use Rattle.tournament_state.specs.Refusals.{none}
-use Rattle.tournament.specs.declared.Carrier.{Carrier, TheVariants.Heard, TheVariants.NotHeard, TheVariants.Refused}
-use Rattle.tournament.specs.declared.Parting.{Parting, TheVariants.At as Parting-as-At, TheVariants.Refused as Parting-as-Refused}
 use Rattle.tournament.specs.Rule.{begun_of}
 use Rattle.tournament.specs.Answers.{judged_of, parting_of}
 
@@ -18,12 +18,6 @@ pub record Begun (t : Tournament) : Type 0 where
   pub long : length t.priorities ≡ contenders
   pub start : t ≡ begun_of t.bits t.count t.priorities
 
--- a carrier is heard
-abbrev pub is_heard : Carrier → Bool
-is_heard Heard = true
-is_heard NotHeard = false
-is_heard (Refused refusal) = false
-
 -- the winner's priority
 abbrev pub won_with : List Priority → Phase → Priority
 won_with places (Finished row) = get_or places row.0 none
@@ -31,9 +25,8 @@ won_with places (AtBit k) = none
 won_with places NoWinner = none
 
 -- the bit at which two priorities part, or 0
-abbrev pub bit_of : Parting → ℕ
-bit_of (Parting-as-At k) = k
-bit_of (Parting-as-Refused refusal) = 0
+abbrev pub bit_of : Result ℕ Refusal → ℕ
+bit_of answer = result_unwrap_or answer 0
 
 -- the bit at which a contender goes silent
 unfoldable pub silent_bit : ℕ → Priority → Priority → ℕ
