@@ -10,10 +10,46 @@ use crate::files::{one_file, p1_file, p2_file, p7_file, with_byte};
 use carried::{CARRIED, CONTENTS, WORD};
 use console::print;
 use outside::{livnakesh_answers, livnakesh_lighter, livnakesh_rewrite};
-use shown::{answer, bytes, number, words};
+use shown::{answer, bytes, words};
 
 // The bytes of the largest file.
 const LARGEST: usize = WORD * (CONTENTS + CARRIED);
+
+// Two places of P1's file, each with the byte that is put there. Place 168 is past its end.
+const CHANGES: [(usize, u8, usize, u8); 20] = [
+    (44, 5, 168, 0),
+    (68, 2, 72, 1),
+    (68, 2, 72, 2),
+    (69, 255, 73, 1),
+    (69, 255, 74, 1),
+    (76, 5, 168, 0),
+    (84, 2, 168, 0),
+    (92, 99, 168, 0),
+    (96, 1, 168, 0),
+    (100, 6, 168, 0),
+    (104, 59, 168, 0),
+    (104, 61, 168, 0),
+    (108, 1, 168, 0),
+    (110, 1, 168, 0),
+    (88, 2, 116, 1),
+    (100, 0, 168, 0),
+    (116, 1, 168, 0),
+    (116, 1, 112, 1),
+    (112, 1, 168, 0),
+    (160, 0, 161, 0),
+];
+
+// A place of the file of P1 in slots, with the byte that is put there.
+const SLOT_CHANGES: [(usize, u8); 8] = [
+    (80, 20),
+    (80, 19),
+    (80, 31),
+    (80, 0),
+    (136, 10),
+    (136, 11),
+    (100, 0),
+    (0, 2),
+];
 
 fn answers(rt: &impl Print, file: &[u8], lent: &mut [u64]) {
     print(rt, b"answers");
@@ -73,34 +109,21 @@ fn of_others(rt: &impl Print) {
 
 // The bytes of the contents, and of the largest file, and those that are one too few or too many.
 fn lengths(rt: &impl Print) {
-    print(rt, b"43, 44,");
-    number(rt, LARGEST as u64);
-    print(rt, b" and");
-    number(rt, LARGEST as u64 + 1);
-    print(rt, b" bytes of 0\n");
+    let _ = println!(rt; "43, 44, {LARGEST} and {} bytes of 0", LARGEST + 1);
     let none = [0; LARGEST + 1];
-    both(rt, &none[..43]);
-    both(rt, &none[..44]);
-    both(rt, &none[..LARGEST]);
-    both(rt, &none);
+    for length in [43, 44, LARGEST, LARGEST + 1] {
+        both(rt, &none[..length]);
+    }
 }
 
 fn lighter(rt: &impl Print, old: &[u8], new: &[u8]) {
     let weighed = livnakesh_lighter(old, new);
-    print(rt, b":");
-    number(rt, weighed.answer);
-    number(rt, weighed.number);
-    number(rt, weighed.value);
-    print(rt, b"\n");
+    let _ = println!(rt; ": {} {} {}", weighed.answer, weighed.number, weighed.value);
 }
 
 // P1 and P1 with other bytes: whether the second is lighter, and both of it.
 fn changed(rt: &impl Print, at: usize, byte: u8, also: usize, other: u8) {
-    print(rt, b"P1 with");
-    number(rt, at as u64);
-    number(rt, byte as u64);
-    number(rt, also as u64);
-    number(rt, other as u64);
+    let _ = print!(rt; "P1 with {at} {byte} {also} {other}");
     let p1 = p1_file(0);
     let new = with_byte(with_byte(p1, at, byte), also, other);
     lighter(rt, &p1, &new);
@@ -109,9 +132,7 @@ fn changed(rt: &impl Print, at: usize, byte: u8, also: usize, other: u8) {
 
 // P1 in slots and the same with another byte: whether the second is lighter, and its answers.
 fn in_slots(rt: &impl Print, at: usize, byte: u8) {
-    print(rt, b"slots with");
-    number(rt, at as u64);
-    number(rt, byte as u64);
+    let _ = print!(rt; "slots with {at} {byte}");
     let slots = p1_file(30);
     let new = with_byte(slots, at, byte);
     lighter(rt, &slots, &new);
@@ -140,33 +161,11 @@ fn main(rt: HostRuntime) {
     of_p1(&rt);
     of_others(&rt);
     lengths(&rt);
-    changed(&rt, 44, 5, 168, 0);
-    changed(&rt, 68, 2, 72, 1);
-    changed(&rt, 68, 2, 72, 2);
-    changed(&rt, 69, 255, 73, 1);
-    changed(&rt, 69, 255, 74, 1);
-    changed(&rt, 76, 5, 168, 0);
-    changed(&rt, 84, 2, 168, 0);
-    changed(&rt, 92, 99, 168, 0);
-    changed(&rt, 96, 1, 168, 0);
-    changed(&rt, 100, 6, 168, 0);
-    changed(&rt, 104, 59, 168, 0);
-    changed(&rt, 104, 61, 168, 0);
-    changed(&rt, 108, 1, 168, 0);
-    changed(&rt, 110, 1, 168, 0);
-    changed(&rt, 88, 2, 116, 1);
-    changed(&rt, 100, 0, 168, 0);
-    changed(&rt, 116, 1, 168, 0);
-    changed(&rt, 116, 1, 112, 1);
-    changed(&rt, 112, 1, 168, 0);
-    changed(&rt, 160, 0, 161, 0);
+    for (at, byte, also, other) in CHANGES {
+        changed(&rt, at, byte, also, other);
+    }
     compared(&rt);
-    in_slots(&rt, 80, 20);
-    in_slots(&rt, 80, 19);
-    in_slots(&rt, 80, 31);
-    in_slots(&rt, 80, 0);
-    in_slots(&rt, 136, 10);
-    in_slots(&rt, 136, 11);
-    in_slots(&rt, 100, 0);
-    in_slots(&rt, 0, 2);
+    for (at, byte) in SLOT_CHANGES {
+        in_slots(&rt, at, byte);
+    }
 }

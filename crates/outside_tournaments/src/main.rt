@@ -5,27 +5,37 @@
 #![tactic(auto)]
 
 use console::print;
-use outside::{livnakesh_parting, livnakesh_start, livnakesh_step};
-use shown::{answer, bytes, number};
+use outside::{Stepped, livnakesh_parting, livnakesh_start, livnakesh_step};
+use shown::{answer, bytes};
+
+// A number of bits, and two priorities in so many bits.
+const PAIRS: [(u32, u32, u32); 6] = [
+    (4, 5, 3),
+    (32, 0, 2147483648),
+    (0, 5, 3),
+    (33, 5, 3),
+    (2, 1, 4),
+    (4, 3, 3),
+];
 
 fn parting(rt: &impl Print, bits: u32, a: u32, b: u32) {
-    print(rt, b"part");
-    number(rt, bits as u64);
-    number(rt, a as u64);
-    number(rt, b as u64);
+    let _ = print!(rt; "part {bits} {a} {b}");
     let said = livnakesh_parting(bits, a, b);
     answer(rt, said.refusal, said.value);
     print(rt, b"\n");
 }
 
-fn start(rt: &impl Print, bits: u32, priorities: &[u32], marks: &mut [u8]) {
-    print(rt, b"start");
-    number(rt, bits as u64);
-    let said = livnakesh_start(bits, priorities, marks);
+// What a start or a step says, and what the lent marks end with.
+fn stepped(rt: &impl Print, said: Stepped, marks: &[u8]) {
     answer(rt, said.refusal, said.place);
-    number(rt, said.phase);
-    number(rt, said.at);
-    bytes(rt, &marks[..]);
+    let _ = print!(rt; " {} {}", said.phase, said.at);
+    bytes(rt, marks);
+}
+
+fn start(rt: &impl Print, bits: u32, priorities: &[u32], marks: &mut [u8]) {
+    let _ = print!(rt; "start {bits}");
+    let said = livnakesh_start(bits, priorities, marks);
+    stepped(rt, said, marks);
 }
 
 // 5, 3 and 6 with marks to spare, with as many as they are, and with fewer, when 6 comes first; then 5 and 3 alone.
@@ -63,26 +73,18 @@ fn too_many(rt: &impl Print) {
 
 // A step of 5, 3 and 6.
 fn step(rt: &impl Print, bits: u32, phase: u32, at: u32, marks: &mut [u8]) {
-    print(rt, b"step");
-    number(rt, bits as u64);
-    number(rt, phase as u64);
-    number(rt, at as u64);
-    let three = [5, 3, 6];
-    let said = livnakesh_step(bits, phase, at, &three, marks);
-    answer(rt, said.refusal, said.place);
-    number(rt, said.phase);
-    number(rt, said.at);
-    bytes(rt, &marks[..]);
+    let _ = print!(rt; "step {bits} {phase} {at}");
+    let said = livnakesh_step(bits, phase, at, &[5, 3, 6], marks);
+    stepped(rt, said, marks);
 }
 
 // P12 bit by bit, with a step too many; a 9 stands for in as well as a 7, and two bytes are nobody's.
 fn steps(rt: &impl Print) {
     let mut marks = [7; 5];
     marks[1] = 9;
-    step(rt, 4, 0, 1, &mut marks);
-    step(rt, 4, 0, 2, &mut marks);
-    step(rt, 4, 0, 3, &mut marks);
-    step(rt, 4, 0, 4, &mut marks);
+    for at in 1..=4 {
+        step(rt, 4, 0, at, &mut marks);
+    }
     step(rt, 4, 1, 1, &mut marks);
 }
 
@@ -125,12 +127,9 @@ fn wrong_lists(rt: &impl Print) {
 }
 
 fn main(rt: HostRuntime) {
-    parting(&rt, 4, 5, 3);
-    parting(&rt, 32, 0, 2147483648);
-    parting(&rt, 0, 5, 3);
-    parting(&rt, 33, 5, 3);
-    parting(&rt, 2, 1, 4);
-    parting(&rt, 4, 3, 3);
+    for (bits, a, b) in PAIRS {
+        parting(&rt, bits, a, b);
+    }
     starts(&rt);
     wrong_starts(&rt);
     too_many(&rt);

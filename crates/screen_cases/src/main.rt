@@ -4,11 +4,10 @@
 // The answers are proved in the crate outside; here they are run and compared. This program must not know any rule.
 #![tactic(auto)]
 
-use console::print;
 use names::{Label, Priority};
-use outside::{Said, livnakesh_screen};
+use outside::livnakesh_screen;
 use plan::Stream;
-use shown::{answer, number, words};
+use shown::{answer, words};
 
 fn stream(
     label: u32,
@@ -38,15 +37,9 @@ fn streams(payload: u32, label: u32, priority: u32, acknowledgement: u32) -> [St
     [first, second, third]
 }
 
-fn screened(streams: [Stream; 3], timing: &[u32], gaps: &[u32], out: &mut [u64]) -> Said {
-    livnakesh_screen(&streams, timing, gaps, out)
-}
-
 fn screen(rt: &impl Print, streams: [Stream; 3], timing: &[u32], gaps: &[u32], out: &mut [u64]) {
-    print(rt, b"screen");
-    number(rt, timing.len() as u64);
-    number(rt, gaps.len() as u64);
-    let said = screened(streams, timing, gaps, out);
+    let _ = print!(rt; "screen {} {}", timing.len(), gaps.len());
+    let said = livnakesh_screen(&streams, timing, gaps, out);
     answer(rt, said.refusal, said.value);
     words(rt, &out[..]);
 }

@@ -4,24 +4,36 @@
 // rule of the tournament.
 #![tactic(auto)]
 
-use console::{print, print_number, print_refusal};
-use names::{CONTENDERS, Priority, Row};
-use tournament::{Outcome, Parting};
+use console::{print, print_refusal};
+use names::{CONTENDERS, Priority, Refusal, Row};
+use tournament::{parting_bit, run, start, step};
 use tournament_state::{Phase, Tournament};
 
-fn parting(rt: &impl Print, bits: u32, a: Priority, b: Priority) {
-    print_number(rt, a.0 as u64);
-    print(rt, b" and ");
-    print_number(rt, b.0 as u64);
-    print(rt, b" in ");
-    print_number(rt, bits as u64);
-    print(rt, b" bits: ");
-    match tournament::parting_bit(bits, a, b) {
-        Parting::At(k) => {
-            print(rt, b"part at bit ");
-            print_number(rt, k as u64);
+// A number of bits, and two priorities in so many bits.
+const PAIRS: [(u32, u32, u32); 14] = [
+    (4, 5, 3),
+    (4, 3, 5),
+    (1, 0, 1),
+    (1, 1, 0),
+    (32, 0, 2147483648),
+    (32, 0, 4294967295),
+    (32, 0, 1),
+    (32, 4294967295, 4294967294),
+    (31, 0, 4294967295),
+    (0, 3, 4),
+    (33, 3, 4),
+    (2, 4, 4),
+    (2, 1, 4),
+    (4, 3, 3),
+];
+
+fn parting(rt: &impl Print, bits: u32, a: u32, b: u32) {
+    let _ = print!(rt; "{a} and {b} in {bits} bits: ");
+    match parting_bit(bits, Priority(a), Priority(b)) {
+        Ok(k) => {
+            let _ = print!(rt; "part at bit {k}");
         }
-        Parting::Refused(no) => print_refusal(rt, no),
+        Err(no) => print_refusal(rt, no),
     }
     print(rt, b"\n");
 }
@@ -42,138 +54,106 @@ fn state(phase: Phase) -> Tournament {
     }
 }
 
-fn mark(rt: &impl Print, is_in: bool) {
-    if is_in {
-        print(rt, b" in");
-    } else {
-        print(rt, b" out");
-    }
+fn phase(rt: &impl Print, phase: Phase) {
+    let _ = match phase {
+        Phase::AtBit(k) => print!(rt; ", at bit {k}"),
+        Phase::Finished(row) => print!(rt; ", row {} won", row.0),
+        Phase::NoWinner => print!(rt; ", no winner"),
+    };
 }
 
-// The answer, the phase, and the marks of the first four places.
-fn shown(rt: &impl Print, call: &[u8], o: Outcome) {
-    print(rt, call);
-    print(rt, b": ");
-    let checked = o.checked;
-    match checked {
-        Ok(()) => print(rt, b"done"),
-        Err(no) => print_refusal(rt, no),
-    }
-    let t = o.tournament;
-    let phase = t.phase;
-    match phase {
-        Phase::AtBit(k) => {
-            print(rt, b", at bit ");
-            print_number(rt, k as u64);
-        }
-        Phase::Finished(row) => {
-            print(rt, b", row ");
-            print_number(rt, row.0 as u64);
-            print(rt, b" won");
-        }
-        Phase::NoWinner => print(rt, b", no winner"),
-    }
+// The phase, and the marks of the first four places.
+fn shown(rt: &impl Print, t: Tournament) {
+    phase(rt, t.phase);
     print(rt, b", marks");
-    mark(rt, t.marks[0]);
-    mark(rt, t.marks[1]);
-    mark(rt, t.marks[2]);
-    mark(rt, t.marks[3]);
+    for is_in in &t.marks[..4] {
+        let word = if *is_in { "in" } else { "out" };
+        let _ = print!(rt; " {word}");
+    }
     print(rt, b"\n");
 }
 
-fn partings(rt: &impl Print) {
-    parting(rt, 4, Priority(5), Priority(3));
-    parting(rt, 4, Priority(3), Priority(5));
-    parting(rt, 1, Priority(0), Priority(1));
-    parting(rt, 1, Priority(1), Priority(0));
-    parting(rt, 32, Priority(0), Priority(2147483648));
-    parting(rt, 32, Priority(0), Priority(4294967295));
-    parting(rt, 32, Priority(0), Priority(1));
-    parting(rt, 32, Priority(4294967295), Priority(4294967294));
-    parting(rt, 31, Priority(0), Priority(4294967295));
-    parting(rt, 0, Priority(3), Priority(4));
-    parting(rt, 33, Priority(3), Priority(4));
-    parting(rt, 2, Priority(4), Priority(4));
-    parting(rt, 2, Priority(1), Priority(4));
-    parting(rt, 4, Priority(3), Priority(3));
+// The answer, and the state after the call, or the one before it where it is refused.
+fn answered(rt: &impl Print, call: &str, before: Tournament, answer: Result<Tournament, Refusal>) {
+    let _ = print!(rt; "{call}: ");
+    match answer {
+        Ok(after) => {
+            print(rt, b"done");
+            shown(rt, after);
+        }
+        Err(no) => {
+            print_refusal(rt, no);
+            shown(rt, before);
+        }
+    }
+}
+
+fn stepped(rt: &impl Print, call: &str, t: Tournament) {
+    answered(rt, call, t, step(t));
+}
+
+fn ran(rt: &impl Print, call: &str, t: Tournament) {
+    answered(rt, call, t, run(t));
 }
 
 fn steps(rt: &impl Print) {
-    shown(
+    stepped(rt, "a step at bit 2", state(Phase::AtBit(2)));
+    stepped(
         rt,
-        b"a step at bit 2",
-        tournament::step(state(Phase::AtBit(2))),
-    );
-    shown(
-        rt,
-        b"a step with the winner a contender that is in",
-        tournament::step(state(Phase::Finished(Row(2)))),
+        "a step with the winner a contender that is in",
+        state(Phase::Finished(Row(2))),
     );
     let mut t = state(Phase::Finished(Row(2)));
     t.marks[2] = false;
-    shown(
-        rt,
-        b"a step with the winner marked out",
-        tournament::step(t),
-    );
+    stepped(rt, "a step with the winner marked out", t);
     t = state(Phase::AtBit(4));
     t.marks = [false; CONTENDERS];
-    shown(
-        rt,
-        b"a step at the last bit with none marked",
-        tournament::step(t),
-    );
+    stepped(rt, "a step at the last bit with none marked", t);
     t = state(Phase::AtBit(4));
     t.marks[0] = false;
-    shown(
-        rt,
-        b"a step at the last bit with rows 1 and 2 marked",
-        tournament::step(t),
-    );
+    stepped(rt, "a step at the last bit with rows 1 and 2 marked", t);
     t = state(Phase::AtBit(2));
     t.marks[1] = false;
-    shown(
-        rt,
-        b"a run from bit 2 with rows 0 and 2 marked",
-        tournament::run(t),
-    );
+    ran(rt, "a run from bit 2 with rows 0 and 2 marked", t);
 }
 
 fn refusals(rt: &impl Print) {
     let mut t = state(Phase::AtBit(9));
     t.count = 0;
     t.bits = 0;
-    shown(rt, b"no contenders, no bits", tournament::step(t));
+    stepped(rt, "no contenders, no bits", t);
     t.count = 129;
-    shown(rt, b"129 contenders, no bits", tournament::run(t));
+    ran(rt, "129 contenders, no bits", t);
     t.count = 4;
-    shown(rt, b"no bits, 99 in row 3, at bit 9", tournament::step(t));
+    stepped(rt, "no bits, 99 in row 3, at bit 9", t);
     t.bits = 4;
-    shown(rt, b"99 in row 3, at bit 9", tournament::step(t));
+    stepped(rt, "99 in row 3, at bit 9", t);
     t.count = 3;
     t.priorities[2] = Priority(5);
-    shown(rt, b"at bit 9, row 2 as row 0", tournament::run(t));
-    shown(rt, b"at bit 0", tournament::step(state(Phase::AtBit(0))));
-    shown(
-        rt,
-        b"row 3 of 3 has won",
-        tournament::step(state(Phase::Finished(Row(3)))),
-    );
+    ran(rt, "at bit 9, row 2 as row 0", t);
+    stepped(rt, "at bit 0", state(Phase::AtBit(0)));
+    stepped(rt, "row 3 of 3 has won", state(Phase::Finished(Row(3))));
     t = state(Phase::Finished(Row(0)));
     t.priorities[2] = Priority(5);
-    shown(rt, b"finished, row 2 as row 0", tournament::step(t));
+    stepped(rt, "finished, row 2 as row 0", t);
     t = state(Phase::NoWinner);
     t.priorities[2] = Priority(3);
-    shown(rt, b"no winner, row 2 as row 1", tournament::run(t));
-    shown(
-        rt,
-        b"a start of no contenders",
-        tournament::start(4, 0, [Priority(0); CONTENDERS]),
-    );
+    ran(rt, "no winner, row 2 as row 1", t);
+}
+
+// Before a start there is nobody, and no winner.
+fn nobody(rt: &impl Print) {
+    let mut before = state(Phase::NoWinner);
+    before.marks = [false; CONTENDERS];
+    let none = start(4, 0, [Priority(0); CONTENDERS]);
+    answered(rt, "a start of no contenders", before, none);
 }
 
 fn main(rt: HostRuntime) {
-    partings(&rt);
+    for (bits, a, b) in PAIRS {
+        parting(&rt, bits, a, b);
+    }
     steps(&rt);
     refusals(&rt);
+    nobody(&rt);
 }
