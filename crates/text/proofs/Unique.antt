@@ -5,7 +5,8 @@ use Prim.Native.Nat.{ℕ}
 use denote.RattleType.{RattleType}
 use denote.Param.Laws.{Laws}
 use mir.Syntax.{Dict}
-use Rattle.plan.specs.declared.Stream.{Stream}
+use Rattle.text.specs.declared.Told as told
+use Rattle.text.specs.declared.Laid as laid
 use Rattle.laws.specs.Determined.{OneOutcome}
 use Rattle.text.proofs.lay_text.Kinds as lay-text-kinds
 use Rattle.text.proofs.lay_text.Reads as lay-text
@@ -17,10 +18,8 @@ use Rattle.text.proofs.lay_refusal.Kinds as lay-refusal-kinds
 use Rattle.text.proofs.lay_refusal.Reads as lay-refusal
 use Rattle.text.proofs.lay_lines.Kinds as lay-lines-kinds
 use Rattle.text.proofs.lay_lines.Reads as lay-lines
-use Rattle.text.specs.contracts.lay_lines.F-Fn as lay-lines-given
 use Rattle.text.proofs.put.Kinds as put-kinds
 use Rattle.text.proofs.put.Reads as put
-use Rattle.text.specs.contracts.put.F-Fn as put-given
 use Rattle.text.proofs.listing.Kinds as listing-kinds
 use Rattle.text.proofs.listing.Reads as listing
 use Rattle.text.proofs.refused.Kinds as refused-kinds
@@ -38,15 +37,13 @@ lay_label_one κs a x y ws us p q = (p.place ∙ sym q.place, ap (λ (l : List �
 pub lay_refusal_one : OneOutcome 1 lay-refusal-kinds.ps lay-refusal-kinds.r lay-refusal.Post
 lay_refusal_one κs a x y ws us p q = (p.place ∙ sym q.place, ap (λ (l : List ℕ). (l, (tt, (tt, tt)))) (p.bytes ∙ sym q.bytes))
 
--- of any function that is lent, at any lines that it lays ..
-pub lay_lines_one : (F : RattleType) (L : Laws F) (given : lay-lines-given.Ghosts F) (c d e h : Dict) (line : Stream → ℕ → List ℕ)
-    → OneOutcome 3 (lay-lines-kinds.ps F L) (lay-lines-kinds.r F L) (lay-lines.Post-at F L given c d e h line)
-lay_lines_one F L given c d e h line κs a x y ws us p q = (p.place ∙ sym q.place, ap (λ (l : List ℕ). (l, (tt, (tt, (tt, tt))))) (p.bytes ∙ sym q.bytes))
+-- whatever is told of each stream ..
+pub lay_lines_one : (T : RattleType) (L : Laws T) (line : told.Ghosts T.Denot) (d : Dict) → OneOutcome 4 (lay-lines-kinds.ps T L) (lay-lines-kinds.r T L) (lay-lines.Post T L line d)
+lay_lines_one T L line d κs a x y ws us p q = (p.place ∙ sym q.place, ap (λ (l : List ℕ). (l, (tt, (tt, (tt, tt))))) (p.bytes ∙ sym q.bytes))
 
--- .. and at any text
-pub put_one : (F : RattleType) (L : Laws F) (given : put-given.Ghosts F) (c d e h : Dict) (text : List ℕ)
-    → OneOutcome 2 (put-kinds.ps F L) (put-kinds.r F L) (put.Post-at F L given c d e h text)
-put_one F L given c d e h text κs a x y ws us p q = (p.0 ∙ sym q.0, ap (λ (l : List ℕ). (l, (tt, tt))) (p.1 ∙ sym q.1))
+-- .. and whatever is put
+pub put_one : (T : RattleType) (L : Laws T) (bytes : laid.Ghosts T.Denot) (d : Dict) → OneOutcome 3 (put-kinds.ps T L) (put-kinds.r T L) (put.Post T L bytes d)
+put_one T L bytes d κs a x y ws us p q = (p.0 ∙ sym q.0, ap (λ (l : List ℕ). (l, (tt, tt))) (p.1 ∙ sym q.1))
 
 pub listing_one : OneOutcome 2 listing-kinds.ps listing-kinds.r listing.Post
 listing_one κs a x y ws us p q = (p.0 ∙ sym q.0, ap (λ (l : List ℕ). (tt, (tt, (l, tt)))) (p.1 ∙ sym q.1))

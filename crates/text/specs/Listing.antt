@@ -1,9 +1,5 @@
 -- The listing of document 01, "Plans to run", with the instance that gives the bound (document 02, request 03), byte by byte.
 use Rattle.std.specs.Prelude.{List, [], ◌∷◌, ◌++◌, ℕ, suc, ◌/◌, ◌%◌}
-use Rattle.std.specs.Fn.{Shared}
-use Rattle.std.specs.Borrow.{MutBor}
-use Rattle.names.specs.declared.Row.{Row}
-use Rattle.text.specs.Put.{Lays}
 use Rattle.names.specs.declared.Label.{Label}
 use Rattle.names.specs.declared.Refusal.{Refusal}
 use Rattle.bound.specs.declared.Verdict.{Verdict, TheVariants.Met, TheVariants.Missed, TheVariants.None}
@@ -67,14 +63,6 @@ listed_rows row (s ∷ ss) (a ∷ told) = row s a ++ listed_rows row ss told
 unfoldable pub lines_from : (Stream → ℕ → List ℕ) → ℕ → List Stream → List ℕ
 lines_from line k [] = []
 lines_from line k (s ∷ ss) = line s k ++ lines_from line (suc k) ss
-
--- each call of a function that is lent lays the line of the stream and the row that it is given
-abbrev pub LaysLines
-    : {F : Type 0} → Shared F (MutBor (List ℕ) × (ℕ × (Stream × (Row × Unit {0})))) (ℕ × (MutBor (List ℕ) × Unit {0})) → F
-    → (Stream → ℕ → List ℕ) → Type 0
-LaysLines g f line =
-    (p : MutBor (List ℕ)) (at : ℕ) (s : Stream) (row : Row) (next : ℕ) (q : MutBor (List ℕ)) → g.post f (p, (at, (s, (row, tt)))) (next, (q, tt))
-    → Lays p.now at (line s row.0) next q.now
 
 -- the whole listing of a plan and its rows' answers
 unfoldable pub listing_of : Plan → List Answer → List ℕ

@@ -1,8 +1,6 @@
 -- What it is to lay a text into a lent buffer, as much of it as there is room for, and to put it there, whole or not at all.
 use Rattle.std.specs.Prelude.{◌≡◌, cond, List, ◌++◌, ℕ, ◌+◌, ◌-◌, ◌^◌, min, leb, length, take, drop}
 use Rattle.std.specs.Prelude.{Option, Some, None}
-use Rattle.std.specs.Fn.{Shared}
-use Rattle.std.specs.Borrow.{MutBor}
 
 -- the last place that a usize can count
 abbrev pub last_place : ℕ
@@ -27,8 +25,3 @@ put buffer at text =
 -- r is the answer to a text at a place, and `after` is what the buffer ends with
 abbrev pub Puts : List ℕ → ℕ → List ℕ → Option ℕ → List ℕ → Type 0
 Puts before at text r after = (r ≡ (put before at text).0) × (after ≡ (put before at text).1)
-
--- each call of a function that is lent lays the text
-abbrev pub LaysText : {F : Type 0} → Shared F (MutBor (List ℕ) × (ℕ × Unit {0})) (ℕ × (MutBor (List ℕ) × Unit {0})) → F → List ℕ → Type 0
-LaysText g f text =
-    (p : MutBor (List ℕ)) (at next : ℕ) (q : MutBor (List ℕ)) → g.post f (p, (at, tt)) (next, (q, tt)) → Lays p.now at text next q.now

@@ -6,11 +6,12 @@
 // checks, or of how an answer comes about.
 #![tactic(auto)]
 
-ghost use Rattle.std.specs.Prelude.{List, [], ◌∷◌, ℕ};
+ghost use Rattle.std.specs.Prelude.{List, [], ◌∷◌, ◌++◌, ℕ};
 ghost use Rattle.decimal.specs.Decimal.{digits};
+ghost use Rattle.row_words.specs.RowWords.{answer_at};
 ghost use Rattle.text.specs.Listing as text;
 ghost use Rattle.plan.specs.declared.Stream.{Stream as Stream·Stream};
-ghost use Rattle.text.specs.Put.{Lays, Puts, LaysText};
+ghost use Rattle.text.specs.Put.{Lays, Puts};
 
 use bound::{Answer, Verdict};
 use names::{Label, Refusal, Row, STREAMS};
@@ -102,36 +103,35 @@ fn lay_row(out: &mut [u8], at: usize, stream: Stream, answer: Answer) -> usize
     lay(out, end, b'\n')
 }
 
-// A line for each stream, as the caller lays the line of a stream and its row.
-pub fn lay_lines<F: Fn(&mut [u8], usize, Stream, Row) -> usize>(
-    out: &mut [u8],
-    at: usize,
-    streams: &[Stream],
-    lay_line: F,
-) -> usize
-    ghost line: { Stream·Stream → ℕ → List ℕ }
-    requires callable { F.IsAlwaysCallable lay_line }
-    requires lays { text.LaysLines F.Fn lay_line line }
-    ensures { Lays out.old at (text.lines_from line 0 streams.now) result out.new }
+// What is told of each stream, by its row: a line each.
+pub trait Told {
+    ghost line: { Self → Stream·Stream → ℕ → List ℕ };
+
+    fn lay_line(&self, out: &mut [u8], at: usize, stream: Stream, row: Row) -> usize
+        ensures { Lays out.old at (line self.now stream row.0) result out.new };
+}
+
+// A line for each stream, laid.
+pub fn lay_lines<T: Told>(out: &mut [u8], at: usize, streams: &[Stream], told: &T) -> usize
+    ensures { Lays out.old at (text.lines_from (T.line told.now) 0 streams.now) result out.new }
 {
     let mut next = at;
     for (k, stream) in streams.iter().enumerate() {
-        next = lay_line(out, next, *stream, Row(k));
+        next = told.lay_line(out, next, *stream, Row(k));
     }
     next
 }
 
-fn lay_listing(out: &mut [u8], at: usize, sheet: Sheet, answers: &[u64]) -> usize
-    ensures { Lays out.old at (text.listing_in sheet answers.now) result out.new }
-{
-    let n = sheet.count.min(STREAMS);
-    let at = lay_text(out, at, b"label priority bound instance deadline verdict\n");
-    lay_lines(
-        out,
-        at,
-        &sheet.streams[..n],
-        |out, at, stream, row| lay_row(out, at, stream, answer_in(answers, row)),
-    )
+// The rows' answers, in their words.
+#[derive(Clone, Copy)]
+struct Answers<'a>(&'a [u64]);
+
+impl Told for Answers<'_> {
+    ghost line = { λ answers s k. text.row s (answer_at answers.0.now k) };
+
+    fn lay_line(&self, out: &mut [u8], at: usize, stream: Stream, row: Row) -> usize {
+        lay_row(out, at, stream, answer_in(self.0, row))
+    }
 }
 
 // The line of a refusal, laid.
@@ -145,31 +145,61 @@ pub fn lay_refusal(out: &mut [u8], at: usize, refusal: Refusal) -> usize
     lay(out, at, b'\n')
 }
 
-// A text at the start of the buffer, as the caller lays it: it is laid past the buffer's end first, which only measures it.
-pub fn put<F: Fn(&mut [u8], usize) -> usize>(out: &mut [u8], lay_all: F) -> Option<usize>
-    ghost text: { List ℕ }
-    requires callable { F.IsAlwaysCallable lay_all }
-    requires lays { LaysText F.Fn lay_all text }
-    ensures { Puts out.old 0 text result out.new }
+// A text that can be laid. Its length need not be known: laid past the buffer's end, it is measured.
+pub trait Laid {
+    ghost bytes: { Self → List ℕ };
+
+    fn lay(&self, out: &mut [u8], at: usize) -> usize
+        ensures { Lays out.old at (bytes self.now) result out.new };
+}
+
+// A text at the start of the buffer.
+pub fn put<T: Laid>(out: &mut [u8], text: &T) -> Option<usize>
+    ensures { Puts out.old 0 (T.bytes text.now) result out.new }
 {
     let size = out.len();
-    let bytes = lay_all(out, size) - size;
+    let bytes = text.lay(out, size) - size;
     if size < bytes {
         return None;
     }
-    Some(lay_all(out, 0))
+    Some(text.lay(out, 0))
+}
+
+impl Laid for Refusal {
+    ghost bytes = { text.refused_of };
+
+    fn lay(&self, out: &mut [u8], at: usize) -> usize {
+        lay_refusal(out, at, *self)
+    }
+}
+
+// A sheet's plan and its rows' answers, as the listing shows them.
+#[derive(Clone, Copy)]
+struct Listed<'a> {
+    sheet: Sheet,
+    answers: &'a [u64],
+}
+
+impl Laid for Listed<'_> {
+    ghost bytes = { λ l. text.listing_in l.sheet l.answers.now };
+
+    fn lay(&self, out: &mut [u8], at: usize) -> usize {
+        let n = self.sheet.count.min(STREAMS);
+        let at = lay_text(out, at, b"label priority bound instance deadline verdict\n");
+        lay_lines(out, at, &self.sheet.streams[..n], &Answers(self.answers))
+    }
 }
 
 // The listing of a sheet's plan with its rows' answers, which stand in words, at the start of the buffer.
 pub fn listing(sheet: Sheet, answers: &[u64], out: &mut [u8]) -> Option<usize>
     ensures { Puts out.old 0 (text.listing_in sheet answers.now) result out.new }
 {
-    put(out, |out, at| lay_listing(out, at, sheet, answers))
+    put(out, &Listed { sheet, answers })
 }
 
 // The line of a refusal, at the start of the buffer.
 pub fn refused(refusal: Refusal, out: &mut [u8]) -> Option<usize>
     ensures { Puts out.old 0 (text.refused_of refusal) result out.new }
 {
-    put(out, |out, at| lay_refusal(out, at, refusal))
+    put(out, &refusal)
 }

@@ -4,14 +4,15 @@
 // `None` and leaves the buffer as it was. Nothing is assumed. This crate must not know of files, of checks, or of how a wait comes about.
 #![tactic(auto)]
 
+ghost use Rattle.row_words.specs.RowWords.{wait_at};
 ghost use Rattle.text.specs.Put.{Lays, Puts};
 ghost use Rattle.wait_lines.specs.Lines.{wait_row, lines_in};
 
 use bound::Wait;
-use names::STREAMS;
+use names::{Row, STREAMS};
 use plan::{Sheet, Stream};
 use row_words::wait_in;
-use text::{lay_label, lay_lines, lay_number, lay_text, put};
+use text::{Laid, Told, lay_label, lay_lines, lay_number, lay_text, put};
 
 fn lay_wait(out: &mut [u8], at: usize, stream: Stream, wait: Wait) -> usize
     ensures { Lays out.old at (wait_row stream wait) result out.new }
@@ -25,22 +26,38 @@ fn lay_wait(out: &mut [u8], at: usize, stream: Stream, wait: Wait) -> usize
     lay_text(out, at, b"\n")
 }
 
-fn lay_waits(out: &mut [u8], at: usize, sheet: Sheet, waits: &[u64]) -> usize
-    ensures { Lays out.old at (lines_in sheet waits.now) result out.new }
-{
-    let n = sheet.count.min(STREAMS);
-    let at = lay_text(out, at, b"label evaluations limit\n");
-    lay_lines(
-        out,
-        at,
-        &sheet.streams[..n],
-        |out, at, stream, row| lay_wait(out, at, stream, wait_in(waits, row)),
-    )
+// The rows' waits, in their words.
+#[derive(Clone, Copy)]
+struct Kept<'a>(&'a [u64]);
+
+impl Told for Kept<'_> {
+    ghost line = { λ waits s k. wait_row s (wait_at waits.0.now k) };
+
+    fn lay_line(&self, out: &mut [u8], at: usize, stream: Stream, row: Row) -> usize {
+        lay_wait(out, at, stream, wait_in(self.0, row))
+    }
+}
+
+// A sheet's plan and its rows' waits, as they are shown.
+#[derive(Clone, Copy)]
+struct Listed<'a> {
+    sheet: Sheet,
+    waits: &'a [u64],
+}
+
+impl Laid for Listed<'_> {
+    ghost bytes = { λ l. lines_in l.sheet l.waits.now };
+
+    fn lay(&self, out: &mut [u8], at: usize) -> usize {
+        let n = self.sheet.count.min(STREAMS);
+        let at = lay_text(out, at, b"label evaluations limit\n");
+        lay_lines(out, at, &self.sheet.streams[..n], &Kept(self.waits))
+    }
 }
 
 // The lines of a sheet's plan with its rows' waits, which stand in words, at the start of the buffer.
 pub fn waits(sheet: Sheet, waits: &[u64], out: &mut [u8]) -> Option<usize>
     ensures { Puts out.old 0 (lines_in sheet waits.now) result out.new }
 {
-    put(out, |out, at| lay_waits(out, at, sheet, waits))
+    put(out, &Listed { sheet, waits })
 }

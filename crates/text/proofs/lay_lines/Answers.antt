@@ -12,5 +12,5 @@ loop-k-init g c = none _ _ (omega arith)
 pub loop-k-preserved : goal.loop-k-preserved
 loop-k-preserved g c =
     let l = c.loop-k in
-    is (lines_more g.line l.k c.args.streams.now blank (omega arith))
-    (then l.invariant (last (c.requires.1.1 _ _ _ _ _ _ c.lay_line-next.ensures)) (omega arith))
+    is (lines_more (g.T.Told.line c.args.told.now) l.k c.args.streams.now blank (omega arith))
+    (then l.invariant (last c.lay_line-next.ensures) (omega arith))

@@ -5,4 +5,4 @@ use Rattle.text.specs.Put.{Lays}
 use Rattle.text.proofs.lay_lines.Given as goal
 
 abbrev pub invariant-loop-k : goal.invariant-loop-k
-invariant-loop-k g l = Lays l.initial.out l.initial.next (lines_from g.line 0 (take l.k l.streams)) l.next l.out
+invariant-loop-k g l = Lays l.initial.out l.initial.next (lines_from (g.T.Told.line l.told) 0 (take l.k l.streams)) l.next l.out

@@ -4,8 +4,7 @@ use Rattle.text.proofs.Laying.{put_full, put_at}
 use Rattle.text.proofs.put.Goals as goal
 
 pub returns-then-size-bytes : goal.returns-then-size-bytes
-returns-then-size-bytes g c = put_full 0 (omega arith) (c.requires.1.1 _ _ _ _ c.lay_all.ensures) (omega arith)
+returns-then-size-bytes g c = put_full 0 (omega arith) c.lay.ensures (omega arith)
 
 pub returns : goal.returns
-returns g c =
-    put_at 0 (omega arith) (c.requires.1.1 _ _ _ _ c.lay_all.ensures) (omega arith) (c.requires.1.1 _ _ _ _ c.lay_all-2.ensures)
+returns g c = put_at 0 (omega arith) c.lay.ensures (omega arith) c.lay-2.ensures

@@ -7,11 +7,11 @@ use Rattle.row_words.specs.RowWords.{answer_at}
 use Rattle.text.specs.Listing.{row, listing_of}
 use Rattle.text.proofs.Laying.{is, then, last}
 use Rattle.text.proofs.Rows.{lines_told}
-use Rattle.text.proofs.lay_listing.Goals as goal
+use Rattle.text.proofs.ListedLaid.lay.Goals as goal
 
 pub returns : goal.returns
 unfolding listing_of
 returns c =
-    let a = c.args in
+    let a = c.args.self.now in
     let n : c.min-n.result ≡ min a.sheet.count (length a.sheet.streams) = omega arith in
     then c.lay_text-at.ensures (last (is (lines_told row (answer_at a.answers.now) a.sheet.count c.min-n.result a.sheet.streams n) c.lay_lines.ensures)) (omega arith)
