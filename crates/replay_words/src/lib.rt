@@ -14,7 +14,7 @@ ghost use Rattle.replay_words.specs.private.Reading.{words_left, number_in, with
 
 use names::{CONTENDERS, Priority};
 use replay_screen::lay_shown;
-use text::{lay_number, lay_text, put};
+use text::{Laid, lay_number, lay_text, put};
 
 // How many bytes at the start part words ..
 fn parting(text: &[u8]) -> usize
@@ -146,11 +146,23 @@ fn lay_replay(out: &mut [u8], at: usize, text: &[u8]) -> usize
     }
 }
 
+// The one tournament of a text, as a person writes it.
+#[derive(Clone, Copy)]
+struct Handwritten<'a>(&'a [u8]);
+
+impl Laid for Handwritten<'_> {
+    ghost bytes = { λ t. replay_of (text_words t.0.now) };
+
+    fn lay(&self, out: &mut [u8], at: usize) -> usize {
+        lay_replay(out, at, self.0)
+    }
+}
+
 // What is shown of the one tournament of a text, at the start of the buffer.
 pub fn replay(text: &[u8], out: &mut [u8]) -> Option<usize>
     ensures { Puts out.old 0 (replay_of (text_words text.now)) result out.new }
 {
-    put(out, |out, at| lay_replay(out, at, text))
+    put(out, &Handwritten(text))
 }
 
 // Whether a text has a word.
