@@ -23,13 +23,12 @@ fn bucket(value: u32, buckets: usize) -> usize
 }
 
 // The lowest row that has the value of an earlier row. A bucket may be met from the start: then only more rows are held against each other.
-fn first_by_buckets(values: &[u32], met: &mut [bool]) -> Option<Row>
-    requires { 0 < length met.old }
+fn first_by_buckets<const COUNT: usize>(values: &[u32], mut met: [bool; COUNT]) -> Option<Row>
+    requires { 0 < COUNT }
     ensures { result ≡ first_repeat values.now }
 {
-    let buckets = met.len();
     for (i, value) in values.iter().enumerate() {
-        let b = bucket(*value, buckets);
+        let b = bucket(*value, COUNT);
         if met[b] && values[..i].contains(value) {
             return Some(Row(i));
         }
@@ -43,9 +42,7 @@ pub fn first_repeat(values: &[u32]) -> Option<Row>
     ensures { result ≡ first_repeat values.now }
 {
     if values.len() <= FEW {
-        let mut one = [true];
-        return first_by_buckets(values, &mut one);
+        return first_by_buckets(values, [true]);
     }
-    let mut met = [false; BUCKETS];
-    first_by_buckets(values, &mut met)
+    first_by_buckets(values, [false; BUCKETS])
 }

@@ -47,6 +47,7 @@ fn share_fits(cost: u64, period: u64, jitter: u64) -> bool
     (cost <= COST) & (1 <= period) & (period <= TICKS) & (jitter <= TICKS)
 }
 
+// There is no way out of the loop: measured, `all`, which leaves at the first that fails, takes longer where all of many pass.
 fn shares_fit(terms: LentTerms) -> bool
     requires { long_enough (lent_terms terms) ≡ true }
     ensures { result ≡ shares_fit (lent_terms terms.entry) }
@@ -70,6 +71,7 @@ fn source_fits(hit: u64, each: u64, gap: u64) -> bool
     (1 <= gap) & (gap <= TICKS) & (each == hit)
 }
 
+// The sources are gone through as the shares are.
 fn sources_fit(terms: LentTerms) -> bool
     requires { long_enough (lent_terms terms) ≡ true }
     ensures { result ≡ sources_fit terms.entry.row terms.entry.costs.now terms.entry.periods.now }

@@ -14,4 +14,4 @@ abbrev pub Met : ℕ → List ℕ → List Bool → ℕ → Type 0
 Met n xs met i = (j : ℕ) → j < i → get_or met (bucket_of n (get_or xs j 0)) false ≡ true
 
 abbrev pub invariant-loop-i : goal.invariant-loop-i
-invariant-loop-i l = NoneBelow (repeats_at l.values) l.i × Met (length l.initial.met) l.values l.met l.i
+invariant-loop-i g l = NoneBelow (repeats_at l.values) l.i × (length l.met ≡ g.row.COUNT) × Met g.row.COUNT l.values l.met l.i
