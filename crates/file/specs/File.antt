@@ -102,12 +102,12 @@ contents_lines edition n m bs =
     ∷ range_lines edition n m
 
 -- an edition and the counts of n streams and m gaps
-abbrev pub counted : Edition → ℕ → ℕ → Result Counts Refusal
-counted edition n m = Ok (record { edition = edition; n = n; m = m })
+abbrev pub counts_said : Edition → ℕ → ℕ → Result Counts Refusal
+counts_said edition n m = Ok (record { edition = edition; n = n; m = m })
 
 -- an answer with the edition and the counts that it is about
 abbrev pub counts_as : Checked → Edition → ℕ → ℕ → Result Counts Refusal
-counts_as (Ok _) edition n m = counted edition n m
+counts_as (Ok _) edition n m = counts_said edition n m
 counts_as (Err r) edition n m = Err r
 
 -- what the contents of any bytes at all say: the edition, and n and m are what they count
