@@ -1,4 +1,5 @@
 -- U has the same value, and every other letter of the two rules is put together from it in the same way. Assumes nothing.
+use Rattle.file.specs.File.{ReadPlan}
 use Rattle.std.specs.Prelude.{Result}
 use Rattle.plan.specs.declared.Sheet.{Sheet}
 use Rattle.names.specs.declared.Refusal.{Refusal}
@@ -91,7 +92,7 @@ same_of_file bs edition n m e fine =
     go (Ok _) j a =
         let p = meant (entered_at edition n m bs) in
         let right = meant_is_right edition n m (entered_at edition n m bs) j in
-        ap (λ (r : Result Sheet Refusal). answers (plan_of (read_sheet r))) (counts_are bs edition n m e ∙ ap (λ c. read_as c p) j)
+        ap (λ (r : ReadPlan). answers (plan_of (read_sheet r))) (counts_are bs edition n m e ∙ ap (λ c. read_as c p) j)
         ∙ ap answers (one_sheet p right.within.count right.within.sources)
     go (Err r) j a = absurd (refused_not_fine a)
 
