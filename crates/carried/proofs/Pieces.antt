@@ -2,16 +2,17 @@
 -- are written over. Assumes nothing.
 use mathlib.Core.Path.{◌≡◌, refl, sym, ap, ◌∙◌}
 use mathlib.Core.List.{List, [], ◌++◌}
-use Prim.Native.Nat.{ℕ, zero, suc, ◌+◌, ◌*◌, ◌≤◌, ◌<◌}
+use Prim.Native.Nat.{ℕ, zero, suc, ◌+◌, ◌*◌, ◌≤◌, ◌<◌, min}
 use native.Mathlib.Nat.{mul-zero, mul-suc, add-zero}
 use native.Mathlib.Omega.{arith}
 use lib.ListN.{length, get_or, take, drop, replicate}
 use lib.Seq.{get_or-drop, drop-drop}
 use Rattle.std.proofs.lemmas.List.{get_or-take}
 use Rattle.std.specs.Simd.{first_chunks}
+use Rattle.names.specs.Limits.{streams}
 use Rattle.laws.specs.Lists.{placed}
 use Rattle.laws.proofs.Placed.{placed_to, placed_short, drop_replicate}
-use Rattle.laws.proofs.Lists.{rows_same, rows_take, rows_at}
+use Rattle.laws.proofs.Lists.{rows_same, rows_take, rows_at, length_rows}
 use Rattle.carried.specs.Layout as layout
 use Rattle.carried.specs.Carried.{stream_in, records_in}
 
@@ -25,6 +26,10 @@ chunk_at c (suc m) zero l h = rw (mul-zero c) refl
 chunk_at c (suc m) (suc k) l h =
     let e : c + c * k ≡ c * suc k = omega (arith, mul-suc c k) in
     chunk_at c m k (drop c l) (omega arith) ∙ ap (take c) (drop-drop (c * k) c l ∙ ap (λ i. drop i l) e)
+
+-- as many records are taken as are counted and have a place
+pub length_records : (n : ℕ) (ws : List ℕ) {records : List (List ℕ)} → records ≡ records_in (min n streams) ws → length records ≡ min n streams
+length_records n ws e = ap length e ∙ length_rows (min n streams) _
 
 module _ (n : ℕ) (ws : List ℕ) where
   pub cut : (m : ℕ) {l : List ℕ} → l ≡ drop layout.timing_length ws → n ≤ m → take n (first_chunks layout.stream_length m l) ≡ records_in n ws

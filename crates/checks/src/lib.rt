@@ -6,7 +6,7 @@
 // them.
 #![tactic(auto)]
 
-ghost use Rattle.std.specs.Prelude.{◌≡◌, ◌+◌, ◌≤◌, ◌<◌, min, ltb, length, get_or, take};
+ghost use Rattle.std.specs.Prelude.{◌≡◌, ◌+◌, ◌≤◌, ◌<◌, min, ltb, get_or};
 ghost use Rattle.names.specs.Limits as limit;
 ghost use Rattle.laws.specs.Lists.{rows};
 ghost use Rattle.repeats.specs.Repeats.{first_repeat};
@@ -18,7 +18,7 @@ ghost use Rattle.carried.specs.Carried.{entered_timing_in, timing_in, streams_in
 ghost use Rattle.checks.specs.Checks.{in_range, range_lines, field_lines, lag_lines, row_lines, slot_lines, lines, checked_of};
 
 use carried::{
-    CARRIED, CONTENTS, Counts, ETG, Edition, LAG, STREAM, TIMING, WORD, in_bodies, most_streams,
+    CARRIED, CONTENTS, Counts, ETG, Edition, LAG, STREAM, WORD, in_bodies, most_streams, records,
     timing_in, words_of,
 };
 use costs::overheads_of;
@@ -40,27 +40,18 @@ const ACKNOWLEDGEMENT: usize = 6;
 // The most that ETG + LAG may be: it is one constant of the plan.
 const SUM: u64 = CONSTANT as u64;
 
-// Word k of each stream, in row order: a column of plain numbers, as it can be lent.
-fn put_column(words: &[u32; CARRIED], n: usize, k: usize, out: &mut [u32])
-    requires n_le_streams { n ≤ limit.streams }
+// The first row that repeats word k of an earlier one, by a column of plain numbers, as it can be lent, in a room of R places.
+fn repeat_in<const R: usize>(words: &[u32; CARRIED], n: usize, k: usize) -> Option<Row>
+    requires n_le_R { n ≤ R }
+    requires R_le_streams { R ≤ limit.streams }
     requires k_lt_stream_length { k < layout.stream_length }
-    requires n_in_bounds { n ≤ length out.old }
-    ensures { take n out.new ≡ rows n (λ j. get_or words.now (layout.stream_at j + k) 0) }
-{
-    for r in 0..n {
-        out[r] = words[TIMING + STREAM * r + k];
-    }
-}
-
-// The first row that repeats word k of an earlier one, by a column in a room that is large enough.
-fn repeat_in(words: &[u32; CARRIED], n: usize, k: usize, room: &mut [u32]) -> Option<Row>
-    requires n_le_streams { n ≤ limit.streams }
-    requires k_lt_stream_length { k < layout.stream_length }
-    requires n_in_bounds { n ≤ length room.old }
     ensures { result ≡ first_repeat (rows n (λ j. get_or words.now (layout.stream_at j + k) 0)) }
 {
-    put_column(words, n, k, room);
-    first_repeat(&room[..n])
+    let mut column = [0; R];
+    for (r, record) in records(words, n).iter().enumerate() {
+        column[r] = record[k];
+    }
+    first_repeat(&column[..n])
 }
 
 // Few rows have a small room.
@@ -70,11 +61,9 @@ fn repeat_of(words: &[u32; CARRIED], n: usize, k: usize) -> Option<Row>
     ensures { result ≡ first_repeat (rows n (λ j. get_or words.now (layout.stream_at j + k) 0)) }
 {
     if n <= FEW {
-        let mut few = [0; FEW];
-        return repeat_in(words, n, k, &mut few);
+        return repeat_in::<FEW>(words, n, k);
     }
-    let mut room = [0; STREAMS];
-    repeat_in(words, n, k, &mut room)
+    repeat_in::<STREAMS>(words, n, k)
 }
 
 // Whether there may be so many streams and gaps.
@@ -118,7 +107,7 @@ pub fn check_fields(counts: Counts, words: &[u32; CARRIED]) -> Result<(), Refusa
 fn too_much(etg: u32, lag: u32) -> bool
     ensures { result ≡ ltb limit.constant (etg + lag) }
 {
-    SUM < etg as u64 + lag as u64
+    SUM < u64::from(etg) + u64::from(lag)
 }
 
 // 11: ETG + LAG is above 65,535.
@@ -146,11 +135,11 @@ pub fn check_rows(words: &[u32; CARRIED], n: usize) -> Result<(), Refusal>
 }
 
 // Whether a message does not fit its slot: what comes to its payload and its acknowledgement is given beside.
-fn too_long(slot: u32, beside: u64, payload: u32, acknowledgement: u32) -> bool
+fn too_long(slot: u32, beside: u64, stream: &[u32; STREAM]) -> bool
     requires { beside ≤ most_V + most_U }
-    ensures { result ≡ ltb slot (beside + payload + acknowledgement) }
+    ensures { result ≡ ltb slot (beside + get_or stream.now 4 0 + get_or stream.now 6 0) }
 {
-    (slot as u64) < beside + payload as u64 + acknowledgement as u64
+    u64::from(slot) < beside + u64::from(stream[PAYLOAD]) + u64::from(stream[ACKNOWLEDGEMENT])
 }
 
 // 10: the lowest row whose C'' exceeds P, where there is a master node.
@@ -167,14 +156,8 @@ fn check_slots(words: &[u32; CARRIED], n: usize) -> Result<(), Refusal>
     }
     let c = overheads_of(timing);
     let beside = c.lead + c.u;
-    for r in 0..n {
-        let at = TIMING + STREAM * r;
-        if too_long(
-            slot,
-            beside,
-            words[at + PAYLOAD],
-            words[at + ACKNOWLEDGEMENT],
-        ) {
+    for (r, record) in records(words, n).iter().enumerate() {
+        if too_long(slot, beside, record) {
             return refused(10, r);
         }
     }

@@ -21,41 +21,26 @@ pub struct Overheads {
     pub slot: u64,
 }
 
-fn longer(a: u32, b: u32) -> u64
-    ensures value { result ≡ max a b }
-    ensures upper_bound { result < 2 ^ 32 }
-{
-    if a < b { b as u64 } else { a as u64 }
-}
-
-// NB, of 32 bits at most.
-fn few_bits(nb: u32) -> u64
-    ensures value { result ≡ min nb limit.bits }
-    ensures upper_bound { result ≤ limit.bits }
-{
-    if BITS < nb { BITS as u64 } else { nb as u64 }
-}
-
-// A pulse and its guard for each priority bit.
+// A pulse and its guard for each priority bit, of which there are 32 at most.
 fn pulses(h: u32, g: u32, nb: u32) -> u64
     ensures value { result ≡ (h + g) * min nb limit.bits }
     ensures upper_bound { result ≤ 2 ^ 33 * limit.bits }
 {
-    (h as u64 + g as u64) * few_bits(nb)
+    (u64::from(h) + u64::from(g)) * u64::from(nb.min(BITS))
 }
 
 // V = F + E + max(TFCS, SWX) + H.
 fn v_of(t: Timing) -> u64
     ensures { result ≡ «V» t }
 {
-    t.f as u64 + t.e as u64 + longer(t.tfcs, t.swx) + t.h as u64
+    u64::from(t.f) + u64::from(t.e) + u64::from(t.tfcs.max(t.swx)) + u64::from(t.h)
 }
 
 // U = G + (H + G) * NB + ETG.
 fn u_of(t: Timing) -> u64
     ensures { result ≡ U (few_bits t) }
 {
-    t.g as u64 + pulses(t.h, t.g, t.nb) + t.etg as u64
+    u64::from(t.g) + pulses(t.h, t.g, t.nb) + u64::from(t.etg)
 }
 
 // V comes first, and a release joins while it lasts; in slots H alone does, and none joins after the pulse.
@@ -64,18 +49,18 @@ pub fn overheads_of(t: Timing) -> Overheads
 {
     let u = u_of(t);
     if t.p == 0 {
-        let v = v_of(t);
+        let lead = v_of(t);
         return Overheads {
-            lead: v,
+            lead,
             u,
-            late: v,
+            late: lead,
             slot: 0,
         };
     }
     Overheads {
-        lead: t.h as u64,
+        lead: u64::from(t.h),
         u,
         late: 0,
-        slot: t.p as u64,
+        slot: u64::from(t.p),
     }
 }

@@ -4,7 +4,7 @@ use mathlib.Core.Path.{◌≡◌, refl, sym, ap, ◌∙◌}
 use mathlib.Core.Bool.{Bool, true, false, ◌&&◌}
 use mathlib.Core.List.{List, [], ◌∷◌, ◌++◌, map, flat_map}
 use Prim.Native.Nat.{ℕ, zero, suc, ◌+◌, ◌*◌, ◌≤◌, ◌<◌}
-use native.Mathlib.Nat.{add-zero, add_assoc}
+use native.Mathlib.Nat.{add-zero}
 use native.Mathlib.Numerals.{add-one}
 use native.Mathlib.Omega.{arith}
 use borrow.Author.Tests.{le-leb, lt-leb}
@@ -17,6 +17,7 @@ use Rattle.plan.specs.declared.Stream.{Stream}
 use Rattle.carried.specs.declared.Edition.{Edition}
 use Rattle.carried.specs.Layout as layout
 use Rattle.carried.specs.Carried.{Entered}
+use Rattle.fields.specs.declared.Band.{Band}
 use Rattle.fields.specs.Fields.{Field, ◌from◌to◌, timing_fields, stream_fields, gap_field, fields, inside, lowest}
 use Rattle.fields.specs.private.Bands.{fields_of}
 
@@ -109,32 +110,10 @@ module _ (edition : Edition) (v : Entered) where
         ∙ append_none (layout.stream_at 0) (flat_map (stream_fields v.timing.nb) v.streams) _ d
         ∙ ap (λ n. lowest (layout.stream_at 0 + n) (map gap_field v.gaps)) (length_streams v.timing.nb v.streams)
 
--- ---- a loop over words with their limits beside them
-module _ (words least most : List ℕ) where
-  -- what is left from i on
-  abbrev pub rest : ℕ → List Field
-  rest i = fields_of (drop i words) (drop i least) (drop i most)
-
-  module _ (k i : ℕ) (a : length least ≡ length words) (b : length most ≡ length words) (h : i < length words)
-      (so_far : lowest k (fields_of words least most) ≡ lowest (k + i) (rest i)) where
-    next : rest i ≡ get_or words i 0 from get_or least i 0 to get_or most i 0 ∷ rest (i + 1)
-    unfolding fields_of
-    next = rw (add-one i, drop-cons words i 0 h, drop-cons least i 0 (omega arith), drop-cons most i 0 (omega arith)) refl
-
-    pub here : inside (get_or words i 0 from get_or least i 0 to get_or most i 0) ≡ false → lowest k (fields_of words least most) ≡ Some (k + i)
-    here e = so_far ∙ ap (lowest (k + i)) next ∙ stop (k + i) _ (rest (i + 1)) e
-
-    pub not_here : inside (get_or words i 0 from get_or least i 0 to get_or most i 0) ≡ true → lowest k (fields_of words least most) ≡ lowest (k + (i + 1)) (rest (i + 1))
-    not_here e = so_far ∙ ap (lowest (k + i)) next ∙ pass (k + i) _ (rest (i + 1)) e ∙ ap (λ j. lowest j (rest (i + 1))) (add_assoc k i 1)
-
-  pub nowhere : (k i : ℕ) → length words ≤ i → lowest k (rest i) ≡ None
-  unfolding fields_of lowest
-  nowhere k i h = rw (drop_of_length-le words h) refl
-
--- words that all have one pair of limits
-pub alike : (a b n m : ℕ) (words : List ℕ) → m ≤ n → fields_of (take m words) (take m (replicate n a)) (take m (replicate n b)) ≡ map (λ w. w from a to b) (take m words)
+-- ---- words that all have one pair of limits
+pub alike : (band : Band) (n m : ℕ) (words : List ℕ) → m ≤ n → fields_of (take m words) (take m (replicate n band)) ≡ map (λ w. w from band.0 to band.1) (take m words)
 unfolding fields_of
-alike a b n zero words h = refl
-alike a b n (suc m) [] h = refl
-alike a b zero (suc m) (w ∷ words) h = absurd (omega arith)
-alike a b (suc n) (suc m) (w ∷ words) h = ap (λ fs. w from a to b ∷ fs) (alike a b n m words (omega arith))
+alike band n zero words h = refl
+alike band n (suc m) [] h = refl
+alike band zero (suc m) (w ∷ words) h = absurd (omega arith)
+alike band (suc n) (suc m) (w ∷ words) h = ap (λ fs. w from band.0 to band.1 ∷ fs) (alike band n m words (omega arith))

@@ -2,13 +2,16 @@
 use mathlib.Core.Path.{◌≡◌, refl, sym, ap, ◌∙◌}
 use mathlib.Core.Bool.{true}
 use mathlib.Core.List.{List, [], ◌∷◌, ◌++◌, map, append_assoc, append-nil, flat_map, map-id}
-use Prim.Native.Nat.{ℕ, suc, ◌+◌, ◌-◌, ◌*◌, ◌/◌, ◌≤◌, ◌<◌}
-use native.Mathlib.Nat.{add-zero, le-div_iff_mul-le, mul_comm, mul-suc, suc-mul, mul-le-mul_left}
+use Prim.Native.Nat.{ℕ, zero, suc, ◌+◌, ◌-◌, ◌*◌, ◌/◌, ◌≤◌, ◌<◌}
+use native.Mathlib.Nat.{add-zero, le-div_iff_mul-le, mul_comm, mul-zero, mul-suc, suc-mul, mul-le-mul_left}
 use native.Mathlib.Numerals.{add-one}
 use native.Mathlib.Omega.{arith}
 use borrow.Author.Tests.{lt-ltb, ltb-true}
-use lib.ListN.{length, take, drop, get_or, set, length-append, length-drop, length-map, get_or-append, get_or-map}
-use lib.Seq.{sets-eq, take_at, take_all, drop-append-add, drop-drop, length-take-le, get_or-append-add}
+use lib.ListN.{length, take, drop, get_or, length-append, length-drop, length-map, get_or-append, get_or-map}
+use Rattle.std.specs.Simd.{first_chunks}
+use Rattle.std.proofs.lemmas.List.{get_or-take}
+use borrow.Rule.Slice.PartMut.{put_mid}
+use lib.Seq.{get_or-drop, take_at, take_all, drop-append-add, drop-drop, length-take-le, get_or-append-add}
 use Rattle.laws.specs.Lists.{rows}
 use Rattle.laws.proofs.Lists.{rows_more, rows_same, rows_take, length_rows}
 use Rattle.laws.proofs.Pieces.{flat_append, length_flat, in_piece}
@@ -19,26 +22,35 @@ use Rattle.bound.specs.Bound.{verdict_number}
 use Rattle.row_words.specs.RowWords.{row_words, words_per_row, wait_words, words_per_wait, has_row, with_row, verdict_at, bound_at, instance_at, evaluations_at}
 use Rattle.row_words.specs.RowWords.{verdict_of_number, answer_at, wait_at, ReadBack, WaitReadBack, RowsReadBack, WaitsReadBack}
 
--- ---- what the stores leave
-after_two : (x : ℕ) → x + 2 ≡ suc (suc x)
-after_two x = omega arith
-
-after_three : (x : ℕ) → x + 3 ≡ suc (suc (suc x))
-after_three x = omega arith
-
-pub put_is : (ws : List ℕ) (k : ℕ) (s : Searched) → k < length ws / words_per_row
-    → let at = words_per_row * k in
-    let a = s.answer in
-    set (set (set (set ws at (verdict_number a.verdict)) (at + 1) a.bound) (at + 2) a.instance) (at + 3) s.evaluations ≡ with_row words_per_row ws k (row_words s)
+-- ---- what the store leaves
+pub put_is : (w k : ℕ) (ws own : List ℕ) {new : List ℕ} → k < length ws / w → new ≡ own → put_mid (w * k) (w * k + w - w * k) ws new ≡ with_row w ws k own
 unfolding with_row
-put_is ws k s h =
-    let at = words_per_row * k in
-    rw (lt-ltb _ _ h, add-one, after_two at, after_three at) (sets-eq (row_words s) ws at (omega arith))
+put_is w k ws own h e =
+    let n : w * k + w - w * k ≡ w = omega arith in
+    rw (lt-ltb _ _ h, n, e, drop-drop w (w * k) ws) (sym (append_assoc (take (w * k) ws) own (drop (w * k + w) ws)))
 
-pub put_wait_is : (ws : List ℕ) (k : ℕ) (w : Wait) → k < length ws / words_per_wait
-    → let at = words_per_wait * k in set (set ws at w.evaluations) (at + 1) w.limit ≡ with_row words_per_wait ws k (wait_words w)
-unfolding with_row
-put_wait_is ws k w h = rw (lt-ltb _ _ h, add-one) (sets-eq (wait_words w) ws (words_per_wait * k) (omega arith))
+-- ---- what is found: rows are cut off from the front on
+length_chunks : (w n : ℕ) (ws : List ℕ) → length (first_chunks w n ws) ≡ n
+length_chunks w zero ws = refl
+length_chunks w (suc n) ws = omega (arith, length_chunks w n (drop w ws))
+
+chunk_at : (w n k : ℕ) (ws : List ℕ) → k < n → get_or (first_chunks w n ws) k [] ≡ take w (drop (w * k) ws)
+chunk_at w zero k ws h = absurd (omega arith)
+chunk_at w (suc n) zero ws h = rw (mul-zero w) refl
+chunk_at w (suc n) (suc k) ws h =
+    let e : w + w * k ≡ w * suc k = omega (arith, mul-suc w k) in
+    chunk_at w n k (drop w ws) (omega arith) ∙ ap (take w) (drop-drop (w * k) w ws ∙ ap (λ i. drop i ws) e)
+
+-- row k, and each word of it
+module _ (w k : ℕ) (ws : List ℕ) {rows : List (List ℕ)} (cut : rows ≡ first_chunks w (length ws / w) ws) where
+  pub row_there : k < length rows → k < length ws / w
+  row_there h = omega (arith, h, ap length cut, length_chunks w (length ws / w) ws)
+
+  pub row_word : {row : List ℕ} → k < length rows → row ≡ get_or rows k [] → (j : ℕ) → j < w → get_or row j 0 ≡ get_or ws (w * k + j) 0
+  row_word h e j i =
+      ap (λ l. get_or l j 0) (e ∙ ap (λ l. get_or l k []) cut ∙ chunk_at w (length ws / w) k ws (row_there h))
+      ∙ get_or-take w (drop (w * k) ws) j 0 i
+      ∙ get_or-drop (w * k) ws j 0
 
 -- ---- rows of w words each
 fits_row : (w : ℕ) → 1 ≤ w → (k : ℕ) (ws : List ℕ) → w * k + w ≤ length ws → k < length ws / w

@@ -4,7 +4,7 @@
 // This crate knows of answers alone; it must not know of plans, or of how an answer comes about.
 #![tactic(auto)]
 
-ghost use Rattle.std.specs.Prelude.{◌≡◌};
+ghost use Rattle.std.specs.Prelude.{◌≡◌, ◌≤◌};
 ghost use Rattle.bound.specs.Bound.{verdict_number};
 ghost use Rattle.row_words.specs.RowWords as laid;
 
@@ -17,6 +17,7 @@ pub const WORDS_PER_ROW: usize = 4;
 // The words of a row's wait: the number of its evaluations, and their limit.
 pub const WORDS_PER_WAIT: usize = 2;
 
+// What number a verdict has is known here alone: a From would have to stand beside Verdict, in a crate that knows of no words.
 fn number(v: Verdict) -> u64
     ensures { result ≡ verdict_number v }
 {
@@ -30,13 +31,26 @@ fn number(v: Verdict) -> u64
 fn verdict(number: u64) -> Verdict
     ensures { result ≡ laid.verdict_of_number number }
 {
-    if number == 0 {
-        return Verdict::Met;
+    match number {
+        0 => Verdict::Met,
+        1 => Verdict::Missed,
+        _ => Verdict::None,
     }
-    if number == 1 {
-        return Verdict::Missed;
+}
+
+// The W words of a row at their place, all of them, or nothing where there is no room; and whether there is.
+fn put<const W: usize>(words: &mut [u64], row: Row, own: &[u64; W]) -> bool
+    requires some_words { 1 ≤ W }
+    requires few_words { W ≤ laid.words_per_row }
+    ensures value { result ≡ laid.has_row W words.old row.0 }
+    ensures words_after { words.new ≡ laid.with_row W words.old row.0 own.now }
+{
+    if words.len() / W <= row.0 {
+        return false;
     }
-    Verdict::None
+    let at = W * row.0;
+    words[at..at + W].copy_from_slice(own);
+    true
 }
 
 // A row's answer in its words, all of it, or nothing where there is no room; and whether there is.
@@ -44,17 +58,14 @@ pub fn put_answer(words: &mut [u64], row: Row, searched: Searched) -> bool
     ensures value { result ≡ laid.has_row laid.words_per_row words.old row.0 }
     ensures words_after { words.new ≡ laid.with_row laid.words_per_row words.old row.0 (laid.row_words searched) }
 {
-    if words.len() / WORDS_PER_ROW <= row.0 {
-        return false;
-    }
     let answer = searched.answer;
-    let verdict = answer.verdict;
-    let at = WORDS_PER_ROW * row.0;
-    words[at] = number(verdict);
-    words[at + 1] = answer.bound;
-    words[at + 2] = answer.instance;
-    words[at + 3] = searched.evaluations;
-    true
+    let own = [
+        number(answer.verdict),
+        answer.bound,
+        answer.instance,
+        searched.evaluations,
+    ];
+    put::<WORDS_PER_ROW>(words, row, &own)
 }
 
 // A row's wait in its words, as an answer.
@@ -62,31 +73,25 @@ pub fn put_wait(words: &mut [u64], row: Row, wait: Wait) -> bool
     ensures value { result ≡ laid.has_row laid.words_per_wait words.old row.0 }
     ensures words_after { words.new ≡ laid.with_row laid.words_per_wait words.old row.0 (laid.wait_words wait) }
 {
-    if words.len() / WORDS_PER_WAIT <= row.0 {
-        return false;
-    }
-    let at = WORDS_PER_WAIT * row.0;
-    words[at] = wait.evaluations;
-    words[at + 1] = wait.limit;
-    true
+    put::<WORDS_PER_WAIT>(words, row, &[wait.evaluations, wait.limit])
 }
 
 // A row's answer from its words; none where they are not all there.
 pub fn answer_in(words: &[u64], row: Row) -> Answer
     ensures { result ≡ laid.answer_at words.now row.0 }
 {
-    if words.len() / WORDS_PER_ROW <= row.0 {
-        return Answer {
+    let (rows, _) = words.as_chunks::<WORDS_PER_ROW>();
+    match rows.get(row.0) {
+        Some(own) => Answer {
+            verdict: verdict(own[0]),
+            bound: own[1],
+            instance: own[2],
+        },
+        None => Answer {
             verdict: Verdict::None,
             bound: 0,
             instance: 0,
-        };
-    }
-    let at = WORDS_PER_ROW * row.0;
-    Answer {
-        verdict: verdict(words[at]),
-        bound: words[at + 1],
-        instance: words[at + 2],
+        },
     }
 }
 
@@ -94,15 +99,15 @@ pub fn answer_in(words: &[u64], row: Row) -> Answer
 pub fn wait_in(words: &[u64], row: Row) -> Wait
     ensures { result ≡ laid.wait_at words.now row.0 }
 {
-    if words.len() / WORDS_PER_WAIT <= row.0 {
-        return Wait {
+    let (rows, _) = words.as_chunks::<WORDS_PER_WAIT>();
+    match rows.get(row.0) {
+        Some(own) => Wait {
+            evaluations: own[0],
+            limit: own[1],
+        },
+        None => Wait {
             evaluations: 0,
             limit: 0,
-        };
-    }
-    let at = WORDS_PER_WAIT * row.0;
-    Wait {
-        evaluations: words[at],
-        limit: words[at + 1],
+        },
     }
 }

@@ -1,7 +1,7 @@
 use mathlib.Core.Path.{◌≡◌, refl, sym, ap, ap₂, ◌∙◌}
 use mathlib.Core.Bool.{false}
-use mathlib.Core.List.{List}
-use Prim.Native.Nat.{ℕ, ◌+◌, ◌≤◌, ◌<◌}
+use mathlib.Core.List.{List, []}
+use Prim.Native.Nat.{ℕ, ◌+◌, ◌≤◌, ◌<◌, min}
 use native.Mathlib.Omega.{arith}
 use borrow.Author.Tests.{le-leb, lt-leb}
 use lib.Dec.{ltb}
@@ -18,7 +18,9 @@ use Rattle.costs.specs.declared.Overheads.{Overheads}
 use Rattle.costs.specs.Costs.{Overhead, overheads_of}
 use Rattle.costs.proofs.Costs.{overhead_within}
 use Rattle.carried.specs.Layout as layout
-use Rattle.carried.specs.Carried.{entered_timing_in, timing_in, stream_in, streams_in}
+use Rattle.carried.specs.Carried.{entered_timing_in, timing_in, stream_in, streams_in, records_in}
+use Rattle.carried.proofs.Pieces.{length_records, record_word}
+use Rattle.names.specs.Limits.{streams}
 use Rattle.carried.proofs.Plans.{timing_held}
 use Rattle.checks.proofs.check_slots.Invariants.{long, Beside}
 use Rattle.checks.proofs.check_slots.Goals as goal
@@ -35,18 +37,27 @@ beside_is ws slot beside o p some w e d =
       small = omega (arith, d, f.little, f.small);
     }
 
-module _ (ws : List ℕ) (n k slot beside : ℕ) (h : k < n) (b : Beside ws slot beside) where
+module _ (ws : List ℕ) (n k slot beside : ℕ) {m : ℕ} {records : List (List ℕ)} (same : m ≡ n) (f : records ≡ records_in m ws) (h : k < n) (b : Beside ws slot beside) where
   abbrev row : Stream
   row = get_or (streams_in n ws) k blank
 
   some_slot : 1 ≤ (timing_in ws).p
   some_slot = omega (arith, b.p, b.some)
 
-  -- the payload and the acknowledgement are the stream's
-  is_sum : C'' (timing_in ws) row ≡ beside + get_or ws (layout.stream_at k + 4) 0 + get_or ws (layout.stream_at k + 6) 0
-  is_sum = ap (C'' (timing_in ws)) (rows_at n (λ r. stream_in ws (layout.stream_at r)) blank k h) ∙ b.sum (stream_in ws (layout.stream_at k))
+  abbrev word : ℕ → ℕ
+  word j = get_or (get_or records k []) j 0
 
-  long_is : long ws n k ≡ ltb slot (beside + get_or ws (layout.stream_at k + 4) 0 + get_or ws (layout.stream_at k + 6) 0)
+  word_is : (j : ℕ) → j < layout.stream_length → get_or ws (layout.stream_at k + j) 0 ≡ word j
+  word_is j l = sym (ap (λ rs. get_or (get_or rs k []) j 0) f ∙ record_word m ws k (omega arith) j l)
+
+  -- the payload and the acknowledgement are the stream's
+  is_sum : C'' (timing_in ws) row ≡ beside + word 4 + word 6
+  is_sum =
+      ap (C'' (timing_in ws)) (rows_at n (λ r. stream_in ws (layout.stream_at r)) blank k h)
+      ∙ b.sum (stream_in ws (layout.stream_at k))
+      ∙ ap₂ (λ x y. beside + x + y) (word_is 4 (omega arith)) (word_is 6 (omega arith))
+
+  long_is : long ws n k ≡ ltb slot (beside + word 4 + word 6)
   long_is = simp (le-leb 1 (timing_in ws).p some_slot) (ap₂ ltb (sym b.p) is_sum)
 
 -- with no master node no row exceeds anything
@@ -80,27 +91,30 @@ pub returns-then-too_long : goal.returns-then-too_long
 returns-then-too_long c =
     let a = c.args in
     let ws = a.words.now in
-    let among : c.loop-r.r < a.n = omega arith in
+    let among : c.loop-r.r < a.n = omega (arith, length_records c.args.n c.args.words.now c.records-record-items.ensures, c.requires.n_le_streams, c.loop-r-test.true) in
+    let least : min a.n streams ≡ a.n = omega (arith, c.requires.n_le_streams) in
     c.refused.ensures
     ∙ sym (given _ _ _
     (ap (first (long ws a.n) 0) (length_rows a.n _)
     ∙ found_at (long ws a.n) a.n c.loop-r.r c.loop-r.invariant.2 among
-    (long_is ws a.n c.loop-r.r _ _ among c.loop-r.invariant.1 ∙ sym c.too_long.ensures ∙ c.if-too_long.true)))
+    (long_is ws a.n c.loop-r.r _ _ least c.records-record-items.ensures among c.loop-r.invariant.1 ∙ sym c.too_long.ensures ∙ c.if-too_long.true)))
 
 pub loop-r-preserved : goal.loop-r-preserved
 loop-r-preserved c =
     let a = c.args in
-    let among : c.loop-r.r < a.n = omega arith in (
-      omega arith,
+    let among : c.loop-r.r < a.n = omega (arith, length_records c.args.n c.args.words.now c.records-record-items.ensures, c.requires.n_le_streams, c.loop-r-test.true) in
+    let least : min a.n streams ≡ a.n = omega (arith, c.requires.n_le_streams) in (
+      omega (arith, among),
       c.loop-r.invariant.1,
-      none_more _ c.loop-r.r c.loop-r.invariant.2 (long_is a.words.now a.n c.loop-r.r _ _ among c.loop-r.invariant.1 ∙ sym c.too_long.ensures ∙ c.if-too_long.false),
+      none_more _ c.loop-r.r c.loop-r.invariant.2 (long_is a.words.now a.n c.loop-r.r _ _ least c.records-record-items.ensures among c.loop-r.invariant.1 ∙ sym c.too_long.ensures ∙ c.if-too_long.false),
     )
 
 pub returns : goal.returns
 returns c =
     let a = c.args in
     let ws = a.words.now in
-    sym (passed _ _ (ap (first (long ws a.n) 0) (length_rows a.n _) ∙ found_none (long ws a.n) a.n c.loop-r.r c.loop-r.invariant.2 (omega arith)) ∙ nothing_given)
+    let all = length_records c.args.n c.args.words.now c.records-record-items.ensures in
+    sym (passed _ _ (ap (first (long ws a.n) 0) (length_rows a.n _) ∙ found_none (long ws a.n) a.n c.loop-r.r c.loop-r.invariant.2 (omega (arith, all, c.requires.n_le_streams, c.loop-r-test.false))) ∙ nothing_given)
 
 pub overflow_add-beside : goal.overflow_add-beside
 overflow_add-beside c = omega (arith, (worked_out (goal.at.overflow_add-beside c).After-overheads_of-c).small)

@@ -2,7 +2,7 @@
 use mathlib.Core.Path.{◌≡◌}
 use mathlib.Core.Bool.{Bool}
 use mathlib.Core.List.{List}
-use Prim.Native.Nat.{ℕ, ◌+◌, ◌-◌, ◌≤◌}
+use Prim.Native.Nat.{ℕ, ◌+◌, ◌≤◌}
 use lib.ListN.{get_or}
 use Rattle.laws.proofs.Rows.{NoneBelow}
 use Rattle.plan.specs.declared.Stream.{Stream}
@@ -25,6 +25,3 @@ pub record Beside (ws : List ℕ) (slot beside : ℕ) : Type 0 where
 
 abbrev pub invariant-loop-r : goal.invariant-loop-r
 invariant-loop-r l = (l.r ≤ l.n) × Beside l.words l.slot l.beside × NoneBelow (long l.words l.n) l.r
-
-abbrev pub decreases-loop-r : goal.decreases-loop-r
-decreases-loop-r l = l.n - l.r

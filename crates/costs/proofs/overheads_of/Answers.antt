@@ -4,8 +4,8 @@ use Rattle.costs.proofs.overheads_of.Goals as goal
 
 pub returns-then-t-eq0 : goal.returns-then-t-eq0
 returns-then-t-eq0 c =
-    of_self c.args.t c.u_of-u.ensures c.if-t-eq0.true c.v_of-v.ensures
+    of_self c.args.t c.u_of-u.ensures c.if-t-eq0.true c.v_of-lead.ensures
 
 pub returns : goal.returns
 returns c =
-    of_slots c.args.t c.u_of-u.ensures c.if-t-eq0.false
+    rw (c.from.ensures, c.from-2.ensures) (of_slots c.args.t c.u_of-u.ensures c.if-t-eq0.false)

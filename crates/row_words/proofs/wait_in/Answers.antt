@@ -1,19 +1,30 @@
--- The words are all there or not; the reads are the definition's.
-use mathlib.Core.Path.{refl}
-use Prim.Native.Nat.{◌/◌, ◌<◌}
+-- The words are all there or not; they are the row's.
+use mathlib.Core.Path.{◌≡◌, refl, ap, ◌∙◌}
+use mathlib.Core.List.{[]}
+use Prim.Native.Nat.{◌*◌, ◌/◌, ◌≤◌}
+use native.Mathlib.Nat.{add-zero}
 use native.Mathlib.Omega.{arith}
 use borrow.Author.Tests.{lt-ltb, le-ltb}
-use lib.ListN.{length}
+use lib.ListN.{length, get_or}
 use Rattle.row_words.specs.RowWords.{words_per_wait, wait_at}
+use Rattle.row_words.proofs.RowWords.{row_there, row_word}
 use Rattle.row_words.proofs.wait_in.Goals as goal
 
-pub returns-then-words-row : goal.returns-then-words-row
+pub returns-in-Some : goal.returns-in-Some
 unfolding wait_at
-returns-then-words-row c = simp (le-ltb _ _ c.if-words-row.true)
-
-pub returns : goal.returns
-unfolding wait_at
-returns c =
+returns-in-Some c =
     let a = c.args in
-    let h : a.row.0 < length a.words.now / words_per_wait = omega arith in
-    rw (lt-ltb _ _ h) refl
+    let ws = a.words.now in
+    let k = a.row.0 in
+    let cut = c.as_chunks.ensures.front in
+    let found = c.in-Some.ensures.lookup.3 in
+    let h = row_there words_per_wait k ws cut found.0 in
+    let word = row_word words_per_wait k ws cut found.0 (found.1 []) in
+    let first : get_or c.in-Some.own.now 0 0 ≡ get_or ws (words_per_wait * k) 0 = word 0 (omega arith) ∙ ap (λ i. get_or ws i 0) (add-zero (words_per_wait * k)) in
+    rw (lt-ltb _ _ h, first, word 1 (omega arith)) refl
+
+pub returns-in-None : goal.returns-in-None
+unfolding wait_at
+returns-in-None c =
+    let h : length c.args.words.now / words_per_wait ≤ c.args.row.0 = omega (arith, c.in-None.ensures.lookup.3, c.as_chunks.ensures.front_len) in
+    simp (le-ltb _ _ h)
