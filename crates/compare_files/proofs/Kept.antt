@@ -1,5 +1,8 @@
 -- What is said of two files is what is said of their plans, and a row of the answer words is the row's answer, so that a second file that is
 -- called lighter keeps the promise in the words. Assumes nothing.
+use Rattle.std.specs.Prelude.{Result}
+use Rattle.plan.specs.declared.Sheet.{Sheet}
+use Rattle.names.specs.declared.Refusal.{Refusal}
 use mathlib.Core.Path.{◌≡◌, refl, sym, ap, ◌∙◌, subst}
 use mathlib.Core.Bool.{Bool, true, false, cond}
 use mathlib.Core.List.{List, ◌++◌}
@@ -21,7 +24,6 @@ use Rattle.judge.specs.Table.{judge}
 use Rattle.checks.specs.Checks.{lines}
 use Rattle.checks.proofs.Fine.{own_counts}
 use Rattle.promise.specs.Lighter.{NotRefused, Kept}
-use Rattle.file.specs.declared.ReadPlan.{ReadPlan}
 use Rattle.file.specs.File as file
 use Rattle.file.proofs.Reading.{fine_read}
 use Rattle.file.proofs.RoundTrip.{plan_read, right_read}
@@ -44,7 +46,7 @@ file_not_refused bs e =
     let f = fine_read bs e in
     let p = plan_read bs f in
     let right = own_counts f.n f.m p (right_read bs f) in
-    let same : plan_from bs ≡ p = ap (λ (r : ReadPlan). plan_of r.sheet) f.read ∙ one_sheet p right.within.count right.within.sources in
+    let same : plan_from bs ≡ p = ap (λ (r : Result Sheet Refusal). plan_of r.sheet) f.read ∙ one_sheet p right.within.count right.within.sources in
     subst NotRefused (sym same) right
 
 pub said_of_files : (old new : List ℕ) → SaysLighterOfFiles old new (compared_files old new)
