@@ -9,7 +9,7 @@ use Rattle.plan.specs.declared.Stream.{Stream}
 use Rattle.carried.specs.declared.Edition.TheVariants.{Three}
 use Rattle.carried.specs.Layout as layout
 use Rattle.carried.specs.Carried.{plain_timing, entered_timing_in, entered_in, timing_words}
-use Rattle.compare.specs.Changes.{constants_of, many_constants}
+use Rattle.compare.specs.Changes.{constants_of, many_constants, place_of}
 use Rattle.compare.specs.declared.Reason.{Reason}
 use Rattle.compare.specs.declared.Reason.TheVariants.{MasterNode, GreaterConstant, NewLabel, ShorterPeriod, LongerJitter}
 use Rattle.compare.specs.declared.Reason.TheVariants.{LongerPayload, ShorterDeadline, LongerAcknowledgement, LessUrgent, MoreNoise}
@@ -18,10 +18,9 @@ use Rattle.compare.specs.declared.Compared.TheVariants.{FirstRefused, SecondRefu
 use Rattle.file.specs.File.{write_with}
 use Rattle.tournament_state.specs.declared.Phase.{Phase, TheVariants.AtBit, TheVariants.Finished, TheVariants.NoWinner}
 use Rattle.tournament_state.specs.Refusals.{state_lines}
-use Rattle.tournament.specs.declared.Parting.{Parting, TheVariants.At, TheVariants.Refused as Parting-as-Refused}
-use Rattle.tournament.specs.declared.Outcome.{Outcome}
+use Rattle.tournament_state.specs.declared.Tournament.{Tournament}
 use Rattle.tournament.specs.Rule.{begun_of, next}
-use Rattle.tournament.specs.Answers.{outcome, nobody, start_of, step_of}
+use Rattle.tournament.specs.Answers.{outcome, left, checked as checked_of, start_of, step_of}
 use Rattle.screen.specs.Screen.{screen_of}
 use Rattle.states.specs.States.{priorities_from, phase_from, state_from, marks_into, marked_out}
 use Rattle.outside.specs.declared.Said.{Said}
@@ -46,9 +45,8 @@ written (Ok n) = done n
 written (Err r) = refused r
 
 -- the bit
-abbrev pub parting : Parting → Said
-parting (At k) = done k
-parting (Parting-as-Refused r) = refused r
+abbrev pub parting : Result ℕ Refusal → Said
+parting = written
 
 -- the file of the plan that is meant by lent values, which have the places of edition 3, and what the lent bytes end with
 abbrev pub write_from : ℕ → ℕ → List ℕ → List ℕ → Result ℕ Refusal × List ℕ
@@ -69,7 +67,7 @@ broken condition value = record { answer = 3; number = condition; value = value 
 
 abbrev pub again : Reason → Weighed
 again MasterNode = broken 9 0
-again (GreaterConstant k) = broken 1 (constant_at k)
+again (GreaterConstant c) = broken 1 (constant_at (place_of c))
 again (NewLabel l) = broken 2 l.0
 again (ShorterPeriod l) = broken 3 l.0
 again (LongerJitter l) = broken 4 l.0
@@ -103,8 +101,8 @@ abbrev pub stepped : Checked → Phase → Stepped
 stepped (Ok _) phase = record { refusal = 0; place = 0; phase = phase_number phase; at = phase_at phase }
 stepped (Err r) phase = record { refusal = r.number; place = r.place; phase = phase_number phase; at = phase_at phase }
 
-abbrev pub stepped_by : Outcome → Stepped
-stepped_by o = stepped o.checked o.tournament.phase
+abbrev pub stepped_by : Result Tournament Refusal → Tournament → Stepped
+stepped_by answer before = stepped (checked_of answer) (left answer before).phase
 
 -- a tournament that is lent, each priority a contender's: 6 if there are fewer marks than contenders, before 7, 8 and 9
 abbrev pub lent_lines : ℕ → List ℕ → List ℕ → Phase → List Line
@@ -112,26 +110,22 @@ lent_lines NB ps bs phase =
     record { number = 6; place = unless (leb (length ps) (length bs)) } ∷ state_lines NB (length ps) (priorities_from ps) phase
 
 -- a start on lent priorities
-unfoldable pub start_from : ℕ → List ℕ → List ℕ → Outcome
-start_from NB ps bs = outcome (judge (lent_lines NB ps bs (AtBit 1))) nobody (begun_of NB (length ps) (priorities_from ps))
+unfoldable pub start_from : ℕ → List ℕ → List ℕ → Result Tournament Refusal
+start_from NB ps bs = outcome (judge (lent_lines NB ps bs (AtBit 1))) (begun_of NB (length ps) (priorities_from ps))
 
 -- a step of the state that is lent
-unfoldable pub step_from : ℕ → ℕ → ℕ → List ℕ → List ℕ → Outcome
-step_from NB phase at ps bs =
-    outcome (judge (lent_lines NB ps bs (phase_from phase at))) (state_from NB phase at ps bs) (next (state_from NB phase at ps bs))
+unfoldable pub step_from : ℕ → ℕ → ℕ → List ℕ → List ℕ → Result Tournament Refusal
+step_from NB phase at ps bs = outcome (judge (lent_lines NB ps bs (phase_from phase at))) (next (state_from NB phase at ps bs))
 
--- the lent bytes after a call: as they were if it is refused, ..
-abbrev pub bytes_unless : Checked → List ℕ → List ℕ → List ℕ
-bytes_unless (Ok _) after found = after
-bytes_unless (Err r) after found = found
+-- the lent bytes after a start: 1 for each contender and 0 for each unused place, and as they were if it is refused, ..
+abbrev pub start_bytes : Result Tournament Refusal → List ℕ → List ℕ
+start_bytes (Ok t) found = marks_into t.marks found
+start_bytes (Err r) found = found
 
--- .. after a start 1 for each contender and 0 for each unused place, ..
-abbrev pub start_bytes : Outcome → List ℕ → List ℕ
-start_bytes o found = bytes_unless o.checked (marks_into o.tournament.marks found) found
-
--- .. and after a step 0 for each contender that it marks out, and every other byte as found
-abbrev pub step_bytes : Outcome → List ℕ → List ℕ
-step_bytes o found = bytes_unless o.checked (marked_out o.tournament.count o.tournament.marks found) found
+-- .. and after a step: 0 for each contender that it marks out, and every other byte as found
+abbrev pub step_bytes : Result Tournament Refusal → List ℕ → List ℕ
+step_bytes (Ok t) found = marked_out t.count t.marks found
+step_bytes (Err r) found = found
 
 -- so what the lent bytes end with, of what is lent
 abbrev pub start_marks : ℕ → List ℕ → List ℕ → List ℕ
@@ -151,13 +145,13 @@ ConstantInFile =
 
 -- 6 is given exactly when fewer marks than priorities are lent, by a start ..
 abbrev pub StartSix : Type 0
-StartSix = (NB : ℕ) (ps bs : List ℕ) → ((start_from NB ps bs).checked ≡ Err (record { number = 6; place = 0 })) ↔ (length bs < length ps)
+StartSix = (NB : ℕ) (ps bs : List ℕ) → (start_from NB ps bs ≡ Err (record { number = 6; place = 0 })) ↔ (length bs < length ps)
 
 -- .. and by a step
 abbrev pub StepSix : Type 0
 StepSix =
     (NB phase at : ℕ) (ps bs : List ℕ)
-    → ((step_from NB phase at ps bs).checked ≡ Err (record { number = 6; place = 0 })) ↔ (length bs < length ps)
+    → (step_from NB phase at ps bs ≡ Err (record { number = 6; place = 0 })) ↔ (length bs < length ps)
 
 -- where enough are, a start is the tournament's own, ..
 abbrev pub StartEnough : Type 0

@@ -7,22 +7,24 @@
 
 ghost use Rattle.std.specs.Prelude.{◌≡◌};
 ghost use Rattle.answer_files.specs.AnswerFiles.{answer_file_of};
+ghost use Rattle.compare.specs.Changes.{place_of};
 ghost use Rattle.compare_files.specs.Files.{compared_files};
-ghost use Rattle.tournament.specs.Answers.{parting_of};
+ghost use Rattle.tournament.specs.Answers.{nobody, parting_of};
 ghost use Rattle.rewriter.specs.Rewriter.{rewrite_of};
+ghost use Rattle.states.specs.States.{state_from};
 ghost use Rattle.outside.specs.Outside as number;
 ghost use Rattle.outside.specs.Outside.{Screened};
 
 use answer_files::answer_file;
-use carried::{Edition, LAG, SLOT, timing_from, words_from};
-use compare::{Compared, Reason};
+use carried::{Counts, Edition, LAG, SLOT, timing_from, words_from};
+use compare::{Compared, Constant, Reason};
 use compare_files::lighter_files;
 use names::{Label, Priority, Refusal};
 use plan::Stream;
 use rewriter::rewrite;
 use screen::screen;
 use states::{mark_out, marks_into, priorities_from, state_from};
-use tournament::{Outcome, Parting, parting_bit, start, step};
+use tournament::{parting_bit, start, step};
 use tournament_state::Phase;
 use writer::write_words;
 
@@ -54,27 +56,17 @@ pub struct Stepped {
     pub at: u64,
 }
 
-fn refused(r: Refusal) -> Said
-    ensures { result ≡ number.refused r }
-{
-    Said {
-        refusal: r.number as u64,
-        value: r.place as u64,
-    }
-}
+impl From<Result<u64, Refusal>> for Said {
+    ghost from_gives = { λ answer said. said ≡ number.written answer };
 
-fn done(value: u64) -> Said
-    ensures { result ≡ number.done value }
-{
-    Said { refusal: 0, value }
-}
-
-fn checked(verdict: Result<(), Refusal>) -> Said
-    ensures { result ≡ number.checked verdict }
-{
-    match verdict {
-        Ok(()) => done(0),
-        Err(r) => refused(r),
+    fn from(answer: Result<u64, Refusal>) -> Said {
+        match answer {
+            Ok(value) => Said { refusal: 0, value },
+            Err(r) => Said {
+                refusal: u64::from(r.number),
+                value: r.place as u64,
+            },
+        }
     }
 }
 
@@ -83,7 +75,7 @@ pub fn livnakesh_answers(file: &[u8], out: &mut [u64]) -> Said
     ensures value { result ≡ number.checked (answer_file_of file.now out.old).0 }
     ensures out_after { out.new ≡ (answer_file_of file.now out.old).1 }
 {
-    checked(answer_file(file, out))
+    Said::from(answer_file(file, out).map(|()| 0))
 }
 
 // The plan in a file, written again into lent bytes.
@@ -91,10 +83,7 @@ pub fn livnakesh_rewrite(file: &[u8], out: &mut [u8]) -> Said
     ensures value { result ≡ number.written (rewrite_of file.now out.old).0 }
     ensures out_after { out.new ≡ (rewrite_of file.now out.old).1 }
 {
-    match rewrite(file, out) {
-        Ok(bytes) => done(bytes as u64),
-        Err(r) => refused(r),
-    }
+    Said::from(rewrite(file, out).map(|bytes| bytes as u64))
 }
 
 // The file of the plan that is meant by lent words, ten of the timing, seven for each of n streams and m noise gaps, written into lent bytes.
@@ -102,28 +91,27 @@ pub fn livnakesh_write(n: usize, m: usize, values: &[u32], out: &mut [u8]) -> Sa
     ensures value { result ≡ number.written (number.write_from n m values.now out.old).0 }
     ensures out_after { out.new ≡ (number.write_from n m values.now out.old).1 }
 {
+    let counts = Counts {
+        edition: Edition::Three,
+        n,
+        m,
+    };
     let placed = words_from(values);
-    match write_words(Edition::Three, &placed, n, m, out) {
-        Ok(bytes) => done(bytes as u64),
-        Err(r) => refused(r),
-    }
+    Said::from(write_words(counts, &placed, out).map(|bytes| bytes as u64))
 }
 
 // The answer words of lent streams, each of them its seven words in file order, under a timing of ten words and these noise gaps.
 pub fn livnakesh_screen(streams: &[Stream], timing: &[u32], gaps: &[u32], out: &mut [u64]) -> Said
     ensures { Screened streams.now timing.now gaps.now out.old result out.new }
 {
-    checked(screen(streams, timing_from(timing), gaps, out))
+    Said::from(screen(streams, timing_from(timing), gaps, out).map(|()| 0))
 }
 
 // The bit at which two priorities part.
 pub fn livnakesh_parting(bits: u32, a: u32, b: u32) -> Said
     ensures { result ≡ number.parting (parting_of bits (record { 0 = a }) (record { 0 = b })) }
 {
-    match parting_bit(bits, Priority(a), Priority(b)) {
-        Parting::At(k) => done(k as u64),
-        Parting::Refused(r) => refused(r),
-    }
+    Said::from(parting_bit(bits, Priority(a), Priority(b)).map(u64::from))
 }
 
 fn broken(condition: u64, value: u64) -> Weighed
@@ -139,20 +127,24 @@ fn broken(condition: u64, value: u64) -> Weighed
 fn by_label(condition: u64, label: Label) -> Weighed
     ensures { result ≡ number.broken condition label.0 }
 {
-    broken(condition, label.0 as u64)
+    broken(condition, u64::from(label.0))
 }
 
-// The place in the file of a plan's constant k: NB and P come after LAG, which a plan has not.
-fn constant_at(k: usize) -> u64
-    ensures { result ≡ number.constant_at k }
+// The place in the file of a plan's constant: NB and P come after LAG, which a plan has not.
+fn constant_at(constant: Constant) -> u64
+    ensures { result ≡ number.constant_at (place_of constant) }
 {
-    if k < LAG {
-        return k as u64;
+    match constant {
+        Constant::F => 0,
+        Constant::E => 1,
+        Constant::Tfcs => 2,
+        Constant::Swx => 3,
+        Constant::H => 4,
+        Constant::G => 5,
+        Constant::Etg => 6,
+        Constant::Nb => (LAG + 1) as u64,
+        Constant::P => SLOT as u64,
     }
-    if k == LAG {
-        return (LAG + 1) as u64;
-    }
-    SLOT as u64
 }
 
 fn again(reason: Reason) -> Weighed
@@ -168,7 +160,7 @@ fn again(reason: Reason) -> Weighed
         Reason::ShorterDeadline(l) => by_label(6, l),
         Reason::LongerAcknowledgement(l) => by_label(10, l),
         Reason::LessUrgent(l) => by_label(7, l),
-        Reason::MoreNoise(x) => broken(8, x as u64),
+        Reason::MoreNoise(x) => broken(8, u64::from(x)),
     }
 }
 
@@ -177,7 +169,7 @@ fn not_weighed(which: u64, r: Refusal) -> Weighed
 {
     Weighed {
         answer: which,
-        number: r.number as u64,
+        number: u64::from(r.number),
         value: r.place as u64,
     }
 }
@@ -201,78 +193,46 @@ pub fn livnakesh_lighter(old: &[u8], new: &[u8]) -> Weighed
 fn at_phase(refusal: u64, place: u64, phase: Phase) -> Stepped
     ensures { result ≡ record { refusal = refusal; place = place; phase = number.phase_number phase; at = number.phase_at phase } }
 {
-    match phase {
-        Phase::AtBit(k) => Stepped {
-            refusal,
-            place,
-            phase: 0,
-            at: k as u64,
-        },
-        Phase::Finished(row) => Stepped {
-            refusal,
-            place,
-            phase: 1,
-            at: row.0 as u64,
-        },
-        Phase::NoWinner => Stepped {
-            refusal,
-            place,
-            phase: 2,
-            at: 0,
-        },
+    let (phase, at) = match phase {
+        Phase::AtBit(k) => (0, u64::from(k)),
+        Phase::Finished(row) => (1, row.0 as u64),
+        Phase::NoWinner => (2, 0),
+    };
+    Stepped {
+        refusal,
+        place,
+        phase,
+        at,
     }
 }
 
-// What a start that is not refused leaves in the lent bytes: every place, in or out.
-fn begun(outcome: Outcome, marks: &mut [u8]) -> Stepped
-    ensures value { result ≡ number.stepped_by outcome }
-    ensures marks_after { marks.new ≡ number.start_bytes outcome marks.old }
+fn refused_at(r: Refusal, phase: Phase) -> Stepped
+    ensures { result ≡ number.stepped (Err r) phase }
 {
-    let checked = outcome.checked;
-    let tournament = outcome.tournament;
-    let left = tournament.marks;
-    let phase = tournament.phase;
-    match checked {
-        Ok(()) => {
-            marks_into(left, marks);
-            at_phase(0, 0, phase)
-        }
-        Err(r) => at_phase(r.number as u64, r.place as u64, phase),
-    }
+    at_phase(u64::from(r.number), r.place as u64, phase)
 }
 
-// What a step that is not refused leaves in them: the bytes as lent, but for the contenders that it marks out.
-fn gone_on(outcome: Outcome, marks: &mut [u8]) -> Stepped
-    ensures value { result ≡ number.stepped_by outcome }
-    ensures marks_after { marks.new ≡ number.step_bytes outcome marks.old }
-{
-    let checked = outcome.checked;
-    let tournament = outcome.tournament;
-    let left = tournament.marks;
-    let phase = tournament.phase;
-    match checked {
-        Ok(()) => {
-            mark_out(tournament.count, left, marks);
-            at_phase(0, 0, phase)
-        }
-        Err(r) => at_phase(r.number as u64, r.place as u64, phase),
-    }
-}
-
-// The start of a tournament of as many contenders as there are priorities: what stood in the lent marks is not looked at.
+// The start of a tournament of as many contenders as there are priorities: what stood in the lent marks is not looked at. One that is
+// not refused leaves every place in the lent bytes, in or out.
 pub fn livnakesh_start(bits: u32, priorities: &[u32], marks: &mut [u8]) -> Stepped
-    ensures value { result ≡ number.stepped_by (number.start_from bits priorities.now marks.old) }
+    ensures value { result ≡ number.stepped_by (number.start_from bits priorities.now marks.old) nobody }
     ensures marks_after { marks.new ≡ number.start_marks bits priorities.now marks.old }
 {
     let n = priorities.len();
     if marks.len() < n {
         return at_phase(6, 0, Phase::NoWinner);
     }
-    let places = priorities_from(priorities);
-    begun(start(bits, n, places), marks)
+    match start(bits, n, priorities_from(priorities)) {
+        Ok(begun) => {
+            marks_into(begun.marks, marks);
+            at_phase(0, 0, begun.phase)
+        }
+        Err(r) => refused_at(r, Phase::NoWinner),
+    }
 }
 
-// One step of the tournament that is lent: its marks are copied out before they are written over.
+// One step of the tournament that is lent: its marks are copied out before they are written over. One that is not refused leaves the
+// bytes as lent, but for the contenders that it marks out.
 pub fn livnakesh_step(
     bits: u32,
     phase: u32,
@@ -280,7 +240,7 @@ pub fn livnakesh_step(
     priorities: &[u32],
     marks: &mut [u8],
 ) -> Stepped
-    ensures value { result ≡ number.stepped_by (number.step_from bits phase at priorities.now marks.old) }
+    ensures value { result ≡ number.stepped_by (number.step_from bits phase at priorities.now marks.old) (state_from bits phase at priorities.now marks.old) }
     ensures marks_after { marks.new ≡ number.step_marks bits phase at priorities.now marks.old }
 {
     let t = state_from(bits, phase, at, priorities, &marks[..]);
@@ -288,5 +248,11 @@ pub fn livnakesh_step(
     if marks.len() < priorities.len() {
         return at_phase(6, 0, lent);
     }
-    gone_on(step(t), marks)
+    match step(t) {
+        Ok(after) => {
+            mark_out(after.count, after.marks, marks);
+            at_phase(0, 0, after.phase)
+        }
+        Err(r) => refused_at(r, lent),
+    }
 }

@@ -1,15 +1,10 @@
-use mathlib.Core.Path.{◌∙◌}
-use native.Mathlib.Omega.{arith}
+-- Each place is read by itself. Assumes nothing.
 use Rattle.tournament_state.specs.Refusals.{priority}
-use Rattle.states.proofs.Placed.{filled_more, filled_all}
+use Rattle.states.proofs.Placed.{filled}
+use borrow.Author.Rules.{rules}
+use borrow.Author.Tests.{tests}
 use Rattle.states.proofs.priorities_from.Goals as goal
-
-pub loop-i-preserved : goal.loop-i-preserved
-loop-i-preserved c =
-    let l = c.loop-i in
-    (omega arith, filled_more priority c.args.priorities.now l.i l.places (omega (arith, c.smaller-n.ensures)) (omega (arith, c.smaller-n.ensures)) l.invariant.1)
 
 pub returns : goal.returns
 returns c =
-    let l = c.loop-i in
-    l.invariant.1 ∙ filled_all priority c.args.priorities.now l.i (omega (arith, c.smaller-n.ensures))
+    filled _ _ priority c.args.priorities.now c.from_fn.result c.from_fn.ensures.items (λ i y q k. search (rules, tests))
