@@ -32,12 +32,6 @@ const WINNER: usize = 4 + 3 + 20 + 10 + 1;
 // No replay has more bytes (specs/Claims.antt works it out in the same way), so a buffer of this length is never too small.
 pub const SHOWN: usize = BITS as usize * BIT + WINNER;
 
-fn either(a: bool, b: bool) -> bool
-    ensures { result ≡ a || b }
-{
-    if a { true } else { b }
-}
-
 // A row after a space, if it is marked.
 fn lay_row(out: &mut [u8], at: usize, row: Row, mark: bool) -> usize
     ensures { Lays out.old at (cond mark (ascii " " ++ digits row.0) []) result out.new }
@@ -65,10 +59,9 @@ fn lay_rows(out: &mut [u8], at: usize, marks: [bool; CONTENDERS]) -> usize
 {
     let mut next = at;
     let mut some = false;
-    for i in 0..CONTENDERS {
-        let mark = marks[i];
-        next = lay_row(out, next, Row(i), mark);
-        some = either(some, mark);
+    for (i, mark) in marks.iter().enumerate() {
+        next = lay_row(out, next, Row(i), *mark);
+        some |= *mark;
     }
     lay_none(out, next, some)
 }
@@ -107,11 +100,7 @@ fn lay_bit(
 fn priority_at(priorities: [Priority; CONTENDERS], row: Row) -> Priority
     ensures { result ≡ get_or priorities row.0 Refusals·none }
 {
-    let i = row.0;
-    if i < CONTENDERS {
-        return priorities[i];
-    }
-    Priority(0)
+    priorities.get(row.0).copied().unwrap_or(Priority(0))
 }
 
 fn lay_wins(out: &mut [u8], at: usize, row: Row, priority: Priority) -> usize
@@ -129,8 +118,7 @@ fn lay_winner(out: &mut [u8], at: usize, priorities: [Priority; CONTENDERS], pha
 {
     match phase {
         Phase::Finished(row) => lay_wins(out, at, row, priority_at(priorities, row)),
-        Phase::AtBit(_) => at,
-        Phase::NoWinner => at,
+        Phase::AtBit(_) | Phase::NoWinner => at,
     }
 }
 
@@ -140,8 +128,7 @@ fn winning(priorities: [Priority; CONTENDERS], phase: Phase) -> Priority
 {
     match phase {
         Phase::Finished(row) => priority_at(priorities, row),
-        Phase::AtBit(_) => Priority(0),
-        Phase::NoWinner => Priority(0),
+        Phase::AtBit(_) | Phase::NoWinner => Priority(0),
     }
 }
 
@@ -157,12 +144,9 @@ fn silent_at(t: Tournament, won: Priority, k: u32) -> [bool; CONTENDERS]
     requires { t.count ≤ Limits·contenders }
     ensures { result ≡ silent_at t won k }
 {
-    let bits = t.bits;
-    let count = t.count;
     let mut marks = [false; CONTENDERS];
-    for i in 0..count {
-        let p = t.priorities[i];
-        marks[i] = silent_bit(bits, p, won) == k;
+    for (i, p) in t.priorities[..t.count].iter().enumerate() {
+        marks[i] = silent_bit(t.bits, *p, won) == k;
     }
     marks
 }

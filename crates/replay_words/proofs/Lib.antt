@@ -1,4 +1,4 @@
-pub mod Words
+pub mod Numbers
 pub mod Reading
 pub mod Parts
 pub mod Size

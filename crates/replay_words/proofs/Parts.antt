@@ -6,7 +6,10 @@ use mathlib.Core.List.{List, [], ◌∷◌, ◌++◌}
 use Prim.Native.Nat.{ℕ, zero, suc, ◌+◌, ◌≤◌, ◌<◌}
 use native.Mathlib.Numerals.{add-one}
 use native.Mathlib.Omega.{arith}
-use lib.Dec.{eqb}
+use native.Mathlib.Decide.{dec_le}
+use native.Mathlib.Nat.{lt_of_not-le}
+use borrow.Author.Tests.{le-ltb, lt-ltb, le-leb, lt-leb}
+use lib.Dec.{eqb, ltb}
 use lib.ListN.{length, get_or, take}
 use lib.Seq.{take-suc}
 use Rattle.std.specs.Prelude.{Option, Some, None}
@@ -29,7 +32,6 @@ or_true true = refl
 or_true false = refl
 
 has_snoc : (text : List ℕ) (b : ℕ) → has_word (text ++ (b ∷ [])) ≡ has_word text || not (separates b)
-unfolding has_word
 has_snoc [] b = sym (or_false (not (separates b)))
 has_snoc (c ∷ text) b = ap (λ h. not (separates c) || h) (has_snoc text b) ∙ or_assoc (not (separates c)) (has_word text) (not (separates b))
 
@@ -49,12 +51,13 @@ module _ (text : List ℕ) (i : ℕ) (h : i < length text) where
   pub ends_more : ends_with (ends_after 0 (take i text)) (get_or text i 0) ≡ ends_after 0 (take (i + 1) text)
   ends_more = sym (ap (ends_after 0) taken ∙ ends_snoc 0 (take i text) (get_or text i 0))
 
--- a word that is met
-pub has_at : (text : List ℕ) (i : ℕ) → i < length text → separates (get_or text i 0) ≡ false → has_word text ≡ true
-unfolding has_word
-has_at [] i h e = absurd (omega arith)
-has_at (b ∷ text) zero h e = rw e refl
-has_at (b ∷ text) (suc i) h e = ap (λ t. not (separates b) || t) (has_at text i (omega arith) e) ∙ sym (or_true (not (separates b)))
+-- a byte that is above the space parts no words
+pub above : (b : ℕ) → ltb 32 b ≡ not (separates b)
+above b =
+    elim (dec_le b 32) [
+      | yes h ↦ rw (le-ltb 32 b h, le-leb b 32 h) refl
+      | no h ↦ rw (lt-ltb 32 b (lt_of_not-le h), lt-leb b 32 (lt_of_not-le h)) refl
+    ]
 
 -- a byte more adds one line end at most
 pub ends_few : (n b i : ℕ) → n ≤ i → ends_with n b ≤ i + 1
@@ -76,12 +79,11 @@ end_within text = by_found (first (λ end. over (take end text)) 0 (length text)
 
 -- before the first byte nothing is over
 not_at_once : (text : List ℕ) (end : ℕ) → over (take end text) ≡ true → 1 ≤ end
-unfolding over has_word
+unfolding over
 not_at_once text zero e = absurd (true≢false (sym e))
 not_at_once text (suc end) e = omega arith
 
 some_bytes : (text : List ℕ) → has_word text ≡ true → 1 ≤ length text
-unfolding has_word
 some_bytes [] e = absurd (true≢false (sym e))
 some_bytes (b ∷ text) e = omega arith
 

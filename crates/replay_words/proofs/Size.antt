@@ -17,9 +17,9 @@ use Rattle.tournament_state.specs.Refusals.{none, number_at}
 use Rattle.replay_screen.specs.Claims.{most_shown, LentPlaces}
 use Rattle.replay_screen.specs.Shown.{shown_of}
 use Rattle.replay_screen.proofs.Size.{largest_shown}
-use Rattle.replay_words.specs.Handwritten.{separates, ended, words_after, text_words, all_digits, is_number, number_of, wrong_from, places_of, usage, wrong_line, replay_of}
+use Rattle.replay_words.specs.Handwritten.{text_words, all_digits, is_number, number_of, wrong_from, places_of, usage, wrong_line, replay_of}
 use Rattle.replay_words.specs.Claims.{ReplayFits}
-use Rattle.replay_words.proofs.Words.{as_priority, few_ended}
+use Rattle.replay_words.proofs.Numbers.{as_priority, few_words}
 
 -- ---- the priorities fit in 32 bits
 number_small : (word : List ℕ) → number_of word ≤ ticks
@@ -51,17 +51,6 @@ lent words =
       small = placed_small contenders (contenders - length l) (drop 1 words);
     }
 
--- ---- no text has more words than bytes
-few_words : (word text : List ℕ) → length (words_after word text) ≤ length word + length text
-unfolding words_after
-few_words word [] = omega (arith, few_ended word)
-few_words word (b ∷ text) = by_test (separates b) (few_words [] text) (few_words (word ++ (b ∷ [])) text)
-  where
-    by_test : (p : Bool) → length (words_after [] text) ≤ 0 + length text → length (words_after (word ++ (b ∷ [])) text) ≤ length (word ++ (b ∷ [])) + length text
-        → length (cond p (ended word ++ words_after [] text) (words_after (word ++ (b ∷ [])) text)) ≤ length word + suc (length text)
-    by_test true h g = omega (arith, length-append (ended word) (words_after [] text), few_ended word)
-    by_test false h g = omega (arith, length-append word (b ∷ []))
-
 wrong_small : (k : ℕ) (words : List (List ℕ)) → wrong_from k words ≤ k + length words
 unfolding wrong_from
 wrong_small k [] = omega arith
@@ -88,5 +77,5 @@ replay_size words h = by_tests (eqb (length words) 0) (eqb (wrong_from 1 words) 
 
 pub never_full : ReplayFits
 never_full text buffer h g =
-    let n = replay_size (text_words text) (omega (arith, few_words [] text)) in
+    let n = replay_size (text_words text) (omega (arith, few_words text)) in
     ap (λ x. x.0) (all_put (replay_of (text_words text)) buffer (omega arith))

@@ -1,14 +1,14 @@
 -- The tournaments of a text, which blank lines part: where the first one's text ends.
-use Rattle.std.specs.Prelude.{Bool, false, not, cond, ◌&&◌, ◌||◌, List, [], ◌∷◌, ℕ, ◌+◌, leb, eqb, length, take}
+use Rattle.std.specs.Prelude.{Bool, not, cond, ◌&&◌, List, [], ◌∷◌, ℕ, ◌+◌, leb, eqb, length, take}
+use Rattle.std.specs.List.{list_any}
 use Rattle.std.specs.Prelude.{Option, Some, None}
 use Rattle.laws.specs.Search.{first}
 use Rattle.ascii.specs.Ascii.{newline}
 use Rattle.replay_words.specs.Handwritten.{separates}
 
 -- some byte is in a word
-unfoldable pub has_word : List ℕ → Bool
-has_word [] = false
-has_word (b ∷ text) = not (separates b) || has_word text
+abbrev pub has_word : List ℕ → Bool
+has_word text = list_any (λ b. not (separates b)) text
 
 -- line ends since the last word, after n of them and one byte more, ..
 abbrev pub ends_with : ℕ → ℕ → ℕ

@@ -4,167 +4,124 @@
 // is assumed. This crate must not know how a tournament is played, nor of input and output.
 #![tactic(auto)]
 
-ghost use Rattle.std.specs.Prelude.{◌≡◌, not, ◌&&◌, ◌||◌, [], ◌<◌, leb};
+ghost use Rattle.std.specs.Prelude.{◌≡◌, not, [], ◌<◌, ◌≤◌, length, set};
+ghost use Rattle.std.specs.List.{prefix_len};
+ghost use Rattle.std.specs.Iterator.{YieldsFirstRef, item_count};
 ghost use Rattle.text.specs.Put.{last_place, Lays, Puts};
 ghost use Rattle.replay_words.specs.Handwritten.{separates, text_words, wrong_line, replay_of};
 ghost use Rattle.replay_words.specs.Parts.{has_word, ends_with, first_end};
-ghost use Rattle.replay_words.specs.private.Reading.{with_digit, small_or_zero, bits_with, places_with, wrong_with};
-ghost use Rattle.replay_words.specs.private.Reading.{closed as Reading·closed, closed_if, with_byte, reader_of};
+ghost use Rattle.replay_words.specs.private.Reading.{words_left, number_in, with_number, read_of};
 
-use names::{CONTENDERS, Priority, TICKS};
+use names::{CONTENDERS, Priority};
 use replay_screen::lay_shown;
-use text::{lay_number, lay_text};
+use text::{lay_number, lay_text, put};
 
-// What is read of a text: so many words, the first as the bit count, the others as priorities, and the place of the first that
-// is no number, from 1 on, or 0. Then whether a word has begun, and its value; more than TICKS stands for no number.
+// How many bytes at the start part words ..
+fn parting(text: &[u8]) -> usize
+    ensures most { result ≤ length text.now }
+    ensures value { result ≡ prefix_len separates text.now }
+{
+    text.iter().take_while(|b| **b <= b' ').count()
+}
+
+// .. or are in one.
+fn in_word(text: &[u8]) -> usize
+    ensures most { result ≤ length text.now }
+    ensures value { result ≡ prefix_len (λ b. not (separates b)) text.now }
+{
+    text.iter().take_while(|b| **b > b' ').count()
+}
+
+// The words of a text, one after the other.
+#[derive(Drop)]
+struct Words<'a>(&'a [u8]);
+
+impl<'a> Iterator for Words<'a> {
+    type Item = &'a [u8];
+
+    ghost next_gives = { YieldsFirstRef words_left };
+
+    ghost remaining = { item_count words_left };
+
+    fn next(&mut self) -> Option<&'a [u8]> {
+        let text = &self.0[parting(self.0)..];
+        if text.is_empty() {
+            return None;
+        }
+        let (word, rest) = text.split_at(in_word(text));
+        self.0 = rest;
+        Some(word)
+    }
+}
+
+// The number that a word is: digits alone, and 4,294,967,295 at most.
+fn number(word: &[u8]) -> Option<u32>
+    ensures { result ≡ number_in word.now }
+{
+    let mut value: u32 = 0;
+    for byte in word {
+        if !byte.is_ascii_digit() {
+            return None;
+        }
+        value = value.checked_mul(10)?.checked_add(u32::from(*byte - b'0'))?;
+    }
+    Some(value)
+}
+
+// What the words of a text enter: how many they are, the first as the bit count, the others as priorities.
 #[derive(Clone, Copy)]
-struct Reader {
+struct Entered {
     words: usize,
     bits: u32,
     priorities: [Priority; CONTENDERS],
-    wrong: usize,
-    inside: bool,
-    value: u64,
-}
-
-fn nothing() -> Reader
-    ensures { result ≡ reader_of [] [] }
-{
-    Reader {
-        words: 0,
-        bits: 0,
-        priorities: [Priority(0); CONTENDERS],
-        wrong: 0,
-        inside: false,
-        value: 0,
-    }
-}
-
-fn with_digit(value: u64, c: u8) -> u64
-    ensures { result ≡ with_digit value c }
-{
-    if TICKS < value {
-        return TICKS + 1;
-    }
-    if c < b'0' {
-        return TICKS + 1;
-    }
-    if b'9' < c {
-        return TICKS + 1;
-    }
-    let next = value * 10 + (c - b'0') as u64;
-    let beyond = TICKS < next;
-    if beyond {
-        return TICKS + 1;
-    }
-    next
-}
-
-fn or_zero(value: u64) -> u32
-    ensures { result ≡ small_or_zero value }
-{
-    if TICKS < value {
-        return 0;
-    }
-    value as u32
-}
-
-fn bits_with(bits: u32, words: usize, value: u64) -> u32
-    ensures { result ≡ bits_with bits words value }
-{
-    if words == 0 {
-        return or_zero(value);
-    }
-    bits
 }
 
 // Priorities past the last place are counted only.
-fn places_with(
-    priorities: [Priority; CONTENDERS],
-    words: usize,
-    value: u64,
-) -> [Priority; CONTENDERS]
-    ensures { result ≡ places_with priorities words value }
+fn places_with(priorities: [Priority; CONTENDERS], k: usize, number: u32) -> [Priority; CONTENDERS]
+    ensures { result ≡ set priorities k (record { 0 = number }) }
 {
-    if words == 0 {
-        return priorities;
-    }
-    if CONTENDERS < words {
-        return priorities;
-    }
     let mut places = priorities;
-    places[words - 1] = Priority(or_zero(value));
+    if k < CONTENDERS {
+        places[k] = Priority(number);
+    }
     places
 }
 
-fn wrong_with(wrong: usize, words: usize, value: u64) -> usize
-    requires { words < last_place }
-    ensures { result ≡ wrong_with wrong words value }
+fn with_number(entered: Entered, number: u32) -> Entered
+    requires { entered.words < last_place }
+    ensures { result ≡ with_number entered number }
 {
-    if value <= TICKS {
-        return wrong;
+    let words = entered.words + 1;
+    if entered.words == 0 {
+        return Entered {
+            words,
+            bits: number,
+            ..entered
+        };
     }
-    if wrong == 0 {
-        return words + 1;
-    }
-    wrong
-}
-
-// The word is over.
-fn closed(r: Reader) -> Reader
-    requires { r.words < last_place }
-    ensures { result ≡ Reading·closed r }
-{
-    let words = r.words;
-    let value = r.value;
-    let priorities = r.priorities;
-    Reader {
-        words: words + 1,
-        bits: bits_with(r.bits, words, value),
-        priorities: places_with(priorities, words, value),
-        wrong: wrong_with(r.wrong, words, value),
-        inside: false,
-        value: 0,
+    Entered {
+        words,
+        priorities: places_with(entered.priorities, entered.words - 1, number),
+        ..entered
     }
 }
 
-fn closed_if(r: Reader) -> Reader
-    requires { r.words < last_place }
-    ensures { result ≡ closed_if r }
+// What a text's words enter, or the place of the first that is no number, from 1 on.
+fn read(text: &[u8]) -> Result<Entered, usize>
+    ensures { result ≡ read_of (text_words text.now) }
 {
-    if r.inside {
-        return closed(r);
+    let mut entered = Entered {
+        words: 0,
+        bits: 0,
+        priorities: [Priority(0); CONTENDERS],
+    };
+    for word in Words(text) {
+        let Some(number) = number(word) else {
+            return Err(entered.words + 1);
+        };
+        entered = with_number(entered, number);
     }
-    r
-}
-
-fn with_byte(r: Reader, c: u8) -> Reader
-    requires { r.words < last_place }
-    ensures { result ≡ with_byte r c }
-{
-    if c <= b' ' {
-        return closed_if(r);
-    }
-    let priorities = r.priorities;
-    Reader {
-        words: r.words,
-        bits: r.bits,
-        priorities,
-        wrong: r.wrong,
-        inside: true,
-        value: with_digit(r.value, c),
-    }
-}
-
-fn read(text: &[u8]) -> Reader
-    ensures { result ≡ reader_of (text_words text.now) [] }
-{
-    let mut r = nothing();
-    for i in 0..text.len() {
-        let c = text[i];
-        r = with_byte(r, c);
-    }
-    closed_if(r)
+    Ok(entered)
 }
 
 fn lay_wrong(out: &mut [u8], at: usize, place: usize) -> usize
@@ -178,87 +135,54 @@ fn lay_wrong(out: &mut [u8], at: usize, place: usize) -> usize
 fn lay_replay(out: &mut [u8], at: usize, text: &[u8]) -> usize
     ensures { Lays out.old at (replay_of (text_words text.now)) result out.new }
 {
-    let r = read(text);
-    let words = r.words;
-    let wrong = r.wrong;
-    let priorities = r.priorities;
-    if words == 0 {
-        return lay_text(out, at, b"usage: replay BITS PRIORITY..\n");
+    match read(text) {
+        Err(place) => lay_wrong(out, at, place),
+        Ok(entered) => {
+            if entered.words == 0 {
+                return lay_text(out, at, b"usage: replay BITS PRIORITY..\n");
+            }
+            lay_shown(out, at, entered.bits, entered.words - 1, entered.priorities)
+        }
     }
-    if wrong == 0 {
-        return lay_shown(out, at, r.bits, words - 1, priorities);
-    }
-    lay_wrong(out, at, wrong)
 }
 
 // What is shown of the one tournament of a text, at the start of the buffer.
 pub fn replay(text: &[u8], out: &mut [u8]) -> Option<usize>
     ensures { Puts out.old 0 (replay_of (text_words text.now)) result out.new }
 {
-    let size = out.len();
-    let bytes = lay_replay(out, size, text) - size;
-    if size < bytes {
-        return None;
-    }
-    Some(lay_replay(out, 0, text))
+    put(out, |out, at| lay_replay(out, at, text))
 }
 
 // Whether a text has a word.
 pub fn has_word(text: &[u8]) -> bool
     ensures { result ≡ has_word text.now }
 {
-    for i in 0..text.len() {
-        if b' ' < text[i] {
-            return true;
-        }
-    }
-    false
+    text.iter().any(|b| *b > b' ')
 }
 
 fn ends_with(ends: usize, c: u8) -> usize
     requires { ends < last_place }
     ensures { result ≡ ends_with ends c }
 {
-    if b' ' < c {
-        return 0;
+    match c {
+        b'\n' => ends + 1,
+        c if c > b' ' => 0,
+        _ => ends,
     }
-    if c == b'\n' {
-        return ends + 1;
-    }
-    ends
-}
-
-fn some_with(some: bool, c: u8) -> bool
-    ensures { result ≡ some || not (separates c) }
-{
-    if b' ' < c {
-        return true;
-    }
-    some
-}
-
-fn is_over(some: bool, ends: usize) -> bool
-    ensures { result ≡ some && leb 2 ends }
-{
-    if ends < 2 {
-        return false;
-    }
-    some
 }
 
 // Where the text of the first tournament ends: after the first blank line behind a word, or where all ends.
 pub fn first_end(text: &[u8]) -> usize
     ensures { result ≡ first_end text.now }
 {
-    let mut ends: usize = 0;
+    let mut ends = 0;
     let mut some = false;
-    for i in 0..text.len() {
-        if is_over(some, ends) {
+    for (i, c) in text.iter().enumerate() {
+        if some && ends >= 2 {
             return i;
         }
-        let c = text[i];
-        ends = ends_with(ends, c);
-        some = some_with(some, c);
+        ends = ends_with(ends, *c);
+        some |= *c > b' ';
     }
     text.len()
 }

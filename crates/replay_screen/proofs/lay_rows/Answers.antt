@@ -13,15 +13,14 @@ use Rattle.replay_screen.proofs.lay_rows.Goals as goal
 
 pub loop-i-init : goal.loop-i-init
 unfolding spaced some? those rows
-loop-i-init c = (omega arith, none _ _ (omega arith), refl)
+loop-i-init c = (none _ _ (omega arith), refl)
 
 pub loop-i-preserved : goal.loop-i-preserved
 loop-i-preserved c =
     let l = c.loop-i in
     let a = c.args in (
-      omega arith,
-      is (spaced_more a.marks l.i _ refl) (then l.invariant.1 (last c.lay_row-next.ensures) (omega arith)),
-      c.either-some.ensures ∙ ap (λ b. b || get_or a.marks l.i false) l.invariant.2 ∙ some_more a.marks l.i _ refl,
+      is (spaced_more a.marks l.i _ refl) (then l.invariant.0 (last c.lay_row-next.ensures) (omega arith)),
+      ap (λ b. b || get_or a.marks l.i false) l.invariant.1 ∙ some_more a.marks l.i _ refl,
     )
 
 pub returns : goal.returns
@@ -33,4 +32,4 @@ returns c =
     let f = ap (marked_to marks) e in
     is (all_rows (marked_to marks contenders))
     (is (ap (λ m. spaced m ++ cond (some? m) [] (ascii " none")) f)
-    (then l.invariant.1 (last (is (ap (λ b. cond b [] (ascii " none")) l.invariant.2) c.lay_none.ensures)) (omega arith)))
+    (then l.invariant.0 (last (is (ap (λ b. cond b [] (ascii " none")) l.invariant.1) c.lay_none.ensures)) (omega arith)))

@@ -1,5 +1,7 @@
 -- The winner's line, or nothing where there is no winner. Assumes nothing.
-use mathlib.Core.Path.{sym, ap, ◌∙◌}
+use mathlib.Core.Path.{◌≡◌, sym, ap, ◌∙◌}
+use mathlib.Core.Logic.{inl, inr}
+use mathlib.Core.List.{[]}
 use native.Mathlib.Omega.{arith}
 use Rattle.text.proofs.Laying.{is, none}
 use Rattle.replay_screen.specs.Shown.{wins_line, winner_line}
@@ -15,10 +17,6 @@ pub returns-in-AtBit : goal.returns-in-AtBit
 unfolding winner_line
 returns-in-AtBit c =
     let a = c.args in
-    is (ap (winner_line a.priorities) (sym c.in-AtBit.is)) (none _ _ (omega arith))
-
-pub returns-in-NoWinner : goal.returns-in-NoWinner
-unfolding winner_line
-returns-in-NoWinner c =
-    let a = c.args in
-    is (ap (winner_line a.priorities) (sym c.in-NoWinner.is)) (none _ _ (omega arith))
+    let nothing : [] ≡ winner_line a.priorities a.phase =
+    elim c.in-AtBit.is [ inl e ↦ ap (winner_line a.priorities) (sym e.1) | inr e ↦ ap (winner_line a.priorities) (sym e) ] in
+    is nothing (none _ _ (omega arith))

@@ -1,9 +1,12 @@
 use mathlib.Core.Path.{◌≡◌}
 use mathlib.Core.Bool.{false}
 use native.Mathlib.Omega.{arith}
+use lib.ListN.{length-take}
 use Rattle.names.specs.Limits.{contenders}
 use Rattle.laws.specs.Lists.{rows}
 use Rattle.laws.proofs.Lists.{lay_more}
+use Rattle.tournament_state.specs.Refusals.{none}
+use Rattle.std.proofs.lemmas.List.{get_or-take}
 use Rattle.replay_screen.specs.private.Begun.{silent_at}
 use Rattle.replay_screen.proofs.silent_at.Invariants.{goes}
 use borrow.Author.Rules.{rules}
@@ -17,12 +20,13 @@ pub loop-i-preserved : goal.loop-i-preserved
 loop-i-preserved c =
     let l = c.loop-i in
     let a = c.args in
-    (omega arith, rw (l.invariant.1, c.silent_bit.ensures) (lay_more (goes a.t a.won a.k) false contenders l.i (omega arith)))
+    let own = get_or-take a.t.count a.t.priorities l.i none (omega (arith, length-take a.t.count a.t.priorities)) in
+    rw (l.invariant, c.silent_bit.ensures, own) (lay_more (goes a.t a.won a.k) false contenders l.i (omega (arith, length-take a.t.count a.t.priorities)))
 
 pub returns : goal.returns
 unfolding silent_at
 returns c =
     let l = c.loop-i in
     let a = c.args in
-    let e : l.i ≡ a.t.count = omega arith in
-    rw (← e) l.invariant.1
+    let e : l.i ≡ a.t.count = omega (arith, length-take a.t.count a.t.priorities) in
+    rw (← e) l.invariant

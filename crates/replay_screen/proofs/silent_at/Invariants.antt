@@ -2,7 +2,7 @@
 use mathlib.Core.Path.{◌≡◌}
 use mathlib.Core.Bool.{Bool, false}
 use mathlib.Core.List.{◌++◌}
-use Prim.Native.Nat.{ℕ, ◌-◌, ◌≤◌}
+use Prim.Native.Nat.{ℕ, ◌-◌}
 use lib.Dec.{eqb}
 use lib.ListN.{get_or, replicate}
 use Rattle.names.specs.declared.Priority.{Priority}
@@ -18,7 +18,4 @@ abbrev pub goes : Tournament → Priority → ℕ → ℕ → Bool
 goes t won k i = eqb (silent_bit t.bits (get_or t.priorities i none) won) k
 
 abbrev pub invariant-loop-i : goal.invariant-loop-i
-invariant-loop-i l = (l.i ≤ l.count) × (l.marks ≡ rows l.i (goes l.t l.won l.k) ++ replicate (contenders - l.i) false)
-
-abbrev pub decreases-loop-i : goal.decreases-loop-i
-decreases-loop-i l = l.count - l.i
+invariant-loop-i l = l.marks ≡ rows l.i (goes l.fn.t l.won l.k) ++ replicate (contenders - l.i) false

@@ -2,8 +2,8 @@
 use mathlib.Core.Path.{◌≡◌}
 use mathlib.Core.Bool.{Bool}
 use mathlib.Core.List.{List}
-use Prim.Native.Nat.{ℕ, ◌-◌, ◌≤◌}
-use lib.ListN.{length, take}
+use Prim.Native.Nat.{ℕ, ◌≤◌}
+use lib.ListN.{take}
 use Rattle.laws.proofs.Rows.{NoneBelow}
 use Rattle.replay_words.specs.Parts.{has_word, ends_after, over}
 use Rattle.replay_words.proofs.first_end.Given as goal
@@ -14,7 +14,4 @@ over_at text end = over (take end text)
 
 abbrev pub invariant-loop-i : goal.invariant-loop-i
 invariant-loop-i l =
-    (l.i ≤ l.i-end) × (l.i-end ≡ length l.text) × NoneBelow (over_at l.text) l.i × (l.ends ≡ ends_after 0 (take l.i l.text)) × (l.some ≡ has_word (take l.i l.text)) × (l.ends ≤ l.i)
-
-abbrev pub decreases-loop-i : goal.decreases-loop-i
-decreases-loop-i l = l.i-end - l.i
+    NoneBelow (over_at l.text) l.i × (l.ends ≡ ends_after 0 (take l.i l.text)) × (l.some ≡ has_word (take l.i l.text)) × (l.ends ≤ l.i)

@@ -1,22 +1,33 @@
-use mathlib.Core.Path.{◌∙◌}
+use mathlib.Core.Path.{sym, ap, ◌∙◌}
 use native.Mathlib.Omega.{arith}
-use Rattle.replay_words.proofs.Words.{read_more, read_few, read_all}
+use Rattle.replay_words.specs.declared.Words.{Words}
+use Rattle.replay_words.proofs.Numbers.{read_none, read_all, few, wrong_word, read_more}
 use Rattle.replay_words.proofs.read.Goals as goal
 
-pub with_byte-r-requires : goal.with_byte-r-requires
-with_byte-r-requires c =
-    let l = c.loop-i in
-    omega (arith, read_few l.invariant.2)
+pub loop-word-init : goal.loop-word-init
+loop-word-init c = read_none c.args.text.now _ (ap (λ (w : Words). w.0.now) c.into_iter-word-iterator.ensures.into_iter_gives)
 
-pub loop-i-preserved : goal.loop-i-preserved
-loop-i-preserved c =
-    let l = c.loop-i in
-    (omega arith, l.invariant.1, read_more _ l.i (omega arith) l.invariant.2 c.with_byte-r.ensures)
+pub overflow_add-result : goal.overflow_add-result
+overflow_add-result c =
+    let s = rw c.in-Some.is at c.next.ensures.steps in
+    omega (arith, few c.loop-word.invariant _ c.next.new.self s)
 
-pub closed_if-requires : goal.closed_if-requires
-closed_if-requires c = omega (arith, read_few c.loop-i.invariant.2)
+pub returns-in_default : goal.returns-in_default
+returns-in_default c =
+    let s = rw c.in-Some.is at c.next.ensures.steps in
+    wrong_word c.loop-word.invariant _ c.next.new.self s (sym c.number.ensures ∙ c.in_default.is)
+
+pub with_number-entered-requires : goal.with_number-entered-requires
+with_number-entered-requires c =
+    let s = rw c.in-Some.is at c.next.ensures.steps in
+    omega (arith, few c.loop-word.invariant _ c.next.new.self s)
+
+pub loop-word-preserved : goal.loop-word-preserved
+loop-word-preserved c =
+    let s = rw c.in-Some.is at c.next.ensures.steps in
+    read_more c.loop-word.invariant _ c.next.new.self s _ (sym c.number.ensures ∙ c.in-Some-number.is) c.with_number-entered.ensures
 
 pub returns : goal.returns
 returns c =
-    let l = c.loop-i in
-    c.closed_if.ensures ∙ read_all _ l.i l.r (omega arith) l.invariant.2
+    let s = rw c.in-None.is at c.next.ensures.steps in
+    read_all c.loop-word.invariant s.0
