@@ -1,5 +1,5 @@
 // A row's own terms: what it is itself, and what those before it and behind it are to it.
-ghost use Rattle.std.specs.Prelude.{◌≡◌, ℕ, ◌+◌, ◌-◌, ◌≤◌, ◌<◌, max, min, length, get_or};
+ghost use Rattle.std.specs.Prelude.{◌≡◌, ℕ, ◌+◌, ◌-◌, ◌≤◌, ◌<◌, length, get_or};
 ghost use Rattle.laws.specs.Ranks.{rank};
 ghost use Rattle.terms.specs.Gathered.{cost};
 ghost use Rattle.plan.specs.Rules.{self_or_slotted, airtime};
@@ -13,12 +13,6 @@ use costs::Overheads;
 use names::Row;
 use terms::Gathered;
 
-fn larger(a: u32, b: u32) -> u32
-    ensures { result ≡ max a b }
-{
-    if a < b { b } else { a }
-}
-
 // The largest cost from one place on and before another, or 0 if there is none between: as words of 32 bits, of which several are compared at
 // once.
 fn dearest(costs: &[u64], from: usize, to: usize) -> u64
@@ -28,18 +22,10 @@ fn dearest(costs: &[u64], from: usize, to: usize) -> u64
     ensures { result ≡ largest_in costs.now from to }
 {
     let mut most: u32 = 0;
-    let mut k = from;
-    while k < to {
-        most = larger(most, costs[k] as u32);
-        k += 1;
+    for cost in &costs[from..to] {
+        most = most.max(*cost as u32);
     }
-    most as u64
-}
-
-fn smaller(a: u64, b: u64) -> u64
-    ensures { result ≡ min a b }
-{
-    if a < b { a } else { b }
+    u64::from(most)
 }
 
 // The smallest cost from one place on and up to another, that one too.
@@ -49,10 +35,8 @@ pub(crate) fn cheapest(costs: &[u64], from: usize, to: usize) -> u64
     ensures { Cheapest costs.now from to result }
 {
     let mut least = costs[to];
-    let mut k = from;
-    while k < to {
-        least = smaller(least, costs[k]);
-        k += 1;
+    for cost in &costs[from..to] {
+        least = least.min(*cost);
     }
     least
 }

@@ -25,14 +25,6 @@ pub(crate) const DEADLINE: usize = 5;
 
 const ACKNOWLEDGEMENT: usize = 6;
 
-// The same number in a word of 64 bits.
-pub(crate) fn wide(x: u32) -> u64
-    ensures value { result ≡ x }
-    ensures upper_bound { result < 2 ^ 32 }
-{
-    x as u64
-}
-
 // Word w of the stream of row k.
 pub(crate) fn word_of(words: &[u32; CARRIED], k: usize, w: usize) -> u64
     requires k_lt_streams { k < limit.streams }
@@ -40,7 +32,7 @@ pub(crate) fn word_of(words: &[u32; CARRIED], k: usize, w: usize) -> u64
     ensures value { result ≡ get_or words.now (layout.stream_at k + w) 0 }
     ensures upper_bound { result < 2 ^ 32 }
 {
-    wide(words[FIRST + STREAM * k + w])
+    u64::from(words[FIRST + STREAM * k + w])
 }
 
 // C'' of the stream of row k.

@@ -1,14 +1,14 @@
 // What is told of all rows, in file order.
 ghost use Rattle.std.specs.Prelude.{◌≡◌, true, ℕ, ◌+◌, ◌*◌, ◌/◌, ◌≤◌, ◌<◌, length, get_or};
-ghost use Rattle.names.specs.Limits.{ticks};
+ghost use Rattle.names.specs.Limits.{ticks, streams};
 ghost use Rattle.laws.specs.Ranks.{rank};
 ghost use Rattle.bound.specs.Evaluations.{searched};
 ghost use Rattle.plan.specs.Evaluations.{row_searched};
 ghost use Rattle.costs.specs.Costs.{Overhead};
 ghost use Rattle.carried.specs.Carried.{timing_in, plan_in};
-ghost use Rattle.terms.specs.Gathered.{lent, terms_of, fits};
+ghost use Rattle.terms.specs.Gathered.{lent, terms_of, fits, stairs};
 ghost use Rattle.answers.specs.Answers.{per_row, laid_in};
-ghost use Rattle.answers.specs.private.Gather.{few, row_stream, urgency, PlacesWithin, Column, Cheapest, RowTold, Long, InOrder};
+ghost use Rattle.answers.specs.private.Gather.{row_stream, urgency, PlacesWithin, Column, Cheapest, RowTold, Long, InOrder};
 ghost use Rattle.carried.specs.Layout as layout;
 
 use crate::Told;
@@ -22,6 +22,9 @@ use costs::{Overheads, overheads_of};
 use names::{FEW, Row, SOURCES, STREAMS};
 use row_words::{put_answer, put_wait};
 use terms::{Gathered, STAIRS};
+
+// Few streams have small rooms.
+const FEW_STAIRS: usize = SOURCES + FEW;
 
 // The answer of terms that are within the limits, as a plan's are.
 fn row_answer<'a>(
@@ -139,12 +142,9 @@ fn put_told<'a>(
     requires n_in_bounds { per_row told * n ≤ length out.old }
     ensures { out.new ≡ laid_in told (plan_in n m words.now) n out.old }
 {
-    let mut k: usize = 0;
-    while k < n {
-        let place = places[k];
-        let s = searched_row(words, n, m, over, Row(k), place, costs, periods, jitters);
-        put_row(told, Row(k), s, &costs[..], m, m + place, out);
-        k += 1;
+    for (k, place) in places[..n].iter().enumerate() {
+        let s = searched_row(words, n, m, over, Row(k), *place, costs, periods, jitters);
+        put_row(told, Row(k), s, &costs[..], m, m + *place, out);
     }
 }
 
@@ -184,37 +184,8 @@ fn put_sorted(
     );
 }
 
-// Few streams have small rooms.
-fn put_few(told: Told, words: &[u32; CARRIED], n: usize, m: usize, over: Overheads, out: &mut [u64])
-    requires places_within { PlacesWithin words.now n m }
-    requires overhead { Overhead (timing_in words.now) over }
-    requires n_le_few { n ≤ few }
-    requires n_in_bounds { per_row told * n ≤ length out.old }
-    ensures { out.new ≡ laid_in told (plan_in n m words.now) n out.old }
-{
-    let mut priorities = [0; FEW];
-    put_priorities(words, n, &mut priorities);
-    let mut places = [0; FEW];
-    put_places(&priorities, n, &mut places);
-    let mut costs = [0; SOURCES + FEW];
-    let mut periods = [0; SOURCES + FEW];
-    let mut jitters = [0; FEW];
-    put_sorted(
-        told,
-        words,
-        n,
-        m,
-        over,
-        &places,
-        &mut costs,
-        &mut periods,
-        &mut jitters,
-        out,
-    );
-}
-
-// All others have rooms for the most streams.
-fn put_many(
+// The same in rooms for R streams, and for S streams and noise sources together.
+fn put_in_rooms<const R: usize, const S: usize>(
     told: Told,
     words: &[u32; CARRIED],
     n: usize,
@@ -224,16 +195,20 @@ fn put_many(
 )
     requires places_within { PlacesWithin words.now n m }
     requires overhead { Overhead (timing_in words.now) over }
+    requires n_le_R { n ≤ R }
+    requires R_le_streams { R ≤ streams }
+    requires all_le_S { m + n ≤ S }
+    requires S_le_stairs { S ≤ stairs }
     requires n_in_bounds { per_row told * n ≤ length out.old }
     ensures { out.new ≡ laid_in told (plan_in n m words.now) n out.old }
 {
-    let mut priorities = [0; STREAMS];
+    let mut priorities = [0; R];
     put_priorities(words, n, &mut priorities);
-    let mut places = [0; STREAMS];
+    let mut places = [0; R];
     put_places(&priorities, n, &mut places);
-    let mut costs = [0; STAIRS];
-    let mut periods = [0; STAIRS];
-    let mut jitters = [0; STREAMS];
+    let mut costs = [0; S];
+    let mut periods = [0; S];
+    let mut jitters = [0; R];
     put_sorted(
         told,
         words,
@@ -256,7 +231,7 @@ pub(crate) fn put_rows(told: Told, words: &[u32; CARRIED], n: usize, m: usize, o
 {
     let over = overheads_of(timing_in(words));
     if n <= FEW {
-        return put_few(told, words, n, m, over, out);
+        return put_in_rooms::<FEW, FEW_STAIRS>(told, words, n, m, over, out);
     }
-    put_many(told, words, n, m, over, out)
+    put_in_rooms::<STREAMS, STAIRS>(told, words, n, m, over, out)
 }

@@ -1,26 +1,35 @@
 use native.Mathlib.Omega.{arith}
-use mathlib.Core.Path.{sym, ap, ◌∙◌}
-use Prim.Native.Nat.{max, ◌≤◌}
-use lib.ListN.{get_or}
-use Rattle.terms.specs.Gathered.{cost}
-use Rattle.answers.proofs.Gather.{largest_none, largest_next}
+use native.Mathlib.Nat.{add-zero, add_assoc}
+use mathlib.Core.Path.{◌≡◌, sym, ap, ap₂, ◌∙◌}
+use Prim.Native.Nat.{◌+◌, max}
+use Rattle.answers.specs.private.Gather.{largest_in}
+use Rattle.answers.proofs.Gather.{largest_none, largest_next, part_long, part_at}
 use Rattle.answers.proofs.own.dearest.Goals as goal
-use Rattle.answers.proofs.own.dearest.Goals.{In-loop-k}
 
--- the cost of this turn is small
-small : (d : In-loop-k) → get_or d.args.costs.now d.loop-k.k 0 ≤ cost
-small d = d.requires.by_index _ d.loop-k.invariant.0 d.loop-k-test.true
+pub loop-cost-init : goal.loop-cost-init
+loop-cost-init c =
+    let a = c.args in
+    (sym (ap (largest_in a.costs.now a.from) (add-zero a.from) ∙ largest_none a.costs.now a.from), omega arith)
 
-pub loop-k-init : goal.loop-k-init
-loop-k-init c = (omega arith, c.requires.from_le_to, sym (largest_none c.args.costs.now _), omega arith)
-
-pub loop-k-preserved : goal.loop-k-preserved
-loop-k-preserved c =
-    let at = goal.at.loop-k-preserved c in
-    let l = c.loop-k in
-    let costs = c.args.costs.now in (
-      omega (arith, l.invariant.0),
-      omega (arith, c.loop-k-test.true),
-      c.larger-most.ensures ∙ ap (λ z. max z (get_or costs l.k 0)) l.invariant.2 ∙ largest_next costs _ l.k l.invariant.0,
-      omega (arith, c.larger-most.ensures, l.invariant.3, small at.In-loop-k),
+pub loop-cost-preserved : goal.loop-cost-preserved
+loop-cost-preserved c =
+    let a = c.args in
+    let l = c.loop-cost in
+    let i = l.cost-index in
+    let costs = a.costs.now in
+    let long = part_long a.from a.to costs c.requires.to_in_bounds in
+    let here = part_at a.from a.to costs i (omega (arith, long, c.loop-cost-test.true)) in
+    let small = c.requires.by_index (a.from + i) (omega arith) (omega (arith, long, c.loop-cost-test.true)) in (
+      c.max-most.ensures
+          ∙ ap₂ max l.invariant.0 here
+          ∙ largest_next costs a.from (a.from + i) (omega arith)
+          ∙ ap (largest_in costs a.from) (add_assoc a.from i 1),
+      omega (arith, c.max-most.ensures, l.invariant.1, here, small),
     )
+
+pub returns : goal.returns
+returns c =
+    let a = c.args in
+    let l = c.loop-cost in
+    let e : a.from + l.cost-index ≡ a.to = omega (arith, part_long a.from a.to a.costs.now c.requires.to_in_bounds, c.requires.from_le_to, c.loop-cost-test.false) in
+    c.from.ensures ∙ l.invariant.0 ∙ ap (largest_in a.costs.now a.from) e

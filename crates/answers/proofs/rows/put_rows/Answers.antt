@@ -14,8 +14,8 @@ letters o =
     let e = o.overheads_of-over.ensures ∙ ap overheads_of (o.timing_in.ensures ∙ timing_held t w) in
     subst (Overhead (meant_timing t)) (sym e) (overhead_within (meant_timing t) w)
 
-pub put_few-requires-clause-overhead : goal.put_few-requires-clause-overhead
-put_few-requires-clause-overhead c = letters (goal.at.put_few-requires-clause-overhead c).After-overheads_of-over
+pub put_in_rooms-requires-clause-overhead : goal.put_in_rooms-requires-clause-overhead
+put_in_rooms-requires-clause-overhead c = letters (goal.at.put_in_rooms-requires-clause-overhead c).After-overheads_of-over
 
-pub put_many-requires-clause-overhead : goal.put_many-requires-clause-overhead
-put_many-requires-clause-overhead c = letters (goal.at.put_many-requires-clause-overhead c).After-overheads_of-over
+pub put_in_rooms-requires-2-clause-overhead : goal.put_in_rooms-requires-2-clause-overhead
+put_in_rooms-requires-2-clause-overhead c = letters (goal.at.put_in_rooms-requires-2-clause-overhead c).After-overheads_of-over

@@ -3,7 +3,8 @@ use mathlib.Core.Path.{◌≡◌, refl, sym, ap, ◌∙◌, subst}
 use native.Mathlib.Nat.{mul-zero}
 use mathlib.Core.List.{◌++◌, flat_map}
 use Prim.Native.Nat.{◌+◌, ◌*◌, ◌<◌}
-use lib.ListN.{get_or, drop}
+use lib.ListN.{get_or, take, drop, length-take}
+use Rattle.std.proofs.lemmas.List.{get_or-take}
 use Rattle.laws.specs.Lists.{rows}
 use Rattle.laws.specs.Ranks.{rank}
 use Rattle.laws.proofs.Ranks.{rank_below}
@@ -15,12 +16,15 @@ use Rattle.answers.proofs.Cheapest.{some_words, row_long, rows_fit, cheapest_som
 use Rattle.answers.proofs.rows.put_told.Goals as goal
 use Rattle.answers.proofs.rows.put_told.Goals.{In-loop-k}
 
--- the row's place is within the costs
-seated : (d : In-loop-k) → get_or d.args.places.now d.loop-k.k 0 ≡ rank (urgency d.args.words.now) d.args.n d.loop-k.k
-seated d = d.requires.column.is _ d.loop-k-test.true
+row : (d : In-loop-k) → d.loop-k.k < d.args.n
+row d = omega (arith, d.loop-k-test.true, length-take d.args.n d.args.places.now)
 
-within : (d : In-loop-k) → get_or d.args.places.now d.loop-k.k 0 < d.args.n
-within d = omega (arith, seated d, rank_below (urgency d.args.words.now) d.args.n d.loop-k.k d.loop-k-test.true)
+-- the row's place is within the costs
+seated : (d : In-loop-k) → get_or (take d.args.n d.args.places.now) d.loop-k.k 0 ≡ rank (urgency d.args.words.now) d.args.n d.loop-k.k
+seated d = get_or-take d.args.n d.args.places.now d.loop-k.k 0 (row d) ∙ d.requires.column.is _ (row d)
+
+within : (d : In-loop-k) → get_or (take d.args.n d.args.places.now) d.loop-k.k 0 < d.args.n
+within d = omega (arith, seated d, rank_below (urgency d.args.words.now) d.args.n d.loop-k.k (row d))
 
 pub overflow_add-m : goal.overflow_add-m
 overflow_add-m c = let f = c.requires.places_within in omega (arith, within (goal.at.overflow_add-m c).In-loop-k, f.few, f.quiet)
@@ -31,19 +35,20 @@ put_row-requires-clause-to_in_bounds c =
 
 pub put_row-requires-clause-x_le_ticks : goal.put_row-requires-clause-x_le_ticks
 put_row-requires-clause-x_le_ticks c =
-    x_within _ _ _ _ c.requires.places_within c.loop-k-test.true _ c.searched_row-s.ensures.in_order_2.cost _ c.searched_row-s.ensures.value
+    let d = (goal.at.put_row-requires-clause-x_le_ticks c).In-loop-k in
+    x_within _ _ _ _ c.requires.places_within (row d) _ c.searched_row-s.ensures.in_order_2.cost _ c.searched_row-s.ensures.value
 
 pub put_row-requires-clause-by_index : goal.put_row-requires-clause-by_index
 put_row-requires-clause-by_index c =
     let d = (goal.at.put_row-requires-clause-by_index c).In-loop-k in
     λ v l.
-    cheapest_some _ _ _ _ c.requires.places_within c.loop-k-test.true _ c.searched_row-s.ensures.in_order_2.cost v
+    cheapest_some _ _ _ _ c.requires.places_within (row d) _ c.searched_row-s.ensures.in_order_2.cost v
     (subst (λ place. Cheapest c.searched_row-s.new.costs c.args.m (c.args.m + place) v) (seated d) l)
 
 pub loop-k-init : goal.loop-k-init
 unfolding rows flat_map
 loop-k-init c =
-    (omega arith, sym (ap (λ j. drop j c.args.out.now) (mul-zero (per_row c.args.told))), refl, c.requires.in_order, refl)
+    (sym (ap (λ j. drop j c.args.out.now) (mul-zero (per_row c.args.told))), refl, c.requires.in_order, refl)
 
 pub loop-k-preserved : goal.loop-k-preserved
 loop-k-preserved c =
@@ -52,15 +57,15 @@ loop-k-preserved c =
     let l = c.loop-k in
     let s = c.args in
     let p = c.requires in
-    let h = c.loop-k-test.true in
-    let told = subst (λ place. RowTold s.told r.result r.new.costs s.m (s.m + place) l.k l.out put.new.out) (seated (goal.at.loop-k-preserved c).In-loop-k) put.ensures in (
-      omega (arith, h),
+    let d = (goal.at.loop-k-preserved c).In-loop-k in
+    let h = row d in
+    let told = subst (λ place. RowTold s.told r.result r.new.costs s.m (s.m + place) l.k l.out put.new.out) (seated d) put.ensures in (
       row_told _ _ _ _ p.places_within h _ r.ensures.in_order_2.cost _ r.ensures.value s.told l.out _ told
           ∙ put_next (per_row s.told) (words_of s.told _) (some_words s.told) (row_long s.told _) (row_stream s.words.now) l.k _ _
-          (omega (arith, rows_fit s.told l.k s.n h, p.n_in_bounds)) l.invariant.1,
-      put.auto.out ∙ l.invariant.2,
+          (omega (arith, rows_fit s.told l.k s.n h, p.n_in_bounds)) l.invariant.0,
+      put.auto.out ∙ l.invariant.1,
       r.ensures.in_order_2,
-      r.auto.costs ∙ l.invariant.4,
+      r.auto.costs ∙ l.invariant.3,
     )
 
 pub returns : goal.returns
@@ -68,6 +73,6 @@ unfolding entered_in
 returns c =
     let s = c.args in
     let l = c.loop-k in
-    let e : l.k ≡ s.n = omega (arith, l.invariant.0, c.loop-k-test.false) in
+    let e : l.k ≡ s.n = omega (arith, length-take s.n s.places.now, c.requires.column.long, c.loop-k-test.false) in
     let p = plan_in s.n s.m s.words.now in
-    l.invariant.1 ∙ ap (λ k. flat_map (words_of s.told p) (rows k (row_stream s.words.now)) ++ drop (per_row s.told * k) s.out.now) e
+    l.invariant.0 ∙ ap (λ k. flat_map (words_of s.told p) (rows k (row_stream s.words.now)) ++ drop (per_row s.told * k) s.out.now) e

@@ -1,7 +1,7 @@
 -- Each turn lays what is told of one row after the words of the rows before.
 use mathlib.Core.Path.{◌≡◌}
 use mathlib.Core.List.{◌++◌, flat_map}
-use Prim.Native.Nat.{◌-◌, ◌*◌, ◌≤◌}
+use Prim.Native.Nat.{◌*◌}
 use lib.ListN.{length, drop}
 use Rattle.laws.specs.Lists.{rows}
 use Rattle.carried.specs.Carried.{plan_in}
@@ -11,8 +11,5 @@ use Rattle.answers.proofs.rows.put_told.Given as goal
 
 abbrev pub invariant-loop-k : goal.invariant-loop-k
 invariant-loop-k l =
-    (l.k ≤ l.n) × (l.out ≡ flat_map (words_of l.told (plan_in l.n l.m l.words)) (rows l.k (row_stream l.words)) ++ drop (per_row l.told * l.k) l.initial.out) × (length l.out ≡ length l.initial.out)
+    (l.out ≡ flat_map (words_of l.told (plan_in l.n l.m l.words)) (rows l.k (row_stream l.words)) ++ drop (per_row l.told * l.k) l.initial.out) × (length l.out ≡ length l.initial.out)
     × InOrder l.words l.n l.m l.n l.costs l.periods l.jitters × (length l.costs ≡ length l.initial.costs)
-
-abbrev pub decreases-loop-k : goal.decreases-loop-k
-decreases-loop-k l = l.n - l.k

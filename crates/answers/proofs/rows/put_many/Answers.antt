@@ -1,6 +1,0 @@
--- The rooms are large enough for all streams.
-use Rattle.answers.proofs.Gather.{places_are}
-use Rattle.answers.proofs.rows.put_many.Goals as goal
-
-pub put_sorted-requires-clause-column : goal.put_sorted-requires-clause-column
-put_sorted-requires-clause-column c = places_are c.args.words.now _ _ _ c.put_priorities.ensures c.put_places.ensures
