@@ -1,5 +1,5 @@
 -- The outcome of a file, by its counts and its words. Assumes nothing.
-use Rattle.file.specs.File.{counted}
+use Rattle.file.specs.File.{counts_said}
 use mathlib.Core.Path.{◌≡◌, refl}
 use mathlib.Core.List.{List}
 use Prim.Native.Nat.{ℕ}
@@ -28,7 +28,7 @@ module _ (bs out : List ℕ) where
       not_counted (λ c s. answer_read c s out) no (λ x n m p. answer_with Answers x n m p out) (λ s. refl) (λ r s. refl) (λ x n m p. outcome.refused_is Answers x n m p out) (outcome.answered_alike Answers out) bs r e
 
   -- whose contents say the edition, n streams and m gaps, by its words
-  pub file_is : (x : Edition) (n m : ℕ) → counts_of bs ≡ counted x n m → {ws : List ℕ} → ws ≡ carried_of bs (replicate layout.largest 0)
+  pub file_is : (x : Edition) (n m : ℕ) → counts_of bs ≡ counts_said x n m → {ws : List ℕ} → ws ≡ carried_of bs (replicate layout.largest 0)
       → answer_file_of bs out ≡ answer_with Answers x n m (entered_in n m ws) out
   unfolding answer_of answer_file_of
   file_is x n m e d =

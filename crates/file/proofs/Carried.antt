@@ -1,5 +1,5 @@
 -- What is done with the plan that was read of a file may be done by its edition, the counts and the words as they stand, without a sheet. Assumes nothing.
-use Rattle.file.specs.File.{read_said, read_sheet, counted}
+use Rattle.file.specs.File.{read_said, read_sheet, counts_said}
 use mathlib.Core.Path.{◌≡◌, refl, sym, ap, ap₂, ◌∙◌}
 use mathlib.Core.List.{List}
 use Prim.Native.Nat.{ℕ}
@@ -30,7 +30,7 @@ module _ {A : Type 0} (read : Checked → Sheet → A) (no : Refusal → A) (by 
   pub not_counted : (bs : List ℕ) (r : Refusal) → counts_of bs ≡ Err r → read (read_said (read_of bs)) (read_sheet (read_of bs)) ≡ no r
   not_counted bs r e = ap (λ f. read (read_said f) (read_sheet f)) (counts_refused bs r e) ∙ not r _
 
-  module _ (bs : List ℕ) (edition : Edition) (n m : ℕ) (e : counts_of bs ≡ counted edition n m) where
+  module _ (bs : List ℕ) (edition : Edition) (n m : ℕ) (e : counts_of bs ≡ counts_said edition n m) where
     abbrev v : Entered
     v = entered_at edition n m bs
 

@@ -1,5 +1,5 @@
 -- The contents' lines are 1 and 2, and those of the values are 3 or more, none of them 6. Assumes nothing.
-use Rattle.file.specs.File.{read_said, counted}
+use Rattle.file.specs.File.{read_said, counts_said}
 use mathlib.Core.Path.{◌≡◌, refl, sym, ap, ◌∙◌, subst}
 use mathlib.Core.List.{List}
 use Prim.Native.Nat.{ℕ, zero, suc, ◌≤◌, ◌<◌}
@@ -54,7 +54,7 @@ module _ (bs : List ℕ) (r : Refusal) where
       let m = sources_in (words_of bs) in
       number_of (λ k. k ≤ 2) (contents_lines x n m bs) r (first_number x n m bs) (as_refused x n m (judge (contents_lines x n m bs)) r e)
 
-  by_values : (x : Edition) (n m : ℕ) → counts_of bs ≡ counted x n m → read_said (read_of bs) ≡ Err r → (3 ≤ r.number) × (r.number ≡ 6 → ⊥)
+  by_values : (x : Edition) (n m : ℕ) → counts_of bs ≡ counts_said x n m → read_said (read_of bs) ≡ Err r → (3 ≤ r.number) × (r.number ≡ 6 → ⊥)
   unfolding read_of
   by_values x n m e d =
       let (x-is, n-is, m-is, fine) = first_fine bs x n m e in

@@ -1,5 +1,5 @@
 -- What the contents say, answer by answer; what reading gives then; what a fine answer says. Assumes nothing.
-use Rattle.file.specs.File.{read_said, counted}
+use Rattle.file.specs.File.{read_said, counts_said}
 use mathlib.Core.Path.{◌≡◌, refl, sym, ap, ap₂, ◌∙◌}
 use mathlib.Core.Bool.{Bool, true, false}
 use mathlib.Core.List.{List, ◌++◌}
@@ -59,7 +59,7 @@ module _ (bs : List ℕ) (edition : Edition) (n m : ℕ) (x : edition_in (words_
   unfolding counts_of
   past_contents two = rw (x, e, d) (ap (λ c. counts_as c edition n m) (passed _ _ (ap unless one) ∙ passed _ _ (ap unless two)))
 
-  pub said_counts : contents_right edition n m bs ≡ true → judge (range_lines edition n m) ≡ Ok tt → counts_of bs ≡ counted edition n m
+  pub said_counts : contents_right edition n m bs ≡ true → judge (range_lines edition n m) ≡ Ok tt → counts_of bs ≡ counts_said edition n m
   said_counts two three = past_contents two ∙ ap (λ c. counts_as c edition n m) three
 
   -- 2, by the ranges, whatever the contents
@@ -81,7 +81,7 @@ pub as_refused : (edition : Edition) (n m : ℕ) (c : Checked) (r : Refusal) →
 as_refused edition n m (Ok _) r e = absurd (let z : ◌≡◌ {A = ℕ} 0 1 = cc in omega arith)
 as_refused edition n m (Err q) r e = cc
 
-as_fine : (edition : Edition) (n m : ℕ) (c : Checked) (x : Edition) (a b : ℕ) → counts_as c edition n m ≡ counted x a b → (c ≡ Ok tt) × (edition ≡ x) × (n ≡ a) × (m ≡ b)
+as_fine : (edition : Edition) (n m : ℕ) (c : Checked) (x : Edition) (a b : ℕ) → counts_as c edition n m ≡ counts_said x a b → (c ≡ Ok tt) × (edition ≡ x) × (n ≡ a) × (m ≡ b)
 as_fine edition n m (Ok _) x a b e =
     let d : ◌≡◌ {A = Counts} (record { edition = edition; n = n; m = m }) (record { edition = x; n = a; m = b }) = cc in
     (refl, ap (λ c. c.edition) d, ap (λ c. c.n) d, ap (λ c. c.m) d)
@@ -104,7 +104,7 @@ right_contents edition n m bs e =
     let (c, d) = both (same (take layout.contents_length (words_of bs)) (contents edition n m)) (eqb (length bs) (layout.size edition n m)) e in
     (same_eq _ _ c, eqb-true (length bs) (layout.size edition n m) d)
 
-module _ (bs : List ℕ) (edition : Edition) (n m : ℕ) (e : counts_of bs ≡ counted edition n m) where
+module _ (bs : List ℕ) (edition : Edition) (n m : ℕ) (e : counts_of bs ≡ counts_said edition n m) where
   -- the edition, n and m are what they say
   pub first_fine : (edition_in (words_of bs) ≡ edition) × (count_in edition (words_of bs) ≡ n) × (sources_in (words_of bs) ≡ m) × (judge (contents_lines edition n m bs) ≡ Ok tt)
   unfolding counts_of

@@ -1,5 +1,6 @@
 -- One plan, one file: bytes and words are each other's inverse, words and plans are too, and what is within the limits fits its words.
 -- Assumes nothing.
+use Rattle.file.specs.File.{ReadPlan}
 use Rattle.std.specs.Prelude.{Result}
 use Rattle.plan.specs.declared.Sheet.{Sheet}
 use Rattle.names.specs.declared.Refusal.{Refusal}
@@ -159,7 +160,7 @@ reads_one_sheet bs e =
 
 -- its file is that of the plan that was read
 pub file_is : (bs : List ℕ) (f : ReadFine bs) → file_read bs ≡ file_of (plan_read bs f)
-file_is bs f = ap (λ (r : Result Sheet Refusal). file_of (plan_of (read_sheet r))) f.read ∙ ap file_of (own_sheet bs f)
+file_is bs f = ap (λ (r : ReadPlan). file_of (plan_of (read_sheet r))) f.read ∙ ap file_of (own_sheet bs f)
 
 -- the answer to the sheet of what was read
 pub sheet_fine : (bs : List ℕ) (f : ReadFine bs) → checked_of (sheet_of (plan_read bs f)) ≡ Ok tt
@@ -177,7 +178,7 @@ writes_what_was_read bs buf e h =
     let n = length p.streams in
     let m = length p.gaps in
     let long : layout.size Three n m ≡ length (file_read bs) = sym (ap length (file_is bs f) ∙ length_file p) in
-    ap (λ (r : Result Sheet Refusal). write_of (read_sheet r) buf) f.read
+    ap (λ (r : ReadPlan). write_of (read_sheet r) buf) f.read
     ∙ write_fine Three n m (plainly q) buf (sheet_fine bs f) (omega arith)
     ∙ ap₂ (λ k (bytes : List ℕ). (Ok k, bytes ++ drop k buf)) long (ap file_of (meant_plainly q ∙ own_sheet bs f) ∙ sym (file_is bs f))
 

@@ -14,7 +14,7 @@ use Rattle.std.specs.Prelude.{Ok, Err}
 use Rattle.judge.specs.Table.{judge}
 use Rattle.checks.specs.Checks.{lines}
 use Rattle.file.specs.File.{contents, file_words, entered_file, file_of, edition_in, lag_in, entered_at, counts_of, read_as, read_of}
-use Rattle.file.specs.File.{read_said, read_sheet, counted, write_with, write_of}
+use Rattle.file.specs.File.{read_said, read_sheet, counts_said, write_with, write_of}
 
 -- the file of any values, of at most 256 streams and 8 gaps, whose words fit 32 bits, is answered as the values are, with the same place
 abbrev pub ReadsAsItsValues : Type 0
@@ -83,7 +83,7 @@ SizesAre =
 -- of the file. A field that its edition has no word for is 0
 abbrev pub PlaceIsOffset : Type 0
 PlaceIsOffset =
-    (bs : List ℕ) (edition : Edition) (n m : ℕ) → counts_of bs ≡ counted edition n m
+    (bs : List ℕ) (edition : Edition) (n m : ℕ) → counts_of bs ≡ counts_said edition n m
     → (i : ℕ) → i < length (fields edition (entered_at edition n m bs))
     → let k = layout.in_bodies edition n i in
     let value = (field_at (fields edition (entered_at edition n m bs)) i).word in

@@ -102,12 +102,12 @@ contents_lines edition n m bs =
     ∷ range_lines edition n m
 
 -- an edition and the counts of n streams and m gaps
-abbrev pub counted : Edition → ℕ → ℕ → Result Counts Refusal
-counted edition n m = Ok (record { edition = edition; n = n; m = m })
+abbrev pub counts_said : Edition → ℕ → ℕ → Result Counts Refusal
+counts_said edition n m = Ok (record { edition = edition; n = n; m = m })
 
 -- an answer with the edition and the counts that it is about
 abbrev pub counts_as : Checked → Edition → ℕ → ℕ → Result Counts Refusal
-counts_as (Ok _) edition n m = counted edition n m
+counts_as (Ok _) edition n m = counts_said edition n m
 counts_as (Err r) edition n m = Err r
 
 -- what the contents of any bytes at all say: the edition, and n and m are what they count
@@ -130,13 +130,17 @@ carried_of bs ws = carried_as (counts_of bs) bs ws
 abbrev pub lines_in : Edition → ℕ → ℕ → List ℕ → List Line
 lines_in edition n m bs = contents_lines edition n m bs ++ value_lines edition (entered_at edition n m bs)
 
+-- a plan's sheet, or why there is none
+abbrev pub ReadPlan : Type 0
+ReadPlan = Result Sheet Refusal
+
 -- an answer with the plan that it is about
-abbrev pub read_as : Checked → Plan → Result Sheet Refusal
+abbrev pub read_as : Checked → Plan → ReadPlan
 read_as (Ok _) p = Ok (sheet_of p)
 read_as (Err r) p = Err r
 
 -- what reading gives for any bytes at all
-unfoldable pub read_of : List ℕ → Result Sheet Refusal
+unfoldable pub read_of : List ℕ → ReadPlan
 read_of bs =
     let edition = edition_in (words_of bs) in
     let n = count_in edition (words_of bs) in
@@ -144,11 +148,11 @@ read_of bs =
     read_as (judge (lines_in edition n m bs)) (plan_at edition n m bs)
 
 -- of what was read: that it is fine or its refusal, and the sheet; a refused file has none, for which one stands on which all is zero
-abbrev pub read_said : Result Sheet Refusal → Checked
+abbrev pub read_said : ReadPlan → Checked
 read_said (Ok s) = Ok tt
 read_said (Err r) = Err r
 
-abbrev pub read_sheet : Result Sheet Refusal → Sheet
+abbrev pub read_sheet : ReadPlan → Sheet
 read_sheet (Ok s) = s
 read_sheet (Err r) = no_sheet
 

@@ -1,5 +1,5 @@
 -- What is proved of a LAG that is added to ETG; the proofs are in proofs/Lag.antt.
-use Rattle.file.specs.File.{read_said, read_sheet, counted}
+use Rattle.file.specs.File.{read_said, read_sheet, counts_said}
 use Rattle.std.specs.Prelude.{◌≡◌, List, ℕ, ◌+◌, ◌≤◌, ◌<◌}
 use Rattle.names.specs.Limits.{constant}
 use Rattle.std.specs.Prelude.{Ok, Err}
@@ -19,7 +19,7 @@ SameAnswers = (v : Entered) → answers (meant v) ≡ answers₀₅ v
 -- .. so of a file, in whatever edition, that is not refused: its plan has the answers that the older rule gives on the words as they stand
 abbrev pub SameOfFile : Type 0
 SameOfFile =
-    (bs : List ℕ) (edition : Edition) (n m : ℕ) → counts_of bs ≡ counted edition n m → read_said (read_of bs) ≡ Ok tt
+    (bs : List ℕ) (edition : Edition) (n m : ℕ) → counts_of bs ≡ counts_said edition n m → read_said (read_of bs) ≡ Ok tt
     → answers (plan_of (read_sheet (read_of bs))) ≡ answers₀₅ (entered_at edition n m bs)
 
 -- nor does a refusal, where ETG + LAG is at most 65,535, ..

@@ -1,4 +1,5 @@
 -- What was read is written: by what reading says and by the room that is lent; and what the file that is written means. Assumes nothing.
+use Rattle.file.specs.File.{ReadPlan}
 use Rattle.std.specs.Prelude.{Result}
 use Rattle.plan.specs.declared.Sheet.{Sheet}
 use Rattle.names.specs.declared.Refusal.{Refusal}
@@ -39,7 +40,7 @@ module _ (bs buf : List ℕ) where
         let f = fine_read bs fine in
         let p = plan_read bs f in
         written
-        ∙ ap (λ (r : Result Sheet Refusal). write_of (read_sheet r) buf) f.read
+        ∙ ap (λ (r : ReadPlan). write_of (read_sheet r) buf) f.read
         ∙ write_no_room Three (length p.streams) (length p.gaps) (plainly (plan_of (sheet_of p))) buf (sheet_fine bs f) (omega (arith, ap length (file_is bs f) ∙ length_file p))
 
     -- .. and with it

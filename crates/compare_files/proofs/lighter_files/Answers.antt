@@ -1,9 +1,9 @@
 -- The claims of SaysLighterOfFiles are those of the answer that the table gives. Assumes nothing.
+use Rattle.file.specs.File.{ReadPlan}
 use mathlib.Core.Path.{◌≡◌, refl, ap₂, ◌∙◌}
 use mathlib.Core.List.{List}
 use Prim.Native.Nat.{ℕ}
 use Rattle.std.specs.Prelude.{Result, Ok, Err}
-use Rattle.names.specs.declared.Refusal.{Refusal}
 use Rattle.plan.specs.declared.Sheet.{Sheet}
 use Rattle.plan.specs.Plan.{plan_of}
 use Rattle.compare.specs.declared.Compared.{Compared}
@@ -17,7 +17,7 @@ as_said : (old new : List ℕ) (r : Compared) → r ≡ compared_files old new �
 as_said old new r e = rw e (said_of_files old new)
 
 -- the answer to two readings
-of_readings : (a b : Result Sheet Refusal)
+of_readings : (a b : ReadPlan)
     → compared_with a b ≡ compared_as (read_said a) (read_said b) (changes (plan_of (read_sheet a)) (plan_of (read_sheet b)))
 of_readings (Err r) b = refl
 of_readings (Ok s) (Err r) = refl

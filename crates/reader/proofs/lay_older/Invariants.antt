@@ -10,5 +10,5 @@ invariant-loop-k l =
     record {
       count : l.count ≡ layout.gap_at l.counts.n l.counts.m;
       length : length l.word-items ≡ l.count;
-      laid : l.word-items ≡ take l.k (entered_words (entered_at l.counts.edition l.counts.n l.counts.m l.bytes)) ++ drop l.k (take l.count l.fn.words)
+      laid : l.word-items ≡ take l.k (entered_words (entered_at l.counts.edition l.counts.n l.counts.m l.bytes)) ++ drop l.k (take l.count l.fn.words);
     }

@@ -1,5 +1,5 @@
 -- A file whose contents are refused is refused, and else its words are written. Assumes nothing.
-use Rattle.file.specs.File.{counted}
+use Rattle.file.specs.File.{counts_said}
 use mathlib.Core.Path.{◌≡◌, refl, sym, ap, ◌∙◌}
 use mathlib.Core.List.{List}
 use Prim.Native.Nat.{ℕ}
@@ -24,7 +24,7 @@ module _ (bytes buf : List ℕ) where
   unfolding rewrite_of write_of
   not_read r e = not_counted (λ c s. rewrite_as c s buf) no (λ x n m p. write_with x n m p buf) (λ s. refl) (λ r s. refl) (λ x n m p. write_refused x n m p buf) (written_alike buf) bytes r e
 
-  read : (x : Edition) (n m : ℕ) → counts_of bytes ≡ counted x n m → {ws : List ℕ} → ws ≡ carried_of bytes (replicate layout.largest 0)
+  read : (x : Edition) (n m : ℕ) → counts_of bytes ≡ counts_said x n m → {ws : List ℕ} → ws ≡ carried_of bytes (replicate layout.largest 0)
       → rewrite_of bytes buf ≡ write_with x n m (entered_in n m ws) buf
   unfolding rewrite_of write_of
   read x n m e d = by_words (λ c s. rewrite_as c s buf) no (λ x n m p. write_with x n m p buf) (λ s. refl) (λ r s. refl) (λ x n m p. write_refused x n m p buf) (written_alike buf) bytes x n m e d
