@@ -11,6 +11,12 @@ use contract.Monad.{Fun, fact_mono}
 use denote.Triple.Walked.{needs}
 use Rattle.laws.specs.Determined.{OneOutcome}
 use Rattle.screen.specs.Determined.{OneOutcomeByHand}
+use Rattle.outside.proofs.SaidFromResultU64Refusal.from.Kinds as said-kinds
+use Rattle.outside.proofs.SaidFromResultU64Refusal.from.Reads as said
+use Rattle.outside.proofs.WeighedFromReason.from.Kinds as reason-kinds
+use Rattle.outside.proofs.WeighedFromReason.from.Reads as reason
+use Rattle.outside.proofs.WeighedFromCompared.from.Kinds as compared-kinds
+use Rattle.outside.proofs.WeighedFromCompared.from.Reads as compared
 use Rattle.outside.proofs.livnakesh_answers.Kinds as answers-kinds
 use Rattle.outside.proofs.livnakesh_answers.Reads as answers
 use Rattle.outside.proofs.livnakesh_rewrite.Kinds as rewrite-kinds
@@ -26,6 +32,15 @@ use Rattle.outside.proofs.livnakesh_start.Kinds as start-kinds
 use Rattle.outside.proofs.livnakesh_start.Reads as start
 use Rattle.outside.proofs.livnakesh_step.Kinds as step-kinds
 use Rattle.outside.proofs.livnakesh_step.Reads as step
+
+pub said_from_one : OneOutcome 0 said-kinds.ps said-kinds.r said.Post
+said_from_one κs a x y ws us p q = (p ∙ sym q, refl)
+
+pub weighed_from_reason_one : OneOutcome 0 reason-kinds.ps reason-kinds.r reason.Post
+weighed_from_reason_one κs a x y ws us p q = (p ∙ sym q, refl)
+
+pub weighed_from_compared_one : OneOutcome 0 compared-kinds.ps compared-kinds.r compared.Post
+weighed_from_compared_one κs a x y ws us p q = (p ∙ sym q, refl)
 
 pub livnakesh_answers_one : OneOutcome 2 answers-kinds.ps answers-kinds.r answers.Post
 livnakesh_answers_one κs a x y ws us p q = (p.0 ∙ sym q.0, ap (λ (l : List ℕ). (tt, (l, tt))) (p.1 ∙ sym q.1))

@@ -28,7 +28,7 @@ use tournament::{parting_bit, start, step};
 use tournament_state::Phase;
 use writer::write_words;
 
-// 0 and what was asked for, or the number of a refusal and its place.
+// C has no results or options, so these three are numbers. 0 and what was asked for, or the number of a refusal and its place.
 #[repr(C)]
 #[derive(Clone, Copy)]
 pub struct Said {
@@ -147,20 +147,22 @@ fn constant_at(constant: Constant) -> u64
     }
 }
 
-fn again(reason: Reason) -> Weighed
-    ensures { result ≡ number.again reason }
-{
-    match reason {
-        Reason::MasterNode => broken(9, 0),
-        Reason::GreaterConstant(k) => broken(1, constant_at(k)),
-        Reason::NewLabel(l) => by_label(2, l),
-        Reason::ShorterPeriod(l) => by_label(3, l),
-        Reason::LongerJitter(l) => by_label(4, l),
-        Reason::LongerPayload(l) => by_label(5, l),
-        Reason::ShorterDeadline(l) => by_label(6, l),
-        Reason::LongerAcknowledgement(l) => by_label(10, l),
-        Reason::LessUrgent(l) => by_label(7, l),
-        Reason::MoreNoise(x) => broken(8, u64::from(x)),
+impl From<Reason> for Weighed {
+    ghost from_gives = { λ reason weighed. weighed ≡ number.again reason };
+
+    fn from(reason: Reason) -> Weighed {
+        match reason {
+            Reason::MasterNode => broken(9, 0),
+            Reason::GreaterConstant(c) => broken(1, constant_at(c)),
+            Reason::NewLabel(l) => by_label(2, l),
+            Reason::ShorterPeriod(l) => by_label(3, l),
+            Reason::LongerJitter(l) => by_label(4, l),
+            Reason::LongerPayload(l) => by_label(5, l),
+            Reason::ShorterDeadline(l) => by_label(6, l),
+            Reason::LongerAcknowledgement(l) => by_label(10, l),
+            Reason::LessUrgent(l) => by_label(7, l),
+            Reason::MoreNoise(x) => broken(8, u64::from(x)),
+        }
     }
 }
 
@@ -174,20 +176,28 @@ fn not_weighed(which: u64, r: Refusal) -> Weighed
     }
 }
 
+impl From<Compared> for Weighed {
+    ghost from_gives = { λ compared weighed. weighed ≡ number.weighed compared };
+
+    fn from(compared: Compared) -> Weighed {
+        match compared {
+            Compared::Lighter => Weighed {
+                answer: 0,
+                number: 0,
+                value: 0,
+            },
+            Compared::FirstRefused(r) => not_weighed(1, r),
+            Compared::SecondRefused(r) => not_weighed(2, r),
+            Compared::RunAgain(reason) => Weighed::from(reason),
+        }
+    }
+}
+
 // Whether the plan in the second file is lighter.
 pub fn livnakesh_lighter(old: &[u8], new: &[u8]) -> Weighed
     ensures { result ≡ number.weighed (compared_files old.now new.now) }
 {
-    match lighter_files(old, new) {
-        Compared::Lighter => Weighed {
-            answer: 0,
-            number: 0,
-            value: 0,
-        },
-        Compared::FirstRefused(r) => not_weighed(1, r),
-        Compared::SecondRefused(r) => not_weighed(2, r),
-        Compared::RunAgain(reason) => again(reason),
-    }
+    Weighed::from(lighter_files(old, new))
 }
 
 fn at_phase(refusal: u64, place: u64, phase: Phase) -> Stepped
