@@ -1,7 +1,7 @@
 -- Each line begins with a letter of its own, and has at most two numbers of ten digits, or a refusal. Assumes nothing.
 use mathlib.Core.Path.{◌≡◌, refl, ap}
 use mathlib.Core.List.{List, ◌++◌}
-use Prim.Native.Nat.{ℕ, zero, suc, ◌+◌, ◌/◌, ◌%◌, ◌≤◌}
+use Prim.Native.Nat.{ℕ, ◌+◌, ◌/◌, ◌%◌, ◌≤◌}
 use native.Mathlib.Omega.{arith}
 use lib.ListN.{length, get_or, length-append}
 use Rattle.names.specs.Limits.{ticks}
@@ -10,6 +10,8 @@ use Rattle.ascii.specs.Ascii.{ascii}
 use Rattle.decimal.proofs.Decimal.{few_digits}
 use Rattle.text.specs.Listing.{label_text}
 use Rattle.text.proofs.Size.{largest_refusal}
+use Rattle.compare.specs.declared.Constant.{Constant}
+use Rattle.compare.specs.declared.Constant.TheVariants.{F, E, Tfcs, Swx, H, G, Etg, Nb, P}
 use Rattle.compare.specs.declared.Reason.{Reason}
 use Rattle.compare.specs.declared.Reason.TheVariants.{
   MasterNode,
@@ -60,18 +62,16 @@ stream_size l words h =
       few_digits 5 (l.0 % 65536) (omega arith) (omega arith),
     ))
 
-constant_size : (k : ℕ) → length (constant_name k) ≤ 4
-unfolding constant_name
-constant_size zero = omega arith
-constant_size (suc zero) = omega arith
-constant_size (suc (suc zero)) = omega arith
-constant_size (suc (suc (suc zero))) = omega arith
-constant_size (suc (suc (suc (suc zero)))) = omega arith
-constant_size (suc (suc (suc (suc (suc zero))))) = omega arith
-constant_size (suc (suc (suc (suc (suc (suc zero)))))) = omega arith
-constant_size (suc (suc (suc (suc (suc (suc (suc zero))))))) = omega arith
-constant_size (suc (suc (suc (suc (suc (suc (suc (suc zero)))))))) = omega arith
-constant_size (suc (suc (suc (suc (suc (suc (suc (suc (suc k))))))))) = omega arith
+constant_size : (k : Constant) → length (constant_name k) ≤ 4
+constant_size F = omega arith
+constant_size E = omega arith
+constant_size Tfcs = omega arith
+constant_size Swx = omega arith
+constant_size H = omega arith
+constant_size G = omega arith
+constant_size Etg = omega arith
+constant_size Nb = omega arith
+constant_size P = omega arith
 
 reason_size : (why : Reason) → named why ≤ ticks → length (reason_text why) ≤ 52
 unfolding reason_text greater_text noise_text

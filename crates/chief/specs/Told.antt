@@ -1,29 +1,35 @@
 -- The one line that the rig chief is told of two plan files, byte by byte.
-use Rattle.std.specs.Prelude.{◌≡◌, List, [], ◌∷◌, ◌++◌, ◌↔◌, ℕ, ◌^◌, ◌≤◌, ◌<◌, get_or, length}
+use Rattle.std.specs.Prelude.{◌≡◌, List, ◌++◌, ◌↔◌, ℕ, ◌^◌, ◌≤◌, ◌<◌, length}
 use Rattle.names.specs.Limits.{ticks}
 use Rattle.std.specs.Prelude.{Ok}
 use Rattle.promise.specs.Lighter.{Lighter}
+use Rattle.compare.specs.declared.Constant.{Constant, TheVariants.F, TheVariants.E, TheVariants.Tfcs, TheVariants.Swx, TheVariants.H}
+use Rattle.compare.specs.declared.Constant.TheVariants.{G, Etg, Nb, P}
 use Rattle.compare.specs.declared.Reason.{Reason}
 use Rattle.compare.specs.declared.Reason.TheVariants.{MasterNode, GreaterConstant, NewLabel, ShorterPeriod, LongerJitter}
 use Rattle.compare.specs.declared.Reason.TheVariants.{LongerPayload, ShorterDeadline, LongerAcknowledgement, LessUrgent, MoreNoise}
 use Rattle.compare.specs.declared.Compared.{Compared}
 use Rattle.compare.specs.declared.Compared.TheVariants.{FirstRefused, SecondRefused, Lighter as Compared-as-Lighter, RunAgain}
-use Rattle.file.specs.File.{read_of}
+use Rattle.file.specs.File.{read_of, read_said}
 use Rattle.compare_files.specs.Files.{compared_files, plan_from}
 use Rattle.decimal.specs.Decimal.{digits}
 use Rattle.ascii.specs.Ascii.{ascii}
 use Rattle.text.specs.Listing.{label_text, refused_of}
 
--- the timing constants of a plan, P the last
-abbrev pub constant_names : List (List ℕ)
-constant_names =
-    ascii "F" ∷ ascii "E" ∷ ascii "TFCS" ∷ ascii "SWX" ∷ ascii "H" ∷ ascii "G" ∷ ascii "ETG" ∷ ascii "NB" ∷ []
-
-unfoldable pub constant_name : ℕ → List ℕ
-constant_name k = get_or constant_names k (ascii "P")
+-- the name of a timing constant
+abbrev pub constant_name : Constant → List ℕ
+constant_name F = ascii "F"
+constant_name E = ascii "E"
+constant_name Tfcs = ascii "TFCS"
+constant_name Swx = ascii "SWX"
+constant_name H = ascii "H"
+constant_name G = ascii "G"
+constant_name Etg = ascii "ETG"
+constant_name Nb = ascii "NB"
+constant_name P = ascii "P"
 
 -- a timing constant is greater
-unfoldable pub greater_text : ℕ → List ℕ
+unfoldable pub greater_text : Constant → List ℕ
 greater_text k = constant_name k ++ ascii " is greater"
 
 -- a source has come nearer, or one has come on
@@ -63,7 +69,7 @@ told_of old new = told_as (compared_files old new)
 abbrev pub ToldLighter : Type 0
 ToldLighter =
     (old new : List ℕ) → (told_of old new ≡ ascii "lighter\n")
-    ↔ (((read_of old).answer ≡ Ok tt) × ((read_of new).answer ≡ Ok tt) × Lighter (plan_from old) (plan_from new))
+    ↔ ((read_said (read_of old) ≡ Ok tt) × (read_said (read_of new) ≡ Ok tt) × Lighter (plan_from old) (plan_from new))
 
 -- the label or the gap that a reason names
 abbrev pub named : Reason → ℕ

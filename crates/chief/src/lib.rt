@@ -9,32 +9,31 @@ ghost use Rattle.text.specs.Put.{Lays, Puts};
 ghost use Rattle.text.specs.Listing.{label_text, refused_of};
 ghost use Rattle.chief.specs.Told as told;
 
-use compare::{Compared, Reason};
+use compare::{Compared, Constant, Reason};
 use compare_files::lighter_files;
 use names::{Label, Refusal};
-use text::{lay_label, lay_number, lay_refusal, lay_text};
+use text::{lay_label, lay_number, lay_refusal, lay_text, put};
 
-// The name of timing constant k, counted from 0; P comes last.
-fn lay_constant(out: &mut [u8], at: usize, k: usize) -> usize
-    ensures { Lays out.old at (told.constant_name k) result out.new }
+fn lay_constant(out: &mut [u8], at: usize, constant: Constant) -> usize
+    ensures { Lays out.old at (told.constant_name constant) result out.new }
 {
-    match k {
-        0 => lay_text(out, at, b"F"),
-        1 => lay_text(out, at, b"E"),
-        2 => lay_text(out, at, b"TFCS"),
-        3 => lay_text(out, at, b"SWX"),
-        4 => lay_text(out, at, b"H"),
-        5 => lay_text(out, at, b"G"),
-        6 => lay_text(out, at, b"ETG"),
-        7 => lay_text(out, at, b"NB"),
-        _ => lay_text(out, at, b"P"),
+    match constant {
+        Constant::F => lay_text(out, at, b"F"),
+        Constant::E => lay_text(out, at, b"E"),
+        Constant::Tfcs => lay_text(out, at, b"TFCS"),
+        Constant::Swx => lay_text(out, at, b"SWX"),
+        Constant::H => lay_text(out, at, b"H"),
+        Constant::G => lay_text(out, at, b"G"),
+        Constant::Etg => lay_text(out, at, b"ETG"),
+        Constant::Nb => lay_text(out, at, b"NB"),
+        Constant::P => lay_text(out, at, b"P"),
     }
 }
 
-fn lay_greater(out: &mut [u8], at: usize, k: usize) -> usize
-    ensures { Lays out.old at (told.greater_text k) result out.new }
+fn lay_greater(out: &mut [u8], at: usize, constant: Constant) -> usize
+    ensures { Lays out.old at (told.greater_text constant) result out.new }
 {
-    let at = lay_constant(out, at, k);
+    let at = lay_constant(out, at, constant);
     lay_text(out, at, b" is greater")
 }
 
@@ -62,7 +61,7 @@ fn lay_reason(out: &mut [u8], at: usize, why: Reason) -> usize
             at,
             b"one plan has a master node and the other has none",
         ),
-        Reason::GreaterConstant(k) => lay_greater(out, at, k),
+        Reason::GreaterConstant(constant) => lay_greater(out, at, constant),
         Reason::NewLabel(l) => lay_stream(out, at, l, b" is not in the first plan"),
         Reason::ShorterPeriod(l) => lay_stream(out, at, l, b" has a shorter period"),
         Reason::LongerJitter(l) => lay_stream(out, at, l, b" has a longer jitter"),
@@ -115,10 +114,5 @@ pub fn told(old: &[u8], new: &[u8], out: &mut [u8]) -> Option<usize>
     ensures { Puts out.old 0 (told.told_of old.now new.now) result out.new }
 {
     let said = lighter_files(old, new);
-    let size = out.len();
-    let bytes = lay_told(out, size, said) - size;
-    if size < bytes {
-        return None;
-    }
-    Some(lay_told(out, 0, said))
+    put(out, |out, at| lay_told(out, at, said))
 }

@@ -16,7 +16,7 @@ use Rattle.carried.specs.Layout as layout
 use Rattle.std.specs.Prelude.{Some, None, Result, Ok, Err}
 use Rattle.judge.specs.Table.{Checked}
 use Rattle.names.specs.declared.Refusal.{Refusal}
-use Rattle.file.specs.File.{file_of, edition_in, lag_in, size_right, read_of}
+use Rattle.file.specs.File.{file_of, edition_in, lag_in, size_right, read_of, read_said, read_sheet}
 use Rattle.file.proofs.Exactly.{refused_number}
 use Rattle.file.proofs.Reading.{said_size, counts_refused, fine_read}
 use Rattle.file.proofs.RoundTrip.{plan_read, right_read, length_file, file_is, means_the_same, same_bytes}
@@ -30,9 +30,9 @@ use Rattle.desk.specs.Desk.{file_as, shown_file, SameFile, SameMeaning, FileFits
 
 -- ---- what rewriting hands back, and what is then shown
 module _ (bs buf : List ℕ) where
-  file_shown : (c : Checked) → (read_of bs).answer ≡ c → shown_file bs ≡ file_as c (plan_of (read_of bs).sheet)
+  file_shown : (c : Checked) → read_said (read_of bs) ≡ c → shown_file bs ≡ file_as c (plan_of (read_sheet (read_of bs)))
   unfolding shown_file
-  file_shown c e = ap (λ a. file_as a (plan_of (read_of bs).sheet)) e
+  file_shown c e = ap (λ a. file_as a (plan_of (read_sheet (read_of bs)))) e
 
   -- bytes that were written are the file, 6 is that it has no room, and any other refusal is that of reading
   abbrev pub Shows : Result ℕ Refusal × List ℕ → Type 0
@@ -40,11 +40,11 @@ module _ (bs buf : List ℕ) where
   Shows (Err r, after) =
       (r.number ≡ 6 → Puts buf 0 (shown_file bs) None after) × ((r.number ≡ 6 → ⊥) → (shown_file bs ≡ refused_of r) × (after ≡ buf))
 
-  by_answer : (c : Checked) → (read_of bs).answer ≡ c → Shows (rewrite_of bs buf)
+  by_answer : (c : Checked) → read_said (read_of bs) ≡ c → Shows (rewrite_of bs buf)
   by_answer (Err r) e =
       rw (rewrite_refused bs buf r e) (λ six. absurd (refused_number bs r e six), λ other. (file_shown (Err r) e, refl))
   by_answer (Ok _) e =
-      let file = file_of (plan_of (read_of bs).sheet) in
+      let file = file_of (plan_of (read_sheet (read_of bs))) in
       let s = ap (put buf 0) (file_shown (Ok tt) e) in
       elim (dec_le (length file) (length buf)) [
         | yes h ↦ let p = sym (s ∙ all_put file buf h) in rw (rewrite_fine bs buf e h) (ap (λ x. x.0) p, ap (λ x. x.1) p)
@@ -55,7 +55,7 @@ module _ (bs buf : List ℕ) where
       ]
 
   pub shows : (w : Result ℕ Refusal) → (rewrite_of bs buf).0 ≡ w → Shows (w, (rewrite_of bs buf).1)
-  shows w e = subst (λ v. Shows (v, (rewrite_of bs buf).1)) e (by_answer (read_of bs).answer refl)
+  shows w e = subst (λ v. Shows (v, (rewrite_of bs buf).1)) e (by_answer (read_said (read_of bs)) refl)
 
 -- ---- the file again
 pub same_file : SameFile
@@ -80,4 +80,4 @@ pub line_is_no_plan : LineIsNoPlan
 line_is_no_plan r n p =
     let short : length (refused_of r) ≤ 43 = largest_refusal r n p in
     let wrong : size_right (refused_of r) ≡ false = simp (lt-leb (layout.word * layout.contents_length) (length (refused_of r)) (omega arith)) in
-    ap (λ f. f.answer) (counts_refused (refused_of r) _ (said_size (refused_of r) wrong))
+    ap read_said (counts_refused (refused_of r) _ (said_size (refused_of r) wrong))

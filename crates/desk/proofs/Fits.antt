@@ -11,6 +11,10 @@ use Rattle.plan.specs.Plan.{Plan, plan_of, blank}
 use Rattle.plan.specs.Rules.{row_answer, answers}
 use Rattle.plan.proofs.Rules.{row_within}
 use Rattle.checks.specs.Checks.{Right}
+use Rattle.std.specs.Prelude.{Result}
+use Rattle.names.specs.declared.Refusal.{Refusal}
+use Rattle.plan.specs.declared.Sheet.{Sheet}
+use Rattle.file.specs.File.{read_said, read_sheet}
 use Rattle.file.proofs.Reading.{fine_read}
 use Rattle.file.proofs.RoundTrip.{plan_read, right_read, own_sheet}
 use Rattle.text.specs.Claims.{Printed, Listed}
@@ -60,6 +64,6 @@ listing_fits bs buffer e h =
     let f = fine_read bs e in
     let p = plan_read bs f in
     let right = right_read bs f in
-    let shows : shown bs ≡ listing_of p (answers p) = ap (λ r. shown_as r.answer (plan_of r.sheet)) f.read ∙ ap (λ q. listing_of q (answers q)) (own_sheet bs f) in
+    let shows : shown bs ≡ listing_of p (answers p) = ap (λ (r : Result Sheet Refusal). shown_as (read_said r) (plan_of (read_sheet r))) f.read ∙ ap (λ q. listing_of q (answers q)) (own_sheet bs f) in
     let size = largest_listing 10 p (answers p) (omega arith) (listed f.n f.m p right) in
     rw shows (ap (λ x. x.0) (all_put (listing_of p (answers p)) buffer (omega arith)))

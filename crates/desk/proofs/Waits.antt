@@ -4,13 +4,15 @@ use mathlib.Core.List.{List, map}
 use Prim.Native.Nat.{ℕ, ◌+◌, ◌^◌, ◌≤◌, ◌<◌}
 use native.Mathlib.Omega.{arith}
 use lib.ListN.{length, get_or, length-map}
-use Rattle.std.specs.Prelude.{Ok}
+use Rattle.std.specs.Prelude.{Result, Ok}
 use Rattle.names.specs.Limits.{ticks}
 use Rattle.plan.specs.Plan.{Plan, plan_of, blank, at}
 use Rattle.plan.specs.Evaluations.{row_wait, waits}
 use Rattle.plan.proofs.Evaluations.{row_evaluations_within, row_wait_within}
 use Rattle.checks.specs.Checks.{Right}
-use Rattle.file.specs.File.{read_of}
+use Rattle.file.specs.File.{read_of, read_said, read_sheet}
+use Rattle.plan.specs.declared.Sheet.{Sheet}
+use Rattle.names.specs.declared.Refusal.{Refusal}
 use Rattle.file.proofs.Reading.{fine_read}
 use Rattle.file.proofs.RoundTrip.{plan_read, right_read, own_sheet}
 use Rattle.text.proofs.Laying.{all_put}
@@ -40,21 +42,21 @@ module _ (n m : ℕ) (p : Plan) (r : Right n m p) where
   printed = record { count = r.within.count; label = r.label; evaluations = small_number; limit = small_limit }
 
 -- the plan of a file's sheet is the one that was read
-module _ (bs : List ℕ) (e : (read_of bs).answer ≡ Ok tt) where
+module _ (bs : List ℕ) (e : read_said (read_of bs) ≡ Ok tt) where
   abbrev p : Plan
   p = plan_read bs (fine_read bs e)
 
   right : Right (fine_read bs e).n (fine_read bs e).m p
   right = right_read bs (fine_read bs e)
 
-  same : plan_of (read_of bs).sheet ≡ p
-  same = ap (λ r. plan_of r.sheet) (fine_read bs e).read ∙ own_sheet bs (fine_read bs e)
+  same : plan_of (read_sheet (read_of bs)) ≡ p
+  same = ap (λ (r : Result Sheet Refusal). plan_of (read_sheet r)) (fine_read bs e).read ∙ own_sheet bs (fine_read bs e)
 
 pub waits_fit : WaitsFit
 unfolding shown_waits
 waits_fit bs buffer e h =
     let q = p bs e in
-    let shows : shown_waits bs ≡ lines_of q (waits q) = ap (λ k. waits_as k (plan_of (read_of bs).sheet)) e ∙ ap (λ z. lines_of z (waits z)) (same bs e) in
+    let shows : shown_waits bs ≡ lines_of q (waits q) = ap (λ k. waits_as k (plan_of (read_sheet (read_of bs)))) e ∙ ap (λ z. lines_of z (waits z)) (same bs e) in
     let size = largest_lines q (waits q) (printed _ _ q (right bs e)) in
     rw shows (ap (λ x. x.0) (all_put (lines_of q (waits q)) buffer (omega arith)))
 

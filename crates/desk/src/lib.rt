@@ -18,7 +18,7 @@ use names::STREAMS;
 use reader::read;
 use rewriter::rewrite;
 use row_words::{WORDS_PER_ROW, WORDS_PER_WAIT};
-use text::{lay_text, listing, refused};
+use text::{lay_text, listing, put, refused};
 use wait_lines::waits;
 
 // The number of the refusal that a file is written by where its bytes have no room.
@@ -55,14 +55,12 @@ pub fn listing_buffer() -> [u8; LISTED]
 pub fn show(bytes: &[u8], out: &mut [u8]) -> Option<usize>
     ensures { Puts out.old 0 (shown bytes.now) result out.new }
 {
-    let found = read(bytes);
-    let answer = found.answer;
-    let sheet = found.sheet;
-    match answer {
+    match read(bytes) {
         Err(r) => refused(r, out),
-        Ok(()) => {
+        Ok(sheet) => {
             let mut answers = [0; WORDS_PER_ROW * STREAMS];
-            answer_values(Told::Answers, sheet, &mut answers);
+            // A plan that is read is fine, so it is answered.
+            let _ = answer_values(Told::Answers, sheet, &mut answers);
             listing(sheet, &answers, out)
         }
     }
@@ -72,14 +70,11 @@ pub fn show(bytes: &[u8], out: &mut [u8]) -> Option<usize>
 pub fn show_waits(bytes: &[u8], out: &mut [u8]) -> Option<usize>
     ensures { Puts out.old 0 (shown_waits bytes.now) result out.new }
 {
-    let found = read(bytes);
-    let answer = found.answer;
-    let sheet = found.sheet;
-    match answer {
+    match read(bytes) {
         Err(r) => refused(r, out),
-        Ok(()) => {
+        Ok(sheet) => {
             let mut words = [0; WORDS_PER_WAIT * STREAMS];
-            answer_values(Told::Waits, sheet, &mut words);
+            let _ = answer_values(Told::Waits, sheet, &mut words);
             waits(sheet, &words, out)
         }
     }
@@ -88,22 +83,16 @@ pub fn show_waits(bytes: &[u8], out: &mut [u8]) -> Option<usize>
 fn fine(out: &mut [u8]) -> Option<usize>
     ensures { Puts out.old 0 (ascii "fine\n") result out.new }
 {
-    let text = b"fine\n";
-    if out.len() < text.len() {
-        return None;
-    }
-    Some(lay_text(out, 0, text))
+    put(out, |out, at| lay_text(out, at, b"fine\n"))
 }
 
 // Whether a file is fine, at the start of the buffer.
 pub fn show_refusal(bytes: &[u8], out: &mut [u8]) -> Option<usize>
     ensures { Puts out.old 0 (shown_refusal bytes.now) result out.new }
 {
-    let found = read(bytes);
-    let answer = found.answer;
-    match answer {
+    match read(bytes) {
         Err(r) => refused(r, out),
-        Ok(()) => fine(out),
+        Ok(_) => fine(out),
     }
 }
 

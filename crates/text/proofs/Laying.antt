@@ -12,7 +12,7 @@ use lib.ListN.{length, get_or, set, take, drop, length-append, length-take, take
 use lib.Seq.{sets, sets-eq, set_out, length-sets, take-suc, take-length, take_all}
 use Rattle.decimal.specs.Decimal.{digit, digits}
 use Rattle.decimal.proofs.Decimal.{digits_one, digits_more}
-use Rattle.std.specs.Prelude.{Some, None}
+use Rattle.std.specs.Prelude.{Option, Some, None}
 use Rattle.text.specs.Put.{last_place, laid, Lays, put, Puts}
 use Rattle.text.specs.Claims.{LaidInTurn, LaidWhole}
 
@@ -156,6 +156,10 @@ module _ {e b t : List ℕ} {j : ℕ} (i : ℕ) (short : 2 * length e < last_pla
       let f = le-leb (i + length t) (length e) g in
       let m : k ≡ i + length t = omega (arith, q.place) in
       (rw f (ap Some m), q.bytes ∙ ap (λ l. laid l i t) kept ∙ laid_whole e i t g)
+
+-- the same text under another name, put
+pub put_as : (buffer : List ℕ) (i : ℕ) {s t after : List ℕ} {r : Option ℕ} → s ≡ t → Puts buffer i s r after → Puts buffer i t r after
+put_as buffer i e p = (p.0 ∙ ap (λ t. (put buffer i t).0) e, p.1 ∙ ap (λ t. (put buffer i t).1) e)
 
 -- ---- a text at the start of a buffer: there is room for it, or not
 pub all_put : (text buffer : List ℕ) → length text ≤ length buffer → put buffer 0 text ≡ (Some (length text), text ++ drop (length text) buffer)

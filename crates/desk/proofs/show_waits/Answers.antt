@@ -1,16 +1,12 @@
 -- A refused file is shown as its refusal, and what was read as the lines of its rows' waits.
-use mathlib.Core.Path.{sym, ap, ◌∙◌}
-use Rattle.text.specs.Put.{put}
-use Rattle.desk.proofs.Shown.{waits_are, waits_shown}
+use mathlib.Core.Path.{sym, ◌∙◌}
+use Rattle.text.proofs.Laying.{put_as}
+use Rattle.desk.proofs.Shown.{not_waited, waits_shown}
 use Rattle.desk.proofs.show_waits.Goals as goal
 
-pub returns-in-Refused : goal.returns-in-Refused
-returns-in-Refused c =
-    let e = sym (waits_are c.args.bytes.now c.read-found.result c.read-found.ensures _ c.in-Refused.is) in
-    (c.refused.ensures.0 ∙ ap (λ t. (put c.args.out.now 0 t).0) e, c.refused.ensures.1 ∙ ap (λ t. (put c.args.out.now 0 t).1) e)
+pub returns-in-Err : goal.returns-in-Err
+returns-in-Err c = put_as c.args.out.now 0 (not_waited _ _ (sym c.read.ensures ∙ c.in-Err.is)) c.refused.ensures
 
-pub returns-in-Fine : goal.returns-in-Fine
-returns-in-Fine c =
-    let e = waits_shown c.args.bytes.now c.read-found.result c.read-found.ensures _ c.in-Fine.is c.answer_values.ensures.out_after
-    ∙ sym (waits_are c.args.bytes.now c.read-found.result c.read-found.ensures _ c.in-Fine.is) in
-    (c.waits.ensures.0 ∙ ap (λ t. (put c.args.out.now 0 t).0) e, c.waits.ensures.1 ∙ ap (λ t. (put c.args.out.now 0 t).1) e)
+pub returns-in-Ok : goal.returns-in-Ok
+returns-in-Ok c =
+    put_as c.args.out.now 0 (waits_shown _ _ (sym c.read.ensures ∙ c.in-Ok.is) _ c.answer_values.ensures.out_after) c.waits.ensures
