@@ -10,10 +10,6 @@ use console::{LIST, first, open, print, print_unreadable, print_wrong_line, read
 use pairs::lines_of;
 use std::rt::Files;
 
-// The name of a file that cannot be opened or read.
-#[derive(Clone, Copy)]
-struct Unreadable<'a>(&'a [u8]);
-
 // Whether what is shown of a file, in a buffer that is large enough, is what it must be.
 fn shown_is<F: Fn(&[u8], &mut [u8]) -> Option<usize>>(
     show: F,

@@ -15,6 +15,10 @@ use std::{fs, io};
 // The longest list of names, in bytes.
 pub const LIST: usize = 65536;
 
+// The name of a file that cannot be opened or read.
+#[derive(Clone, Copy)]
+pub struct Unreadable<'a>(pub &'a [u8]);
+
 // Opens the file of this name for reading. A name that is no text (UTF-8) opens nothing.
 pub fn open<R: Files>(rt: &R, name: &[u8]) -> Option<R::File>
     ensures { IsSome result → IsUtf8 name.now }

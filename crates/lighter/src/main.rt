@@ -9,8 +9,8 @@ ghost use Rattle.std.specs.Prelude.{◌<◌, length};
 ghost use Rattle.carried.specs.Layout.{largest_file};
 
 use console::{
-    LIST, arg, arg_count, open, print, print_first, print_unreadable, print_wrong_line, read,
-    read_list,
+    LIST, Unreadable, arg, arg_count, open, print, print_first, print_unreadable, print_wrong_line,
+    read, read_list,
 };
 use pairs::lines_of;
 use std::io;
@@ -19,10 +19,6 @@ use std::rt::{Env, Files};
 
 // The longest name that an argument gives, in bytes.
 const NAME: usize = 4096;
-
-// The name of a file that cannot be opened or read.
-#[derive(Clone, Copy)]
-struct Unreadable<'a>(&'a [u8]);
 
 // The buffer has room for more than the largest file, so that no part of a file passes for all of it. A file longer than the buffer is
 // longer than any plan file, and so is the part of it that is looked at.

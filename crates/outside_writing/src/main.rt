@@ -4,6 +4,8 @@
 // The answers are proved in the crate outside; here they are run and compared. This program must not know any rule.
 #![tactic(auto)]
 
+ghost use Rattle.std.specs.Prelude.{◌<◌, ◌^◌};
+
 use outside::livnakesh_write;
 use shown::{P2, answer, bytes};
 
@@ -23,7 +25,10 @@ fn values(at: usize, word: u32) -> [u32; 32] {
     words
 }
 
-fn write<const N: usize>(rt: &impl Print, n: usize, m: usize, at: usize, word: u32) {
+// Into so many bytes.
+fn write<const N: usize>(rt: &impl Print, n: usize, m: usize, at: usize, word: u32)
+    requires { N < 2 ^ 63 }
+{
     let _ = print!(rt; "write {n} {m} with word {at} {word}");
     let mut lent = [7; N];
     let said = livnakesh_write(n, m, &values(at, word), &mut lent);

@@ -5,7 +5,7 @@
 // replay_words; this program reads, calls and prints.
 #![tactic(auto)]
 
-use console::{Input, arg, arg_count, first, print, print_first, print_unreadable, read};
+use console::{arg, arg_count, print, print_first, print_unreadable, read};
 use replay_screen::SHOWN;
 use replay_words::{first_end, has_word, replay};
 use std::io::Read;
@@ -25,34 +25,26 @@ fn show(rt: &impl Print, text: &[u8]) {
     }
 }
 
-fn blank_line(rt: &impl Print) {
-    print(rt, b"\n");
-}
-
 // Each tournament of a text, parted by a blank line.
 fn show_all(rt: &impl Print, text: &[u8]) {
-    let mut at = first_end(text);
-    show(rt, &text[..at]);
-    while has_word(&text[at..]) {
-        blank_line(rt);
-        let end = at + first_end(&text[at..]);
-        show(rt, &text[at..end]);
-        at = end;
+    let (one, mut rest) = text.split_at(first_end(text));
+    show(rt, one);
+    while has_word(rest) {
+        print(rt, b"\n");
+        let (next, left) = rest.split_at(first_end(rest));
+        show(rt, next);
+        rest = left;
     }
 }
 
 // An argument that is empty, or longer than any number, is no number.
-fn lay_word(out: &mut [u8], at: usize, word: &[u8]) -> usize {
-    if word.len() == 0 {
-        return lay_text(out, at, b"?");
-    }
-    lay_text(out, at, word)
-}
-
 fn lay_argument(rt: &impl Env, out: &mut [u8], at: usize, i: usize) -> usize {
-    let mut word = [0u8; WORD];
-    let n = arg(rt, i, &mut word);
-    let at = lay_word(out, at, &word[..n]);
+    let mut buf = [0u8; WORD];
+    let word = match arg(rt, i, &mut buf) {
+        Ok(word) if word.len() > 0 => word,
+        _ => b"?",
+    };
+    let at = lay_text(out, at, word);
     lay_text(out, at, b" ")
 }
 
@@ -73,15 +65,7 @@ fn read_arguments(rt: &(impl Print + Env), count: usize) {
     let mut text = [0u8; INPUT];
     let n = lay_arguments(rt, &mut text, count);
     if n < INPUT {
-        show(rt, first(&text, n));
-    } else {
-        too_long(rt);
-    }
-}
-
-fn show_input(rt: &impl Print, text: &[u8]) {
-    if text.len() < INPUT {
-        show_all(rt, text);
+        show(rt, &text[..n]);
     } else {
         too_long(rt);
     }
@@ -90,8 +74,9 @@ fn show_input(rt: &impl Print, text: &[u8]) {
 fn read_input(rt: &impl Print, input: &mut impl Read) {
     let mut text = [0u8; INPUT];
     match read(input, &mut text) {
-        Input::Bytes(n) => show_input(rt, first(&text, n)),
-        Input::Failed => print_unreadable(rt, b"replay", b"standard input"),
+        Ok(text) if text.len() < INPUT => show_all(rt, text),
+        Ok(_) => too_long(rt),
+        Err(_) => print_unreadable(rt, b"replay", b"standard input"),
     }
 }
 
