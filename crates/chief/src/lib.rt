@@ -12,7 +12,7 @@ ghost use Rattle.chief.specs.Told as told;
 use compare::{Compared, Constant, Reason};
 use compare_files::lighter_files;
 use names::{Label, Refusal};
-use text::{lay_label, lay_number, lay_refusal, lay_text, put};
+use text::{Laid, lay_label, lay_number, lay_refusal, lay_text, put};
 
 fn lay_constant(out: &mut [u8], at: usize, constant: Constant) -> usize
     ensures { Lays out.old at (told.constant_name constant) result out.new }
@@ -98,14 +98,20 @@ fn lay_refused(out: &mut [u8], at: usize, which: &[u8], r: Refusal) -> usize
     lay_refusal(out, at, r)
 }
 
-fn lay_told(out: &mut [u8], at: usize, said: Compared) -> usize
-    ensures { Lays out.old at (told.told_as said) result out.new }
-{
-    match said {
-        Compared::FirstRefused(r) => lay_refused(out, at, b"first ", r),
-        Compared::SecondRefused(r) => lay_refused(out, at, b"second ", r),
-        Compared::Lighter => lay_text(out, at, b"lighter\n"),
-        Compared::RunAgain(why) => lay_again(out, at, why),
+// What is told of two plans, as a line.
+#[derive(Clone, Copy)]
+struct Line(Compared);
+
+impl Laid for Line {
+    ghost bytes = { λ line. told.told_as line.0 };
+
+    fn lay(&self, out: &mut [u8], at: usize) -> usize {
+        match self.0 {
+            Compared::FirstRefused(r) => lay_refused(out, at, b"first ", r),
+            Compared::SecondRefused(r) => lay_refused(out, at, b"second ", r),
+            Compared::Lighter => lay_text(out, at, b"lighter\n"),
+            Compared::RunAgain(why) => lay_again(out, at, why),
+        }
     }
 }
 
@@ -113,6 +119,5 @@ fn lay_told(out: &mut [u8], at: usize, said: Compared) -> usize
 pub fn told(old: &[u8], new: &[u8], out: &mut [u8]) -> Option<usize>
     ensures { Puts out.old 0 (told.told_of old.now new.now) result out.new }
 {
-    let said = lighter_files(old, new);
-    put(out, |out, at| lay_told(out, at, said))
+    put(out, &Line(lighter_files(old, new)))
 }

@@ -18,7 +18,7 @@ use names::STREAMS;
 use reader::read;
 use rewriter::rewrite;
 use row_words::{WORDS_PER_ROW, WORDS_PER_WAIT};
-use text::{lay_text, listing, put, refused};
+use text::{Words, listing, put, refused};
 use wait_lines::waits;
 
 // The number of the refusal that a file is written by where its bytes have no room.
@@ -83,7 +83,7 @@ pub fn show_waits(bytes: &[u8], out: &mut [u8]) -> Option<usize>
 fn fine(out: &mut [u8]) -> Option<usize>
     ensures { Puts out.old 0 (ascii "fine\n") result out.new }
 {
-    put(out, |out, at| lay_text(out, at, b"fine\n"))
+    put(out, &Words(b"fine\n"))
 }
 
 // Whether a file is fine, at the start of the buffer.

@@ -165,6 +165,18 @@ pub fn put<T: Laid>(out: &mut [u8], text: &T) -> Option<usize>
     Some(text.lay(out, 0))
 }
 
+// A text that stands there as it is.
+#[derive(Clone, Copy)]
+pub struct Words<'a>(pub &'a [u8]);
+
+impl Laid for Words<'_> {
+    ghost bytes = { λ words. words.0.now };
+
+    fn lay(&self, out: &mut [u8], at: usize) -> usize {
+        lay_text(out, at, self.0)
+    }
+}
+
 impl Laid for Refusal {
     ghost bytes = { text.refused_of };
 

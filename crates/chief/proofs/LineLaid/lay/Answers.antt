@@ -2,7 +2,7 @@
 use mathlib.Core.Path.{sym, ap}
 use Rattle.text.proofs.Laying.{is}
 use Rattle.chief.specs.Told.{told_as}
-use Rattle.chief.proofs.lay_told.Goals as goal
+use Rattle.chief.proofs.LineLaid.lay.Goals as goal
 
 pub returns-in-FirstRefused : goal.returns-in-FirstRefused
 unfolding told_as
