@@ -8,7 +8,7 @@ use Rattle.checks.specs.Checks.{lines}
 use Rattle.carried.specs.declared.Edition.TheVariants.{Three}
 use Rattle.carried.specs.Carried.{meant, sheet_of}
 use Rattle.carried.proofs.Plans.{one_sheet}
-use Rattle.file.specs.File.{read_as}
+use Rattle.file.specs.File.{read_said, read_sheet, read_as}
 use Rattle.file.proofs.RoundTrip.{reads_as_its_values}
 use Rattle.answers.specs.declared.Told.TheVariants.{Answers}
 use Rattle.answers.specs.Answers.{answer_with}
@@ -19,10 +19,10 @@ use Rattle.answer_files.specs.AnswerFiles.{answer_read, answer_file_of, FileAlik
 pub file_alike : FileAlike
 unfolding answer_file_of
 file_alike v few quiet fits out =
-    ap (λ r. answer_read r.answer r.sheet out) (reads_as_its_values v few quiet fits) ∙ go (judge (lines Three (length v.streams) (length v.gaps) v)) refl
+    ap (λ r. answer_read (read_said r) (read_sheet r) out) (reads_as_its_values v few quiet fits) ∙ go (judge (lines Three (length v.streams) (length v.gaps) v)) refl
   where
     go : (c : Checked) → judge (lines Three (length v.streams) (length v.gaps) v) ≡ c
-        → answer_read (read_as c (meant v)).answer (read_as c (meant v)).sheet out ≡ answer_with Answers Three (length v.streams) (length v.gaps) v out
+        → answer_read (read_said (read_as c (meant v))) (read_sheet (read_as c (meant v))) out ≡ answer_with Answers Three (length v.streams) (length v.gaps) v out
     go (Ok _) d =
         sheet_answered Answers (meant v) (sheet_of (meant v)) (record { plan = one_sheet (meant v) few quiet; count = refl; sources = refl }) out
         ∙ answered_alike Answers out Three (length v.streams) (length v.gaps) v d

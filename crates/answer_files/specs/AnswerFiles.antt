@@ -1,4 +1,5 @@
 -- The answers of a plan file into lent memory.
+use Rattle.file.specs.File.{read_said, read_sheet}
 use Rattle.std.specs.Prelude.{◌≡◌, List, ℕ, ◌^◌, ◌≤◌, length}
 use Rattle.names.specs.Limits.{streams, sources}
 use Rattle.words.specs.Words.{Below}
@@ -17,7 +18,7 @@ answer_read (Ok _) s out = answer_of Answers s out
 answer_read (Err r) s out = (Err r, out)
 
 unfoldable pub answer_file_of : List ℕ → List ℕ → Checked × List ℕ
-answer_file_of bs out = answer_read (read_of bs).answer (read_of bs).sheet out
+answer_file_of bs out = answer_read (read_said (read_of bs)) (read_sheet (read_of bs)) out
 
 -- ---- What is proved of the answers of a file; the proof is in proofs/Alike.antt.
 

@@ -9,7 +9,7 @@ ghost use Rattle.answer_files.specs.AnswerFiles.{answer_file_of};
 
 use answers::{Told, answer_words};
 use carried::CARRIED;
-use file::Counts;
+use names::Refusal;
 use reader::carry;
 
 // The answers of a file's plan, or the first refusal of 1, 2, 3, 11, 4, 5, 10, 6 that applies.
@@ -18,8 +18,6 @@ pub fn answer_file(bytes: &[u8], out: &mut [u64]) -> Result<(), Refusal>
     ensures out_after { out.new ≡ (answer_file_of bytes.now out.old).1 }
 {
     let mut words = [0; CARRIED];
-    match carry(bytes, &mut words) {
-        Counts::Refused(r) => Err(r),
-        Counts::Of(edition, n, m) => answer_words(Told::Answers, edition, &words, n, m, out),
-    }
+    let counts = carry(bytes, &mut words)?;
+    answer_words(Told::Answers, counts, &words, out)
 }

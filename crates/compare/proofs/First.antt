@@ -14,7 +14,11 @@ use Rattle.compare.specs.declared.Reason.{Reason}
 use Rattle.compare.specs.Changes.{must, ◌or◌, first_change}
 use Rattle.compare.specs.Claims.{FirstChange, ChangeIfFirst, NothingIfNone}
 
-pub of_not_nothing : {r : Reason} → Err r ≡ Ok tt → ⊥
+-- the answers are of this type
+abbrev pub Change : Type 0
+Change = Result (Unit {0}) Reason
+
+pub of_not_nothing : {r : Reason} → ◌≡◌ {A = Change} (Err r) (Ok tt) → ⊥
 of_not_nothing e = let z : ◌≡◌ {A = ℕ} 0 1 = cc in omega arith
 
 -- ---- the first of two

@@ -8,10 +8,13 @@ use native.Mathlib.Nat.{le_refl, lt_of_not-le, eq-zero-or-pos}
 use native.Mathlib.Decide.{dec_le}
 use native.Mathlib.Omega.{arith}
 use borrow.Author.Tests.{le-leb, lt-leb}
+use lib.Dec.{leb}
 use lib.ListN.{length, get_or, length-append}
 use lib.Seq.{get_or-append_seam}
 use Rattle.laws.specs.Lists.{those}
 use Rattle.cover.specs.Cover.{Partnered}
+use Rattle.std.specs.Prelude.{true, false, cond, ◌+◌, count_by}
+use Rattle.std.proofs.lemmas.List.Recursion.{is_count_by}
 use Rattle.compare.specs.Changes.{at_most}
 
 pub by_order : {P : Type 0} (a b : ℕ) → (a ≤ b → P) → (b < a → P) → P
@@ -25,6 +28,14 @@ count_in_lem z x xs h = rw (le-leb x z h) refl
 count_out : (z x : ℕ) (xs : List ℕ) → z < x → at_most z (x ∷ xs) ≡ at_most z xs
 unfolding those
 count_out z x xs h = rw (lt-leb x z h) refl
+
+-- .. as a chain counts them
+one_more : (n : ℕ) → suc n ≡ 1 + n
+one_more n = omega arith
+
+pub at_most_counts : (x : ℕ) (xs : List ℕ) → at_most x xs ≡ count_by (λ n. leb n x) xs
+unfolding those
+at_most_counts x = is_count_by (at_most x) (λ n. leb n x) refl (λ n xs. elim (leb n x) as (λ b. length (cond b (n ∷ those (λ k. leb k x) xs) (those (λ k. leb k x) xs)) ≡ cond b (1 + at_most x xs) (at_most x xs)) [ true ↦ one_more (at_most x xs) | false ↦ refl ])
 
 -- .. in another place
 mid_in : (z : ℕ) (us : List ℕ) (y : ℕ) (vs : List ℕ) → y ≤ z → at_most z (us ++ y ∷ vs) ≡ suc (at_most z (us ++ vs))

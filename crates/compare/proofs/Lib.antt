@@ -2,6 +2,5 @@ pub mod First
 pub mod Gaps
 pub mod Exactly
 pub mod Says
-pub mod Places
-pub mod Standing
+pub mod Lists
 pub mod Unique

@@ -4,6 +4,7 @@
 use Rattle.std.specs.Prelude.{Bool, not, cond, ◌&&◌, List, [], ◌∷◌, ℕ, zero, suc, leb, ltb, eqb, length, get_or}
 use Rattle.std.specs.Bool.{beq}
 use Rattle.names.specs.declared.Label.{Label}
+use Rattle.names.specs.declared.Refusal.{Refusal}
 use Rattle.std.specs.Prelude.{Option, Some, None, Result, Ok, Err}
 use Rattle.judge.specs.Table.{Checked}
 use Rattle.laws.specs.Lists.{those}
@@ -15,6 +16,8 @@ use Rattle.plan.specs.declared.Sheet.{Sheet}
 use Rattle.plan.specs.Plan.{Plan, at, plan_of}
 use Rattle.plan.specs.Rules.{has_master}
 use Rattle.checks.specs.Checks.{checked_of}
+use Rattle.compare.specs.declared.Constant.{Constant}
+use Rattle.compare.specs.declared.Constant.TheVariants.{F, E, Tfcs, Swx, H, G, Etg, Nb, P}
 use Rattle.compare.specs.declared.Reason.{Reason}
 use Rattle.compare.specs.declared.Reason.TheVariants.{MasterNode, GreaterConstant, NewLabel, ShorterPeriod, LongerJitter}
 use Rattle.compare.specs.declared.Reason.TheVariants.{LongerPayload, ShorterDeadline, LongerAcknowledgement, LessUrgent, MoreNoise}
@@ -50,8 +53,23 @@ constants_of t = t.f ∷ t.e ∷ t.tfcs ∷ t.swx ∷ t.h ∷ t.g ∷ t.etg ∷ 
 abbrev pub many_constants : ℕ
 many_constants = 9
 
+-- the one in a place, and the place of one
+abbrev pub constant : ℕ → Constant
+constant k = get_or (F ∷ E ∷ Tfcs ∷ Swx ∷ H ∷ G ∷ Etg ∷ Nb ∷ P ∷ []) k P
+
+abbrev pub place_of : Constant → ℕ
+place_of F = 0
+place_of E = 1
+place_of Tfcs = 2
+place_of Swx = 3
+place_of H = 4
+place_of G = 5
+place_of Etg = 6
+place_of Nb = 7
+place_of P = 8
+
 abbrev pub grown : List ℕ → List ℕ → ℕ → Result (Unit {0}) Reason
-grown was is k = must (leb (get_or is k 0) (get_or was k 0)) (GreaterConstant k)
+grown was is k = must (leb (get_or is k 0) (get_or was k 0)) (GreaterConstant (constant k))
 
 abbrev pub of_constants : Timing → Timing → Result (Unit {0}) Reason
 of_constants old new = first_change (grown (constants_of old) (constants_of new)) many_constants
@@ -135,6 +153,12 @@ compared_as (Err r) second c = FirstRefused r
 compared_as (Ok _) (Err r) c = SecondRefused r
 compared_as (Ok _) (Ok _) (Ok _) = Lighter
 compared_as (Ok _) (Ok _) (Err r) = RunAgain r
+
+-- the same of two plans, or their refusals
+abbrev pub compared_with : Result Sheet Refusal → Result Sheet Refusal → Compared
+compared_with (Err r) second = FirstRefused r
+compared_with (Ok old) (Err r) = SecondRefused r
+compared_with (Ok old) (Ok new) = compared_as (Ok tt) (Ok tt) (changes (plan_of old) (plan_of new))
 
 unfoldable pub compared_of : Sheet → Sheet → Compared
 compared_of old new = compared_as (checked_of old) (checked_of new) (changes (plan_of old) (plan_of new))

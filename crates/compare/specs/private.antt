@@ -1,2 +1,2 @@
 -- Only for the contracts of private functions; no other crate names it.
-pub mod Columns
+pub mod Moves

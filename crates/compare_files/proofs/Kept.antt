@@ -1,5 +1,8 @@
 -- What is said of two files is what is said of their plans, and a row of the answer words is the row's answer, so that a second file that is
 -- called lighter keeps the promise in the words. Assumes nothing.
+use Rattle.file.specs.File.{ReadPlan, read_said, read_sheet}
+use Rattle.std.specs.Prelude.{Result}
+use Rattle.plan.specs.declared.Sheet.{Sheet}
 use mathlib.Core.Path.{◌≡◌, refl, sym, ap, ◌∙◌, subst}
 use mathlib.Core.Bool.{Bool, true, false, cond}
 use mathlib.Core.List.{List, ◌++◌}
@@ -21,7 +24,6 @@ use Rattle.judge.specs.Table.{judge}
 use Rattle.checks.specs.Checks.{lines}
 use Rattle.checks.proofs.Fine.{own_counts}
 use Rattle.promise.specs.Lighter.{NotRefused, Kept}
-use Rattle.file.specs.declared.ReadPlan.{ReadPlan}
 use Rattle.file.specs.File as file
 use Rattle.file.proofs.Reading.{fine_read}
 use Rattle.file.proofs.RoundTrip.{plan_read, right_read}
@@ -39,12 +41,12 @@ use Rattle.compare.proofs.Says.{said_exactly, said_kept}
 use Rattle.compare_files.specs.Files.{plan_from, compared_files, SaysLighterOfFiles, LabelsStand, KeptWords, WordsKept}
 
 -- ---- two files
-file_not_refused : (bs : List ℕ) → (file.read_of bs).answer ≡ Ok tt → NotRefused (plan_from bs)
+file_not_refused : (bs : List ℕ) → read_said (file.read_of bs) ≡ Ok tt → NotRefused (plan_from bs)
 file_not_refused bs e =
     let f = fine_read bs e in
     let p = plan_read bs f in
     let right = own_counts f.n f.m p (right_read bs f) in
-    let same : plan_from bs ≡ p = ap (λ (r : ReadPlan). plan_of r.sheet) f.read ∙ one_sheet p right.within.count right.within.sources in
+    let same : plan_from bs ≡ p = ap (λ (r : ReadPlan). plan_of (read_sheet r)) f.read ∙ one_sheet p right.within.count right.within.sources in
     subst NotRefused (sym same) right
 
 pub said_of_files : (old new : List ℕ) → SaysLighterOfFiles old new (compared_files old new)
@@ -54,8 +56,8 @@ said_of_files old new =
     let b = file_not_refused new in
     record {
       is = refl;
-      exactly = said_exactly (plan_from old) (plan_from new) (file.read_of old).answer (file.read_of new).answer a b;
-      kept = said_kept (plan_from old) (plan_from new) (file.read_of old).answer (file.read_of new).answer a b;
+      exactly = said_exactly (plan_from old) (plan_from new) (read_said (file.read_of old)) (read_said (file.read_of new)) a b;
+      kept = said_kept (plan_from old) (plan_from new) (read_said (file.read_of old)) (read_said (file.read_of new)) a b;
     }
 
 -- ---- the words of a row
@@ -78,7 +80,7 @@ answer_said : (bs out : List ℕ) (r : ℕ) → (answer_file_of bs out).0 ≡ Ok
 unfolding answer_file_of
 answer_said bs out r e h =
     let p = plan_from bs in
-    rw (read_words (file.read_of bs).answer (file.read_of bs).sheet out e, answer_words p, ← get_or-map (row_searched p) p.streams r blank)
+    rw (read_words (read_said (file.read_of bs)) (read_sheet (file.read_of bs)) out e, answer_words p, ← get_or-map (row_searched p) p.streams r blank)
     (row_says (searches p) _ (row_searched p blank) r (omega (arith, length-map p.streams (row_searched p))))
 
 -- ---- what the words of an answer say

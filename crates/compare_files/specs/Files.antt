@@ -1,4 +1,6 @@
 -- The answer to two files: which is refused, or that the plan in the second is lighter, or why it is to be run again.
+use Rattle.std.specs.Prelude.{Result, Ok, Err}
+use Rattle.file.specs.File.{read_said, read_sheet}
 use Rattle.std.specs.Prelude.{◌≡◌, List, ◌↔◌, ℕ, ◌≤◌, ◌<◌, length}
 use Rattle.std.specs.Prelude.{Ok}
 use Rattle.row_words.specs.RowWords.{verdict_at, bound_at}
@@ -11,10 +13,10 @@ use Rattle.answer_files.specs.AnswerFiles.{answer_file_of}
 
 -- the plan in a file
 abbrev pub plan_from : List ℕ → Plan
-plan_from bytes = plan_of (read_of bytes).sheet
+plan_from bytes = plan_of (read_sheet (read_of bytes))
 
 unfoldable pub compared_files : List ℕ → List ℕ → Compared
-compared_files old new = compared_as (read_of old).answer (read_of new).answer (changes (plan_from old) (plan_from new))
+compared_files old new = compared_as (read_said (read_of old)) (read_said (read_of new)) (changes (plan_from old) (plan_from new))
 
 -- ---- What is proved of two files; the proofs are in proofs/Kept.antt.
 
@@ -22,7 +24,7 @@ compared_files old new = compared_as (read_of old).answer (read_of new).answer (
 -- its streams stands in the first and keeps its promise
 pub record SaysLighterOfFiles (old new : List ℕ) (r : Compared) : Type 0 where
   pub is : r ≡ compared_files old new
-  pub exactly : (r ≡ Compared-as-Lighter) ↔ (((read_of old).answer ≡ Ok tt) × ((read_of new).answer ≡ Ok tt) × Lighter (plan_from old) (plan_from new))
+  pub exactly : (r ≡ Compared-as-Lighter) ↔ ((read_said (read_of old) ≡ Ok tt) × (read_said (read_of new) ≡ Ok tt) × Lighter (plan_from old) (plan_from new))
   pub kept : r ≡ Compared-as-Lighter → (l : Lighter (plan_from old) (plan_from new)) (k : ℕ) (h : k < length (plan_from new).streams)
       → Kept (plan_from old) (plan_from new) k (l.row k h)
 

@@ -14,9 +14,5 @@ pub fn lighter_files(old: &[u8], new: &[u8]) -> Compared
 {
     let first = read(old);
     let second = read(new);
-    let answer = first.answer;
-    let answer_too = second.answer;
-    let was = first.sheet;
-    let is = second.sheet;
-    outcome(answer, answer_too, was, is)
+    outcome(first, second)
 }

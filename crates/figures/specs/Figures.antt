@@ -2,6 +2,7 @@
 -- 02, 03, 05 and 06): the figures for P1 to P12, as one table in the document's order, and plans of our own after them. The claim is that every
 -- entry of it holds, `Figures`, proved in proofs/Figures.antt. All rows of a plan have the same columns, so that some of them are not in the
 -- documents.
+use Rattle.file.specs.File.{read_said}
 use Rattle.std.specs.Prelude.{◌≡◌, Bool, true, false, List, [], ◌∷◌, ◌++◌, ℕ, ℤ, pos, length, take}
 use Rattle.names.specs.declared.Priority.{Priority}
 use Rattle.std.specs.Prelude.{Option, Some, None, Ok, Err}
@@ -51,7 +52,7 @@ abbrev pub values : Entered → Checked
 values v = judge (lines Three (length v.streams) (length v.gaps) v)
 
 abbrev pub file : List ℕ → Checked
-file bs = (read_of bs).answer
+file bs = read_said (read_of bs)
 
 abbrev pub refusal : ℕ → ℕ → Checked
 refusal number place = Err (record { number = number; place = place })

@@ -1,4 +1,5 @@
 -- What the contents say, answer by answer; what reading gives then; what a fine answer says. Assumes nothing.
+use Rattle.file.specs.File.{read_said, counts_said}
 use mathlib.Core.Path.{◌≡◌, refl, sym, ap, ap₂, ◌∙◌}
 use mathlib.Core.Bool.{Bool, true, false}
 use mathlib.Core.List.{List, ◌++◌}
@@ -23,7 +24,8 @@ use Rattle.carried.specs.Carried.{plainly, entered_in, entered_words, in_places,
 use Rattle.carried.proofs.Plans.{one_sheet, own_places}
 use Rattle.checks.specs.Checks.{range_lines, value_lines, lines, checked_of}
 use Rattle.checks.proofs.Counts.{range_number, fine_range, ranges_counted}
-use Rattle.file.specs.declared.Counts.{Counts, TheVariants.Of, TheVariants.Refused as Counts-as-Refused}
+use Rattle.carried.specs.declared.Counts.{Counts}
+use Rattle.std.specs.Prelude.{Result}
 use Rattle.file.specs.File.{contents, edition_in, count_in, sources_in, entered_at, plan_at, same, size_right, contents_right, contents_lines, counts_as, counts_of, carried_as, carried_of, lines_in, read_as, read_of}
 use Rattle.file.proofs.Same.{same_eq}
 use Rattle.file.proofs.Bodies.{length_at}
@@ -35,8 +37,8 @@ at_counts edition n m bs =
     ranges_counted edition n m (entered_at edition n m bs) n-is m-is
 
 -- ---- what the contents say, answer by answer
-abbrev pub refused_counts : ℕ → Counts
-refused_counts number = Counts-as-Refused (record { number = number; place = 0 })
+abbrev pub refused_counts : ℕ → Result Counts Refusal
+refused_counts number = Err (record { number = number; place = 0 })
 
 -- 1
 pub said_size : (bs : List ℕ) → size_right bs ≡ false → counts_of bs ≡ refused_counts 1
@@ -57,16 +59,16 @@ module _ (bs : List ℕ) (edition : Edition) (n m : ℕ) (x : edition_in (words_
   unfolding counts_of
   past_contents two = rw (x, e, d) (ap (λ c. counts_as c edition n m) (passed _ _ (ap unless one) ∙ passed _ _ (ap unless two)))
 
-  pub said_counts : contents_right edition n m bs ≡ true → judge (range_lines edition n m) ≡ Ok tt → counts_of bs ≡ Of edition n m
+  pub said_counts : contents_right edition n m bs ≡ true → judge (range_lines edition n m) ≡ Ok tt → counts_of bs ≡ counts_said edition n m
   said_counts two three = past_contents two ∙ ap (λ c. counts_as c edition n m) three
 
   -- 2, by the ranges, whatever the contents
-  pub said_ranges : (r : Refusal) → judge (range_lines edition n m) ≡ Err r → counts_of bs ≡ Counts-as-Refused r
+  pub said_ranges : (r : Refusal) → judge (range_lines edition n m) ≡ Err r → counts_of bs ≡ Err r
   said_ranges r three = go (contents_right edition n m bs) refl
     where
-      go : (b : Bool) → contents_right edition n m bs ≡ b → counts_of bs ≡ Counts-as-Refused r
+      go : (b : Bool) → contents_right edition n m bs ≡ b → counts_of bs ≡ Err r
       go true two = past_contents two ∙ ap (λ c. counts_as c edition n m) three
-      go false two = said_contents two ∙ ap Counts-as-Refused (sym (range_number edition n m r three))
+      go false two = said_contents two ∙ ap (λ q. Err q) (sym (range_number edition n m r three))
 
   -- what reading gives where the first two lines are not given
   pub read_values : contents_right edition n m bs ≡ true → read_of bs ≡ read_as (judge (lines edition n m (entered_at edition n m bs))) (plan_at edition n m bs)
@@ -75,16 +77,18 @@ module _ (bs : List ℕ) (edition : Edition) (n m : ℕ) (x : edition_in (words_
       rw (x, e, d) (ap (λ c. read_as c (plan_at edition n m bs)) (passed _ _ (ap unless one) ∙ passed _ _ (ap unless two) ∙ at_counts edition n m bs))
 
 -- ---- an answer with its edition and its counts
-pub as_refused : (edition : Edition) (n m : ℕ) (c : Checked) (r : Refusal) → counts_as c edition n m ≡ Counts-as-Refused r → c ≡ Err r
+pub as_refused : (edition : Edition) (n m : ℕ) (c : Checked) (r : Refusal) → counts_as c edition n m ≡ Err r → c ≡ Err r
 as_refused edition n m (Ok _) r e = absurd (let z : ◌≡◌ {A = ℕ} 0 1 = cc in omega arith)
 as_refused edition n m (Err q) r e = cc
 
-as_fine : (edition : Edition) (n m : ℕ) (c : Checked) (x : Edition) (a b : ℕ) → counts_as c edition n m ≡ Of x a b → (c ≡ Ok tt) × (edition ≡ x) × (n ≡ a) × (m ≡ b)
-as_fine edition n m (Ok _) x a b e = (refl, cc, cc, cc)
+as_fine : (edition : Edition) (n m : ℕ) (c : Checked) (x : Edition) (a b : ℕ) → counts_as c edition n m ≡ counts_said x a b → (c ≡ Ok tt) × (edition ≡ x) × (n ≡ a) × (m ≡ b)
+as_fine edition n m (Ok _) x a b e =
+    let d : ◌≡◌ {A = Counts} (record { edition = edition; n = n; m = m }) (record { edition = x; n = a; m = b }) = cc in
+    (refl, ap (λ c. c.edition) d, ap (λ c. c.n) d, ap (λ c. c.m) d)
 as_fine edition n m (Err q) x a b e = absurd (let z : ◌≡◌ {A = ℕ} 0 1 = cc in omega arith)
 
 -- a refusal of the contents is that of the file
-pub counts_refused : (bs : List ℕ) (r : Refusal) → counts_of bs ≡ Counts-as-Refused r → read_of bs ≡ record { answer = Err r; sheet = no_sheet }
+pub counts_refused : (bs : List ℕ) (r : Refusal) → counts_of bs ≡ Err r → read_of bs ≡ Err r
 unfolding counts_of read_of
 counts_refused bs r e =
     let edition = edition_in (words_of bs) in
@@ -100,7 +104,7 @@ right_contents edition n m bs e =
     let (c, d) = both (same (take layout.contents_length (words_of bs)) (contents edition n m)) (eqb (length bs) (layout.size edition n m)) e in
     (same_eq _ _ c, eqb-true (length bs) (layout.size edition n m) d)
 
-module _ (bs : List ℕ) (edition : Edition) (n m : ℕ) (e : counts_of bs ≡ Of edition n m) where
+module _ (bs : List ℕ) (edition : Edition) (n m : ℕ) (e : counts_of bs ≡ counts_said edition n m) where
   -- the edition, n and m are what they say
   pub first_fine : (edition_in (words_of bs) ≡ edition) × (count_in edition (words_of bs) ≡ n) × (sources_in (words_of bs) ≡ m) × (judge (contents_lines edition n m bs) ≡ Ok tt)
   unfolding counts_of
@@ -148,13 +152,13 @@ pub record ReadFine (bs : List ℕ) : Type 0 where
   pub size : length bs ≡ layout.size edition n m
   pub contents : take layout.contents_length (words_of bs) ≡ contents edition n m
   pub values : judge (lines edition n m (entered_at edition n m bs)) ≡ Ok tt
-  pub read : read_of bs ≡ record { answer = Ok tt; sheet = sheet_of (plan_at edition n m bs) }
+  pub read : read_of bs ≡ Ok (sheet_of (plan_at edition n m bs))
 
-answer_of_lem : (c : Checked) (p : Plan) → (read_as c p).answer ≡ Ok tt → c ≡ Ok tt
+answer_of_lem : (c : Checked) (p : Plan) → read_said (read_as c p) ≡ Ok tt → c ≡ Ok tt
 answer_of_lem (Ok _) p e = refl
 answer_of_lem (Err r) p e = e
 
-pub fine_read : (bs : List ℕ) → (read_of bs).answer ≡ Ok tt → ReadFine bs
+pub fine_read : (bs : List ℕ) → read_said (read_of bs) ≡ Ok tt → ReadFine bs
 unfolding read_of
 fine_read bs e =
     let edition = edition_in (words_of bs) in

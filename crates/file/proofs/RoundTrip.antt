@@ -1,5 +1,10 @@
 -- One plan, one file: bytes and words are each other's inverse, words and plans are too, and what is within the limits fits its words.
 -- Assumes nothing.
+use Rattle.file.specs.File.{ReadPlan}
+use Rattle.std.specs.Prelude.{Result}
+use Rattle.plan.specs.declared.Sheet.{Sheet}
+use Rattle.names.specs.declared.Refusal.{Refusal}
+use Rattle.file.specs.File.{read_sheet}
 use mathlib.Core.Path.{◌≡◌, refl, sym, ap, ap₂, ◌∙◌}
 use mathlib.Core.List.{List, ◌++◌, flat_map}
 use Prim.Native.Nat.{ℕ, ◌+◌, ◌*◌, ◌^◌, ◌≤◌, ◌<◌}
@@ -27,7 +32,6 @@ use Rattle.judge.specs.Table.{judge}
 use Rattle.checks.specs.Checks.{lines, checked_of, Right}
 use Rattle.judge.proofs.Table.{fine_parts}
 use Rattle.checks.proofs.Fine.{meant_is_right, right_is_fine, fine_is_right, fine_when_meant, own_counts}
-use Rattle.file.specs.declared.ReadPlan.{ReadPlan}
 use Rattle.file.specs.File.{contents, file_words, entered_file, file_of, edition_in, count_in, sources_in, lag_in, entered_in_bodies, entered_at, plan_at, read_as, read_of, lines_out, write_as, write_with, write_of}
 use Rattle.file.specs.Claims.{ReadsAsItsValues, ReadsWhatWasWritten, file_read, WritesWhatWasRead, MeansTheSame, SameBytes, ReadsOneSheet}
 use Rattle.file.proofs.Same.{same_refl}
@@ -110,7 +114,7 @@ reads_as_its_values v few quiet fits =
     (rw head (rw (same_refl (contents Three n m)) (eq-eqb _ _ long)))
     ∙ ap (λ q. read_as (judge (lines Three n m q)) (meant q)) back
 
-pub read_file : (p : Plan) → Right (length p.streams) (length p.gaps) p → read_of (file_of p) ≡ record { answer = Ok tt; sheet = sheet_of p }
+pub read_file : (p : Plan) → Right (length p.streams) (length p.gaps) p → read_of (file_of p) ≡ Ok (sheet_of p)
 read_file p w =
     reads_as_its_values (plainly p) w.within.count w.within.sources (words_fit p w)
     ∙ ap₂ read_as (right_is_fine (length p.streams) (length p.gaps) p w) (meant_plainly p)
@@ -127,7 +131,7 @@ reads_what_was_written s buf n e = go (judge (lines_out Three s.count s.sources 
     q = meant (plainly (plan_of s))
 
     go : (c : Checked) → judge (lines_out Three s.count s.sources (plainly (plan_of s)) buf) ≡ c → (write_as c s.count s.sources q buf).0 ≡ Ok n
-        → read_of (take n (write_as c s.count s.sources q buf).1) ≡ record { answer = Ok tt; sheet = sheet_of (plan_of s) }
+        → read_of (take n (write_as c s.count s.sources q buf).1) ≡ Ok (sheet_of (plan_of s))
     go (Ok _) j e =
         let p = plan_of s in
         let r = fine_is_right s.count s.sources p (fine_parts (lines Three s.count s.sources (plainly p)) _ j).0 in
@@ -151,12 +155,12 @@ own_sheet bs f = let r = right_read bs f in one_sheet (plan_read bs f) r.within.
 pub reads_one_sheet : ReadsOneSheet
 reads_one_sheet bs e =
     let f = fine_read bs e in
-    let q : (read_of bs).sheet ≡ sheet_of (plan_read bs f) = ap (λ (r : ReadPlan). r.sheet) f.read in
+    let q : read_sheet (read_of bs) ≡ sheet_of (plan_read bs f) = ap read_sheet f.read in
     q ∙ ap sheet_of (sym (own_sheet bs f)) ∙ ap (λ s. sheet_of (plan_of s)) (sym q)
 
 -- its file is that of the plan that was read
 pub file_is : (bs : List ℕ) (f : ReadFine bs) → file_read bs ≡ file_of (plan_read bs f)
-file_is bs f = ap (λ (r : ReadPlan). file_of (plan_of r.sheet)) f.read ∙ ap file_of (own_sheet bs f)
+file_is bs f = ap (λ (r : ReadPlan). file_of (plan_of (read_sheet r))) f.read ∙ ap file_of (own_sheet bs f)
 
 -- the answer to the sheet of what was read
 pub sheet_fine : (bs : List ℕ) (f : ReadFine bs) → checked_of (sheet_of (plan_read bs f)) ≡ Ok tt
@@ -174,7 +178,7 @@ writes_what_was_read bs buf e h =
     let n = length p.streams in
     let m = length p.gaps in
     let long : layout.size Three n m ≡ length (file_read bs) = sym (ap length (file_is bs f) ∙ length_file p) in
-    ap (λ (r : ReadPlan). write_of r.sheet buf) f.read
+    ap (λ (r : ReadPlan). write_of (read_sheet r) buf) f.read
     ∙ write_fine Three n m (plainly q) buf (sheet_fine bs f) (omega arith)
     ∙ ap₂ (λ k (bytes : List ℕ). (Ok k, bytes ++ drop k buf)) long (ap file_of (meant_plainly q ∙ own_sheet bs f) ∙ sym (file_is bs f))
 

@@ -13,9 +13,8 @@ use Rattle.fields.specs.Fields.{fields, field_at}
 use Rattle.std.specs.Prelude.{Ok, Err}
 use Rattle.judge.specs.Table.{judge}
 use Rattle.checks.specs.Checks.{lines}
-use Rattle.file.specs.declared.Counts.TheVariants.{Of, Refused as Counts-as-Refused}
 use Rattle.file.specs.File.{contents, file_words, entered_file, file_of, edition_in, lag_in, entered_at, counts_of, read_as, read_of}
-use Rattle.file.specs.File.{write_with, write_of}
+use Rattle.file.specs.File.{read_said, read_sheet, counts_said, write_with, write_of}
 
 -- the file of any values, of at most 256 streams and 8 gaps, whose words fit 32 bits, is answered as the values are, with the same place
 abbrev pub ReadsAsItsValues : Type 0
@@ -27,28 +26,28 @@ ReadsAsItsValues =
 abbrev pub ReadsWhatWasWritten : Type 0
 ReadsWhatWasWritten =
     (s : Sheet) (buf : List ℕ) (n : ℕ) → (write_of s buf).0 ≡ Ok n
-    → read_of (take n (write_of s buf).1) ≡ record { answer = Ok tt; sheet = sheet_of (plan_of s) }
+    → read_of (take n (write_of s buf).1) ≡ Ok (sheet_of (plan_of s))
 
 -- the file of the plan that was read
 abbrev pub file_read : List ℕ → List ℕ
-file_read bs = file_of (plan_of (read_of bs).sheet)
+file_read bs = file_of (plan_of (read_sheet (read_of bs)))
 
 -- writing what was read gives that file, for every file that is not refused, ..
 abbrev pub WritesWhatWasRead : Type 0
 WritesWhatWasRead =
-    (bs buf : List ℕ) → (read_of bs).answer ≡ Ok tt → length (file_read bs) ≤ length buf
-    → write_of (read_of bs).sheet buf ≡ (Ok (length (file_read bs)), file_read bs ++ drop (length (file_read bs)) buf)
+    (bs buf : List ℕ) → read_said (read_of bs) ≡ Ok tt → length (file_read bs) ≤ length buf
+    → write_of (read_sheet (read_of bs)) buf ≡ (Ok (length (file_read bs)), file_read bs ++ drop (length (file_read bs)) buf)
 
 -- .. which has edition 3, a LAG of 0 and the same meaning: what is read of it is what was read, ..
 abbrev pub MeansTheSame : Type 0
 MeansTheSame =
-    (bs : List ℕ) → (read_of bs).answer ≡ Ok tt
+    (bs : List ℕ) → read_said (read_of bs) ≡ Ok tt
     → (edition_in (words_of (file_read bs)) ≡ Three) × (lag_in (words_of (file_read bs)) ≡ 0) × (read_of (file_read bs) ≡ read_of bs)
 
 -- .. and is the same byte for byte, if the file that was read has edition 3 and a LAG of 0
 abbrev pub SameBytes : Type 0
 SameBytes =
-    (bs : List ℕ) → Below 256 bs → (read_of bs).answer ≡ Ok tt → edition_in (words_of bs) ≡ Three → lag_in (words_of bs) ≡ 0 → file_read bs ≡ bs
+    (bs : List ℕ) → Below 256 bs → read_said (read_of bs) ≡ Ok tt → edition_in (words_of bs) ≡ Three → lag_in (words_of bs) ≡ 0 → file_read bs ≡ bs
 
 -- counts out of range are refused 2 at 0, whatever else is wrong, and the lent bytes are as they were
 abbrev pub WrongCounts : Type 0
@@ -60,11 +59,11 @@ WrongCounts =
 -- the contents are refused exactly where the file is refused 1 or 2, and then as the file is
 abbrev pub ContentsRefused : Type 0
 ContentsRefused =
-    (bs : List ℕ) (r : Refusal) → (counts_of bs ≡ Counts-as-Refused r) ↔ (((read_of bs).answer ≡ Err r) × (r.number ≤ 2))
+    (bs : List ℕ) (r : Refusal) → (counts_of bs ≡ Err r) ↔ ((read_said (read_of bs) ≡ Err r) × (r.number ≤ 2))
 
 -- what was read is the one sheet of its plan
 abbrev pub ReadsOneSheet : Type 0
-ReadsOneSheet = (bs : List ℕ) → (read_of bs).answer ≡ Ok tt → (read_of bs).sheet ≡ sheet_of (plan_of (read_of bs).sheet)
+ReadsOneSheet = (bs : List ℕ) → read_said (read_of bs) ≡ Ok tt → read_sheet (read_of bs) ≡ sheet_of (plan_of (read_sheet (read_of bs)))
 
 -- the contents are the words of the documents, ..
 abbrev pub ContentsAre : Type 0
@@ -84,7 +83,7 @@ SizesAre =
 -- of the file. A field that its edition has no word for is 0
 abbrev pub PlaceIsOffset : Type 0
 PlaceIsOffset =
-    (bs : List ℕ) (edition : Edition) (n m : ℕ) → counts_of bs ≡ Of edition n m
+    (bs : List ℕ) (edition : Edition) (n m : ℕ) → counts_of bs ≡ counts_said edition n m
     → (i : ℕ) → i < length (fields edition (entered_at edition n m bs))
     → let k = layout.in_bodies edition n i in
     let value = (field_at (fields edition (entered_at edition n m bs)) i).word in

@@ -10,12 +10,11 @@ use Rattle.judge.specs.Table.{Line, judge, unless}
 use Rattle.plan.specs.declared.Stream.{Stream}
 use Rattle.plan.specs.declared.Sheet.{Sheet}
 use Rattle.plan.specs.Plan.{Plan, plan_of}
+use Rattle.carried.specs.declared.Counts.{Counts}
 use Rattle.carried.specs.declared.Edition.{Edition, TheVariants.One, TheVariants.Two, TheVariants.Three}
 use Rattle.carried.specs.Layout as layout
 use Rattle.carried.specs.Carried.{Entered, meant, plainly, entered_timing_in, stream_in, entered_words, sheet_of, no_sheet}
 use Rattle.checks.specs.Checks.{range_lines, value_lines, lines}
-use Rattle.file.specs.declared.ReadPlan.{ReadPlan}
-use Rattle.file.specs.declared.Counts.{Counts, TheVariants.Of, TheVariants.Refused as Counts-as-Refused}
 
 -- ---- a plan's file, and what is entered in one
 
@@ -102,13 +101,17 @@ contents_lines edition n m bs =
     ∷ record { number = 2; place = unless (contents_right edition n m bs) }
     ∷ range_lines edition n m
 
+-- an edition and the counts of n streams and m gaps
+abbrev pub counts_said : Edition → ℕ → ℕ → Result Counts Refusal
+counts_said edition n m = Ok (record { edition = edition; n = n; m = m })
+
 -- an answer with the edition and the counts that it is about
-abbrev pub counts_as : Checked → Edition → ℕ → ℕ → Counts
-counts_as (Ok _) edition n m = Of edition n m
-counts_as (Err r) edition n m = Counts-as-Refused r
+abbrev pub counts_as : Checked → Edition → ℕ → ℕ → Result Counts Refusal
+counts_as (Ok _) edition n m = counts_said edition n m
+counts_as (Err r) edition n m = Err r
 
 -- what the contents of any bytes at all say: the edition, and n and m are what they count
-unfoldable pub counts_of : List ℕ → Counts
+unfoldable pub counts_of : List ℕ → Result Counts Refusal
 counts_of bs =
     let edition = edition_in (words_of bs) in
     let n = count_in edition (words_of bs) in
@@ -116,9 +119,9 @@ counts_of bs =
     counts_as (judge (contents_lines edition n m bs)) edition n m
 
 -- what is carried of a file: the words that are entered in it, as they stand, at the front of those that are lent, or these as they were
-abbrev pub carried_as : Counts → List ℕ → List ℕ → List ℕ
-carried_as (Of edition n m) bs ws = laid_onto (entered_words (entered_at edition n m bs)) ws
-carried_as (Counts-as-Refused r) bs ws = ws
+abbrev pub carried_as : Result Counts Refusal → List ℕ → List ℕ → List ℕ
+carried_as (Ok c) bs ws = laid_onto (entered_words (entered_at c.edition c.n c.m bs)) ws
+carried_as (Err r) bs ws = ws
 
 abbrev pub carried_of : List ℕ → List ℕ → List ℕ
 carried_of bs ws = carried_as (counts_of bs) bs ws
@@ -127,10 +130,14 @@ carried_of bs ws = carried_as (counts_of bs) bs ws
 abbrev pub lines_in : Edition → ℕ → ℕ → List ℕ → List Line
 lines_in edition n m bs = contents_lines edition n m bs ++ value_lines edition (entered_at edition n m bs)
 
--- an answer with the plan that it is about; the sheet of a refused file is all zero
+-- a plan's sheet, or why there is none
+abbrev pub ReadPlan : Type 0
+ReadPlan = Result Sheet Refusal
+
+-- an answer with the plan that it is about
 abbrev pub read_as : Checked → Plan → ReadPlan
-read_as (Ok _) p = record { answer = Ok tt; sheet = sheet_of p }
-read_as (Err r) p = record { answer = Err r; sheet = no_sheet }
+read_as (Ok _) p = Ok (sheet_of p)
+read_as (Err r) p = Err r
 
 -- what reading gives for any bytes at all
 unfoldable pub read_of : List ℕ → ReadPlan
@@ -139,6 +146,15 @@ read_of bs =
     let n = count_in edition (words_of bs) in
     let m = sources_in (words_of bs) in
     read_as (judge (lines_in edition n m bs)) (plan_at edition n m bs)
+
+-- of what was read: that it is fine or its refusal, and the sheet; a refused file has none, for which one stands on which all is zero
+abbrev pub read_said : ReadPlan → Checked
+read_said (Ok s) = Ok tt
+read_said (Err r) = Err r
+
+abbrev pub read_sheet : ReadPlan → Sheet
+read_sheet (Ok s) = s
+read_sheet (Err r) = no_sheet
 
 -- ---- writing
 

@@ -9,22 +9,6 @@ ghost use Rattle.carried.specs.Layout as layout;
 ghost use Rattle.file.specs.File as spec;
 
 use carried::{CONTENTS, Edition, WORD, record_at, timing_body};
-use names::Refusal;
-use plan::Sheet;
-
-// What a reader hands back. The sheet of a refused file is all zero.
-#[derive(Clone, Copy)]
-pub struct ReadPlan {
-    pub answer: Result<(), Refusal>,
-    pub sheet: Sheet,
-}
-
-// What the contents of a file say: its edition, n streams and m noise gaps, or why they say nothing.
-#[derive(Clone, Copy)]
-pub enum Counts {
-    Of(Edition, usize, usize),
-    Refused(Refusal),
-}
 
 // The bytes of a file of n streams and m noise sources.
 pub fn size(edition: Edition, n: u16, m: u16) -> usize

@@ -1,4 +1,9 @@
 -- U has the same value, and every other letter of the two rules is put together from it in the same way. Assumes nothing.
+use Rattle.file.specs.File.{ReadPlan}
+use Rattle.std.specs.Prelude.{Result}
+use Rattle.plan.specs.declared.Sheet.{Sheet}
+use Rattle.names.specs.declared.Refusal.{Refusal}
+use Rattle.file.specs.File.{read_said, read_sheet, counts_said}
 use mathlib.Core.Path.{◌≡◌, refl, sym, ap, fun_ext, ◌∙◌}
 use mathlib.Core.Bool.{◌&&◌}
 use mathlib.Core.List.{List, [], ◌∷◌, ◌++◌, map}
@@ -23,7 +28,6 @@ use Rattle.carried.specs.Carried.{Entered, meant_timing, meant}
 use Rattle.carried.proofs.Plans.{one_sheet}
 use Rattle.checks.specs.Checks.{counted, field_lines, lag_lines, row_lines, slot_lines, lines}
 use Rattle.checks.proofs.Fine.{lag_passed, lag_given, meant_is_right}
-use Rattle.file.specs.declared.ReadPlan.{ReadPlan}
 use Rattle.file.specs.File.{entered_at, read_as, read_of}
 use Rattle.file.proofs.Reading.{counts_are}
 use Rattle.lag.specs.Rule05.{U₀₅, C'₀₅, C''₀₅, B₀₅, hit₀₅, share₀₅, terms₀₅, slot_lines₀₅, lines₀₅}
@@ -81,14 +85,14 @@ same_answers v = ap (λ (each : Stream → Terms). map (λ i. answer (each i) i.
 pub same_of_file : SameOfFile
 same_of_file bs edition n m e fine =
     let v = entered_at edition n m bs in
-    go (judge (lines edition n m v)) refl (ap (λ (r : ReadPlan). r.answer) (sym (counts_are bs edition n m e)) ∙ fine) ∙ same_answers v
+    go (judge (lines edition n m v)) refl (ap read_said (sym (counts_are bs edition n m e)) ∙ fine) ∙ same_answers v
   where
-    go : (c : Checked) → judge (lines edition n m (entered_at edition n m bs)) ≡ c → (read_as c (meant (entered_at edition n m bs))).answer ≡ Ok tt
-        → answers (plan_of (read_of bs).sheet) ≡ answers (meant (entered_at edition n m bs))
+    go : (c : Checked) → judge (lines edition n m (entered_at edition n m bs)) ≡ c → read_said (read_as c (meant (entered_at edition n m bs))) ≡ Ok tt
+        → answers (plan_of (read_sheet (read_of bs))) ≡ answers (meant (entered_at edition n m bs))
     go (Ok _) j a =
         let p = meant (entered_at edition n m bs) in
         let right = meant_is_right edition n m (entered_at edition n m bs) j in
-        ap (λ (r : ReadPlan). answers (plan_of r.sheet)) (counts_are bs edition n m e ∙ ap (λ c. read_as c p) j)
+        ap (λ (r : ReadPlan). answers (plan_of (read_sheet r))) (counts_are bs edition n m e ∙ ap (λ c. read_as c p) j)
         ∙ ap answers (one_sheet p right.within.count right.within.sources)
     go (Err r) j a = absurd (refused_not_fine a)
 

@@ -1,4 +1,5 @@
 -- What is proved of a LAG that is added to ETG; the proofs are in proofs/Lag.antt.
+use Rattle.file.specs.File.{read_said, read_sheet, counts_said}
 use Rattle.std.specs.Prelude.{◌≡◌, List, ℕ, ◌+◌, ◌≤◌, ◌<◌}
 use Rattle.names.specs.Limits.{constant}
 use Rattle.std.specs.Prelude.{Ok, Err}
@@ -8,7 +9,6 @@ use Rattle.plan.specs.Rules.{answers}
 use Rattle.carried.specs.declared.Edition.{Edition}
 use Rattle.carried.specs.Carried.{Entered, meant}
 use Rattle.checks.specs.Checks.{lines}
-use Rattle.file.specs.declared.Counts.TheVariants.{Of}
 use Rattle.file.specs.File.{entered_at, counts_of, read_of}
 use Rattle.lag.specs.Rule05.{answers₀₅, lines₀₅}
 
@@ -19,8 +19,8 @@ SameAnswers = (v : Entered) → answers (meant v) ≡ answers₀₅ v
 -- .. so of a file, in whatever edition, that is not refused: its plan has the answers that the older rule gives on the words as they stand
 abbrev pub SameOfFile : Type 0
 SameOfFile =
-    (bs : List ℕ) (edition : Edition) (n m : ℕ) → counts_of bs ≡ Of edition n m → (read_of bs).answer ≡ Ok tt
-    → answers (plan_of (read_of bs).sheet) ≡ answers₀₅ (entered_at edition n m bs)
+    (bs : List ℕ) (edition : Edition) (n m : ℕ) → counts_of bs ≡ counts_said edition n m → read_said (read_of bs) ≡ Ok tt
+    → answers (plan_of (read_sheet (read_of bs))) ≡ answers₀₅ (entered_at edition n m bs)
 
 -- nor does a refusal, where ETG + LAG is at most 65,535, ..
 abbrev pub SameRefusals : Type 0

@@ -1,12 +1,13 @@
 -- Word by word, what is carried of a file is what is entered in it, in whatever edition; in edition 3 the bodies are. Assumes nothing.
-use mathlib.Core.Path.{◌≡◌, refl, sym, ap, ◌∙◌}
+use mathlib.Core.Path.{◌≡◌, refl, sym, ap, ap₂, ◌∙◌}
 use mathlib.Core.Bool.{Bool, true, false, cond}
-use mathlib.Core.List.{List}
-use Prim.Native.Nat.{ℕ, ◌+◌, ◌-◌, ◌*◌, ◌<◌}
+use mathlib.Core.List.{List, [], ◌++◌}
+use Prim.Native.Nat.{ℕ, ◌+◌, ◌-◌, ◌*◌, ◌≤◌, ◌<◌}
 use native.Mathlib.Omega.{arith}
-use lib.ListN.{length, get_or, take, drop, length-drop}
+use lib.ListN.{length, get_or, take, drop, length-take, length-drop, drop_of_length-le}
 use lib.Seq.{get_or-drop, take_all}
-use Rattle.words.specs.Words.{words_of}
+use Rattle.std.proofs.lemmas.List.{append-nil}
+use Rattle.words.specs.Words.{words_of, laid_onto}
 use Rattle.words.proofs.Laws.{length_words, drop_words}
 use Rattle.carried.specs.declared.Edition.{Edition, TheVariants.Three}
 use Rattle.carried.specs.Layout as layout
@@ -40,3 +41,13 @@ bodies_stand n m bs e =
     ap words_of (take_all (length bs - at) (drop at bs) (omega (arith, length-drop at bs)))
     ∙ drop_words layout.contents_length bs
     ∙ sym (bodies_back n m (drop layout.contents_length (words_of bs)) long)
+
+-- all words of a list, and the rest as it was
+pub all_laid : (vs out : List ℕ) (count k : ℕ) {front : List ℕ} → count ≡ length vs → k ≡ count → count ≤ length out
+    → front ≡ take k vs ++ drop k (take count out) → front ++ drop count out ≡ laid_onto vs out
+unfolding laid_onto
+all_laid vs out count k e d h f =
+    let none : drop k (take count out) ≡ [] = drop_of_length-le (take count out) (omega (arith, length-take count out)) in
+    let all : take k vs ≡ vs = take_all k vs (omega arith) in
+    ap (λ l. l ++ drop count out) (f ∙ ap₂ (λ a b. a ++ b) all none ∙ append-nil vs)
+    ∙ ap₂ (λ a n. a ++ drop n out) (sym (take_all (length out) vs (omega arith))) e

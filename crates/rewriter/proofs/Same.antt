@@ -1,4 +1,9 @@
 -- What was read is written: by what reading says and by the room that is lent; and what the file that is written means. Assumes nothing.
+use Rattle.file.specs.File.{ReadPlan}
+use Rattle.std.specs.Prelude.{Result}
+use Rattle.plan.specs.declared.Sheet.{Sheet}
+use Rattle.names.specs.declared.Refusal.{Refusal}
+use Rattle.file.specs.File.{read_said, read_sheet}
 use mathlib.Core.Path.{◌≡◌, ap, ◌∙◌}
 use mathlib.Core.List.{List, ◌++◌}
 use Prim.Native.Nat.{ℕ, ◌≤◌, ◌<◌}
@@ -10,7 +15,6 @@ use Rattle.carried.specs.declared.Edition.TheVariants.{Three}
 use Rattle.carried.specs.Carried.{plainly, sheet_of}
 use Rattle.std.specs.Prelude.{Ok, Err}
 use Rattle.checks.specs.Checks.{checked_of}
-use Rattle.file.specs.declared.ReadPlan.{ReadPlan}
 use Rattle.file.specs.File.{read_of, write_of}
 use Rattle.file.specs.Claims.{file_read}
 use Rattle.file.proofs.Reading.{fine_read}
@@ -20,14 +24,14 @@ use Rattle.rewriter.specs.Rewriter.{rewrite_as, rewrite_of, RewritesTheSame, Rew
 
 module _ (bs buf : List ℕ) where
   -- a refused file
-  pub rewrite_refused : (r : Refusal) → (read_of bs).answer ≡ Err r → rewrite_of bs buf ≡ (Err r, buf)
+  pub rewrite_refused : (r : Refusal) → read_said (read_of bs) ≡ Err r → rewrite_of bs buf ≡ (Err r, buf)
   unfolding rewrite_of
-  rewrite_refused r e = ap (λ c. rewrite_as c (read_of bs).sheet buf) e
+  rewrite_refused r e = ap (λ c. rewrite_as c (read_sheet (read_of bs)) buf) e
 
-  module _ (fine : (read_of bs).answer ≡ Ok tt) where
-    written : rewrite_of bs buf ≡ write_of (read_of bs).sheet buf
+  module _ (fine : read_said (read_of bs) ≡ Ok tt) where
+    written : rewrite_of bs buf ≡ write_of (read_sheet (read_of bs)) buf
     unfolding rewrite_of
-    written = ap (λ c. rewrite_as c (read_of bs).sheet buf) fine
+    written = ap (λ c. rewrite_as c (read_sheet (read_of bs)) buf) fine
 
     -- a plan that is fine, without the room for its file ..
     pub rewrite_no_room : length buf < length (file_read bs) → rewrite_of bs buf ≡ (Err (record { number = 6; place = 0 }), buf)
@@ -36,7 +40,7 @@ module _ (bs buf : List ℕ) where
         let f = fine_read bs fine in
         let p = plan_read bs f in
         written
-        ∙ ap (λ (r : ReadPlan). write_of r.sheet buf) f.read
+        ∙ ap (λ (r : ReadPlan). write_of (read_sheet r) buf) f.read
         ∙ write_no_room Three (length p.streams) (length p.gaps) (plainly (plan_of (sheet_of p))) buf (sheet_fine bs f) (omega (arith, ap length (file_is bs f) ∙ length_file p))
 
     -- .. and with it

@@ -1,4 +1,5 @@
 -- The plan in a file, written again.
+use Rattle.file.specs.File.{read_said, read_sheet}
 use Rattle.std.specs.Prelude.{◌≡◌, List, ◌++◌, ℕ, ◌≤◌, length, drop}
 use Rattle.words.specs.Words.{words_of, Below}
 use Rattle.std.specs.Prelude.{Result, Ok, Err}
@@ -16,14 +17,14 @@ rewrite_as (Err r) s buf = (Err r, buf)
 
 -- of a file's bytes and lent ones
 unfoldable pub rewrite_of : List ℕ → List ℕ → Result ℕ Refusal × List ℕ
-rewrite_of bytes buf = rewrite_as (read_of bytes).answer (read_of bytes).sheet buf
+rewrite_of bytes buf = rewrite_as (read_said (read_of bytes)) (read_sheet (read_of bytes)) buf
 
 -- ---- What is proved of a plan that is written again; the proof is in proofs/Same.antt.
 
 -- a file of edition 3 with a LAG of 0 that is not refused is written again byte for byte, wherever as many bytes are lent, ..
 abbrev pub RewritesTheSame : Type 0
 RewritesTheSame =
-    (bs buf : List ℕ) → Below 256 bs → (read_of bs).answer ≡ Ok tt → edition_in (words_of bs) ≡ Three → lag_in (words_of bs) ≡ 0
+    (bs buf : List ℕ) → Below 256 bs → read_said (read_of bs) ≡ Ok tt → edition_in (words_of bs) ≡ Three → lag_in (words_of bs) ≡ 0
     → length bs ≤ length buf
     → rewrite_of bs buf ≡ (Ok (length bs), bs ++ drop (length bs) buf)
 
@@ -36,4 +37,4 @@ pub record BroughtUpToDate (bs buf file : List ℕ) : Type 0 where
   pub meaning : read_of file ≡ read_of bs
 
 abbrev pub RewritesOlder : Type 0
-RewritesOlder = (bs buf : List ℕ) → (read_of bs).answer ≡ Ok tt → BroughtUpToDate bs buf (file_read bs)
+RewritesOlder = (bs buf : List ℕ) → read_said (read_of bs) ≡ Ok tt → BroughtUpToDate bs buf (file_read bs)

@@ -8,7 +8,7 @@ ghost use Rattle.std.specs.Prelude.{◌≡◌};
 ghost use Rattle.rewriter.specs.Rewriter.{rewrite_of};
 
 use carried::CARRIED;
-use file::Counts;
+use names::Refusal;
 use reader::carry;
 use writer::write_words;
 
@@ -19,8 +19,6 @@ pub fn rewrite(file: &[u8], out: &mut [u8]) -> Result<usize, Refusal>
     ensures out_after { out.new ≡ (rewrite_of file.now out.old).1 }
 {
     let mut words = [0; CARRIED];
-    match carry(file, &mut words) {
-        Counts::Refused(r) => Err(r),
-        Counts::Of(edition, n, m) => write_words(edition, &words, n, m, out),
-    }
+    let counts = carry(file, &mut words)?;
+    write_words(counts, &words, out)
 }

@@ -1,3 +1,2 @@
 pub mod Screen
-pub mod private
 pub mod Determined

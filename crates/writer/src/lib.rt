@@ -13,7 +13,7 @@ ghost use Rattle.file.specs.File as spec;
 ghost use Rattle.file.specs.File.{file_of};
 
 use carried::{
-    CARRIED, CONTENTS, Edition, STREAM, TIMING, WORD, timing_in, timing_words, words_of,
+    CARRIED, CONTENTS, Counts, Edition, STREAM, TIMING, WORD, timing_in, timing_words, words_of,
 };
 use checks::check_words;
 use file::{contents, size};
@@ -41,18 +41,12 @@ fn put_file(buf: &mut [u8], timing: Timing, words: &[u32], n: usize, m: usize)
 
 // The file of the plan that is meant by the words of n streams and m gaps, of a file of an edition, at the buffer's start, or the first refusal
 // that applies. Whatever that edition, the file that is written is of edition 3.
-pub fn write_words(
-    edition: Edition,
-    words: &[u32; CARRIED],
-    n: usize,
-    m: usize,
-    buf: &mut [u8],
-) -> Result<usize, Refusal>
-    ensures value { result ≡ (spec.write_with edition n m (entered_in n m words.now) buf.old).0 }
-    ensures buf_after { buf.new ≡ (spec.write_with edition n m (entered_in n m words.now) buf.old).1 }
+pub fn write_words(counts: Counts, words: &[u32; CARRIED], buf: &mut [u8]) -> Result<usize, Refusal>
+    ensures value { result ≡ (spec.write_with counts.edition counts.n counts.m (entered_in counts.n counts.m words.now) buf.old).0 }
+    ensures buf_after { buf.new ≡ (spec.write_with counts.edition counts.n counts.m (entered_in counts.n counts.m words.now) buf.old).1 }
 {
-    check_words(edition, words, n, m)?;
-    let bytes = size(Edition::Three, n as u16, m as u16);
+    check_words(counts, words)?;
+    let bytes = size(Edition::Three, counts.n as u16, counts.m as u16);
     let no_room = buf.len() < bytes;
     if no_room {
         return Err(Refusal {
@@ -60,7 +54,7 @@ pub fn write_words(
             place: 0,
         });
     }
-    put_file(buf, timing_in(words), words, n, m);
+    put_file(buf, timing_in(words), words, counts.n, counts.m);
     Ok(bytes)
 }
 
@@ -70,5 +64,10 @@ pub fn write(sheet: Sheet, buf: &mut [u8]) -> Result<usize, Refusal>
     ensures buf_after { buf.new ≡ (spec.write_of sheet buf.old).1 }
 {
     let words = words_of(sheet);
-    write_words(Edition::Three, &words, sheet.count, sheet.sources, buf)
+    let counts = Counts {
+        edition: Edition::Three,
+        n: sheet.count,
+        m: sheet.sources,
+    };
+    write_words(counts, &words, buf)
 }

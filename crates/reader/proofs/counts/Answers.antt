@@ -19,6 +19,7 @@ use Rattle.file.specs.File.{edition_in, count_in, sources_in, same, contents, si
 use Rattle.file.proofs.Reading.{refused_counts, said_size, said_contents, said_ranges, said_counts}
 use Rattle.reader.proofs.counts.Goals as goal
 use Rattle.reader.proofs.counts.Goals.{After-word_at-2}
+use Rattle.std.proofs.lemmas.Result.{err_from_is_err_and}
 
 module _ (bs : List ℕ) where
   too_short : length bs < layout.byte_of 0 → size_right bs ≡ false
@@ -84,16 +85,17 @@ returns-then-size-length c =
     let b = c.args.bytes.now in
     c.refused_counts-then-size-length.ensures ∙ sym (said_size b (too_long b (omega (arith, c.size.ensures, c.if-size-length.true))))
 
-pub returns-in-Refused : goal.returns-in-Refused
-returns-in-Refused c =
-    let w = (goal.at.returns-in-Refused c).After-word_at-2 in
-    sym (said_ranges (bs_at w) (x_at w) (n_at w) (m_at w) (x_is w) (n_is w) (m_is w) (one w) _ (sym c.check_counts.ensures ∙ c.in-Refused.is))
+pub returns-in_err-check_counts : goal.returns-in_err-check_counts
+returns-in_err-check_counts c =
+    let w = (goal.at.returns-in_err-check_counts c).After-word_at-2 in
+    let p = err_from_is_err_and c.from_residual.result c.from_residual.ensures.1 in
+    rw (p.1, p.2) (sym (said_ranges (bs_at w) (x_at w) (n_at w) (m_at w) (x_is w) (n_is w) (m_is w) (one w) _ (sym c.check_counts.ensures ∙ c.in_err-check_counts.was)))
 
 pub contents_in-requires-clause-n_le_streams : goal.contents_in-requires-clause-n_le_streams
-contents_in-requires-clause-n_le_streams c = (few (goal.at.contents_in-requires-clause-n_le_streams c).After-word_at-2 (sym c.check_counts.ensures ∙ c.in-Fine.is)).1
+contents_in-requires-clause-n_le_streams c = (few (goal.at.contents_in-requires-clause-n_le_streams c).After-word_at-2 (sym c.check_counts.ensures ∙ c.in_ok-check_counts.was)).1
 
 pub contents_in-requires-clause-m_le_sources : goal.contents_in-requires-clause-m_le_sources
-contents_in-requires-clause-m_le_sources c = (few (goal.at.contents_in-requires-clause-m_le_sources c).After-word_at-2 (sym c.check_counts.ensures ∙ c.in-Fine.is)).2
+contents_in-requires-clause-m_le_sources c = (few (goal.at.contents_in-requires-clause-m_le_sources c).After-word_at-2 (sym c.check_counts.ensures ∙ c.in_ok-check_counts.was)).2
 
 pub returns-then-not-contents_in : goal.returns-then-not-contents_in
 returns-then-not-contents_in c =
@@ -102,10 +104,10 @@ returns-then-not-contents_in c =
     ∙ sym (contents_refused w (wrong_words (bs_at w) (x_at w) (n_at w) (m_at w) (sym c.contents_in.ensures ∙ c.if-not-contents_in.true)))
 
 pub overflow_cast-n-2 : goal.overflow_cast-n-2
-overflow_cast-n-2 c = omega (arith, (few (goal.at.overflow_cast-n-2 c).After-word_at-2 (sym c.check_counts.ensures ∙ c.in-Fine.is)).1)
+overflow_cast-n-2 c = omega (arith, (few (goal.at.overflow_cast-n-2 c).After-word_at-2 (sym c.check_counts.ensures ∙ c.in_ok-check_counts.was)).1)
 
 pub overflow_cast-m-2 : goal.overflow_cast-m-2
-overflow_cast-m-2 c = omega (arith, (few (goal.at.overflow_cast-m-2 c).After-word_at-2 (sym c.check_counts.ensures ∙ c.in-Fine.is)).2)
+overflow_cast-m-2 c = omega (arith, (few (goal.at.overflow_cast-m-2 c).After-word_at-2 (sym c.check_counts.ensures ∙ c.in_ok-check_counts.was)).2)
 
 pub returns-then-length-size : goal.returns-then-length-size
 returns-then-length-size c =
@@ -117,4 +119,4 @@ pub returns : goal.returns
 returns c =
     let w = (goal.at.returns c).After-word_at-2 in
     let right = right_contents (bs_at w) (x_at w) (n_at w) (m_at w) (sym c.contents_in.ensures ∙ c.if-not-contents_in.false) (c.if-length-size.false ∙ c.size-2.ensures) in
-    sym (said_counts (bs_at w) (x_at w) (n_at w) (m_at w) (x_is w) (n_is w) (m_is w) (one w) right (sym c.check_counts.ensures ∙ c.in-Fine.is))
+    sym (said_counts (bs_at w) (x_at w) (n_at w) (m_at w) (x_is w) (n_is w) (m_is w) (one w) right (sym c.check_counts.ensures ∙ c.in_ok-check_counts.was))

@@ -1,2 +1,0 @@
--- Only for the contracts of private functions; no other crate names it.
-pub mod Gathering
