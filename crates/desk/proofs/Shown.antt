@@ -12,7 +12,7 @@ use Rattle.judge.specs.Table.{Checked}
 use Rattle.checks.specs.Checks.{checked_of}
 use Rattle.file.specs.declared.ReadPlan.{ReadPlan}
 use Rattle.file.specs.File.{read_of}
-use Rattle.answers.specs.declared.Told.TheVariants.{Answers, Waits}
+use Rattle.answers.specs.Answers.{Answers, Waits}
 use Rattle.answers.specs.Answers.{answer_of}
 use Rattle.text.specs.Listing.{listing_of, listing_in}
 use Rattle.wait_lines.specs.Lines.{lines_of, lines_in}

@@ -12,7 +12,7 @@ ghost use Rattle.text.specs.Claims.{most};
 ghost use Rattle.text.specs.Put.{Puts};
 ghost use Rattle.desk.specs.Desk.{shown, shown_waits, shown_refusal, shown_file};
 
-use answers::{Told, answer_values};
+use answers::{Answer, Wait, answer_values};
 use carried::{CARRIED, CONTENTS, WORD};
 use names::STREAMS;
 use reader::read;
@@ -62,7 +62,7 @@ pub fn show(bytes: &[u8], out: &mut [u8]) -> Option<usize>
         Err(r) => refused(r, out),
         Ok(()) => {
             let mut answers = [0; WORDS_PER_ROW * STREAMS];
-            answer_values(Told::Answers, sheet, &mut answers);
+            answer_values::<Answer>(sheet, &mut answers);
             listing(sheet, &answers, out)
         }
     }
@@ -79,7 +79,7 @@ pub fn show_waits(bytes: &[u8], out: &mut [u8]) -> Option<usize>
         Err(r) => refused(r, out),
         Ok(()) => {
             let mut words = [0; WORDS_PER_WAIT * STREAMS];
-            answer_values(Told::Waits, sheet, &mut words);
+            answer_values::<Wait>(sheet, &mut words);
             waits(sheet, &words, out)
         }
     }
