@@ -10,7 +10,7 @@ use Rattle.carried.specs.Carried.{meant, sheet_of}
 use Rattle.carried.proofs.Plans.{one_sheet}
 use Rattle.file.specs.File.{read_said, read_sheet, read_as}
 use Rattle.file.proofs.RoundTrip.{reads_as_its_values}
-use Rattle.answers.specs.declared.Told.TheVariants.{Answers}
+use Rattle.answers.specs.Answers.{Answers}
 use Rattle.answers.specs.Answers.{answer_with}
 use Rattle.answers.proofs.Outcome.{refused_is, answered_alike}
 use Rattle.answers.proofs.Values.{sheet_answered}

@@ -12,7 +12,7 @@ use Rattle.carried.specs.Layout as layout
 use Rattle.carried.specs.Carried.{entered_in}
 use Rattle.file.specs.File.{counts_of, carried_of}
 use Rattle.file.proofs.Carried.{not_counted, by_words}
-use Rattle.answers.specs.declared.Told.TheVariants.{Answers}
+use Rattle.answers.specs.Answers.{Answers}
 use Rattle.answers.specs.Answers.{answer_with, answer_of}
 use Rattle.answers.proofs.Outcome as outcome
 use Rattle.answer_files.specs.AnswerFiles.{answer_read, answer_file_of}

@@ -9,7 +9,7 @@ use Rattle.plan.specs.declared.Sheet.{Sheet}
 use Rattle.carried.specs.declared.Edition.TheVariants.{Three}
 use Rattle.carried.specs.Carried.{Entered}
 use Rattle.file.specs.File.{read_of, file_words, entered_file}
-use Rattle.answers.specs.declared.Told.TheVariants.{Answers}
+use Rattle.answers.specs.Answers.{Answers}
 use Rattle.answers.specs.Answers.{answer_with, answer_of}
 
 -- a refused file is refused, and what was read is answered

@@ -7,7 +7,7 @@
 ghost use Rattle.std.specs.Prelude.{◌≡◌};
 ghost use Rattle.answer_files.specs.AnswerFiles.{answer_file_of};
 
-use answers::{Told, answer_words};
+use answers::{Answer, answer_words};
 use carried::CARRIED;
 use names::Refusal;
 use reader::carry;
@@ -19,5 +19,5 @@ pub fn answer_file(bytes: &[u8], out: &mut [u64]) -> Result<(), Refusal>
 {
     let mut words = [0; CARRIED];
     let counts = carry(bytes, &mut words)?;
-    answer_words(Told::Answers, counts, &words, out)
+    answer_words::<Answer>(counts, &words, out)
 }

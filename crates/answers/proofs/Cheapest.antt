@@ -28,7 +28,7 @@ use Rattle.plan.proofs.Rules.{terms_sound}
 use Rattle.plan.proofs.Evaluations.{smallest_of_lem}
 use Rattle.carried.specs.Carried.{entered_in, timing_in, plan_in}
 use Rattle.row_words.specs.RowWords.{row_words, words_per_row, wait_words, words_per_wait, with_row}
-use Rattle.answers.specs.declared.Told.{Told, TheVariants.Answers, TheVariants.Waits}
+use Rattle.answers.specs.Answers.{Told, Answers, Waits}
 use Rattle.answers.specs.Answers.{per_row, words_of}
 use Rattle.answers.specs.private.Gather.{row_stream, urgency, PlacesWithin, Cheapest, RowTold, Ordered}
 

@@ -18,7 +18,7 @@ use Rattle.judge.proofs.Table.{given, passed, nothing_given, fine_then, refused_
 use Rattle.checks.proofs.Fine.{fine_when_meant}
 use Rattle.checks.proofs.Words.{entered_in_words, same_lines, same_entered_if_fine}
 use Rattle.plan.proofs.Places.{Owned}
-use Rattle.answers.specs.declared.Told.{Told}
+use Rattle.answers.specs.Answers.{Told}
 use Rattle.answers.specs.Answers.{per_row, too_few, laid_in, answer_as, answer_with}
 
 module _ (told : Told) (edition : Edition) (n m : ℕ) (v : Entered) (out : List ℕ) where

@@ -16,7 +16,7 @@ use Rattle.carried.proofs.Plans.{meant_plainly}
 use Rattle.checks.specs.Checks.{checked_of}
 use Rattle.checks.proofs.Fine.{fine_within}
 use Rattle.std.specs.Prelude.{Ok}
-use Rattle.answers.specs.declared.Told.{Told, TheVariants.Answers, TheVariants.Waits}
+use Rattle.answers.specs.Answers.{Told, Answers, Waits}
 use Rattle.answers.specs.Answers.{told_words, per_row, laid_in, answer_with, answer_of, RowsAnswered, WaitsAnswered, SheetAnswered}
 use Rattle.answers.proofs.Outcome as outcome
 

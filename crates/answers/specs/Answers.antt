@@ -14,7 +14,11 @@ use Rattle.plan.specs.Evaluations.{row_searched, row_wait, waits}
 use Rattle.carried.specs.declared.Edition.{Edition, TheVariants.Three}
 use Rattle.carried.specs.Carried.{Entered, meant, plainly}
 use Rattle.checks.specs.Checks.{lines, checked_of}
-use Rattle.answers.specs.declared.Told.{Told, TheVariants.Answers, TheVariants.Waits}
+
+-- what is told of each row: its answer, or how long the search for it may take
+pub data Told : Type 0 where
+  Answers : Told
+  Waits : Told
 
 -- the words of a stream: those of its answer, or of its wait, ..
 abbrev pub words_of : Told → Plan → Stream → List ℕ

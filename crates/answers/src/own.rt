@@ -28,7 +28,7 @@ fn dearest(costs: &[u64], from: usize, to: usize) -> u64
     u64::from(most)
 }
 
-// The smallest cost from one place on and up to another, that one too.
+// The smallest cost from one place on and up to another, that one too: so there is one, where the smallest of a slice might be none.
 pub(crate) fn cheapest(costs: &[u64], from: usize, to: usize) -> u64
     requires from_le_to { from ≤ to }
     requires to_in_bounds { to < length costs.now }

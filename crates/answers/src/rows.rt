@@ -1,6 +1,6 @@
 // What is told of all rows, in file order.
 ghost use Rattle.std.specs.Prelude.{◌≡◌, true, ℕ, ◌+◌, ◌*◌, ◌/◌, ◌≤◌, ◌<◌, length, get_or};
-ghost use Rattle.names.specs.Limits.{ticks, streams};
+ghost use Rattle.names.specs.Limits.{streams};
 ghost use Rattle.laws.specs.Ranks.{rank};
 ghost use Rattle.bound.specs.Evaluations.{searched};
 ghost use Rattle.plan.specs.Evaluations.{row_searched};
@@ -8,18 +8,17 @@ ghost use Rattle.costs.specs.Costs.{Overhead};
 ghost use Rattle.carried.specs.Carried.{timing_in, plan_in};
 ghost use Rattle.terms.specs.Gathered.{lent, terms_of, fits, stairs};
 ghost use Rattle.answers.specs.Answers.{per_row, laid_in};
-ghost use Rattle.answers.specs.private.Gather.{row_stream, urgency, PlacesWithin, Column, Cheapest, RowTold, Long, InOrder};
+ghost use Rattle.answers.specs.private.Gather.{row_stream, urgency, PlacesWithin, Column, Long, InOrder};
 ghost use Rattle.carried.specs.Layout as layout;
 
-use crate::Told;
 use crate::order::{put_gaps, put_hits, put_in_order, put_places, put_priorities};
-use crate::own::{cheapest, gathered};
+use crate::own::gathered;
 use crate::read::{DEADLINE, FIRST, word_of};
-use bound::{Searched, Wait};
+use crate::tell::Tell;
+use bound::Searched;
 use carried::{CARRIED, STREAM, timing_in};
 use costs::{Overheads, overheads_of};
 use names::{FEW, Row, SOURCES, STREAMS};
-use row_words::{put_answer, put_wait};
 use terms::{Gathered, LentTerms, STAIRS};
 
 // Few streams have small rooms.
@@ -72,48 +71,8 @@ fn searched_row<'a>(
     row_answer(g, &costs[..], periods, jitters, deadline)
 }
 
-// X / c + 1 beside the number of evaluations.
-fn wait_of(s: Searched, c: u64) -> Wait
-    requires le_c { 1 ≤ c }
-    requires x_le_ticks { s.x ≤ ticks }
-    ensures { result ≡ record { evaluations = s.evaluations; limit = s.x / c + 1 } }
-{
-    Wait {
-        evaluations: s.evaluations,
-        limit: s.x / c + 1,
-    }
-}
-
-// What is told of a row, in its words: of its wait, X by the smallest cost between two places.
-fn put_row(
-    told: Told,
-    row: Row,
-    s: Searched,
-    costs: &[u64],
-    from: usize,
-    to: usize,
-    out: &mut [u64],
-)
-    requires from_le_to { from ≤ to }
-    requires to_in_bounds { to < length costs.now }
-    requires x_le_ticks { s.x ≤ ticks }
-    requires by_index { (v : ℕ) → Cheapest costs.now from to v → 1 ≤ v }
-    ensures { RowTold told s costs.now from to row.0 out.old out.new }
-{
-    match told {
-        Told::Answers => {
-            put_answer(out, row, s);
-        }
-        Told::Waits => {
-            let c = cheapest(costs, from, to);
-            put_wait(out, row, wait_of(s, c));
-        }
-    }
-}
-
 // What is told of each row in file order, at the start of what is lent, from streams that stand in order.
-fn put_told<'a>(
-    told: Told,
+fn put_told<'a, T: Tell>(
     words: &[u32; CARRIED],
     n: usize,
     m: usize,
@@ -129,18 +88,17 @@ fn put_told<'a>(
     requires column { Column (rank (urgency words.now) n) n places.now }
     requires in_order { InOrder words.now n m n costs.old periods.now jitters.now }
     requires by_index { (k : ℕ) → k < m → get_or periods.now k 0 ≡ get_or words.now (layout.gap_at n k) 0 }
-    requires n_in_bounds { per_row told * n ≤ length out.old }
-    ensures { out.new ≡ laid_in told (plan_in n m words.now) n out.old }
+    requires n_in_bounds { per_row T.told * n ≤ length out.old }
+    ensures { out.new ≡ laid_in T.told (plan_in n m words.now) n out.old }
 {
     for (k, place) in places[..n].iter().enumerate() {
         let s = searched_row(words, n, m, over, Row(k), *place, costs, periods, jitters);
-        put_row(told, Row(k), s, &costs[..], m, m + *place, out);
+        T::put_row(Row(k), s, &costs[..], m, m + *place, out);
     }
 }
 
 // The same from the words: the streams are put in order once, in rooms that are large enough.
-fn put_sorted(
-    told: Told,
+fn put_sorted<T: Tell>(
     words: &[u32; CARRIED],
     n: usize,
     m: usize,
@@ -155,13 +113,12 @@ fn put_sorted(
     requires overhead { Overhead (timing_in words.now) over }
     requires column { Column (rank (urgency words.now) n) n places.now }
     requires long { Long n m costs.old periods.old jitters.old }
-    requires n_in_bounds { per_row told * n ≤ length out.old }
-    ensures { out.new ≡ laid_in told (plan_in n m words.now) n out.old }
+    requires n_in_bounds { per_row T.told * n ≤ length out.old }
+    ensures { out.new ≡ laid_in T.told (plan_in n m words.now) n out.old }
 {
     put_in_order(words, n, m, over, places, costs, periods, jitters);
     put_gaps(words, FIRST + STREAM * n, m, periods);
-    put_told(
-        told,
+    put_told::<T>(
         words,
         n,
         m,
@@ -175,8 +132,7 @@ fn put_sorted(
 }
 
 // The same in rooms for R streams, and for S streams and noise sources together.
-fn put_in_rooms<const R: usize, const S: usize>(
-    told: Told,
+fn put_in_rooms<T: Tell, const R: usize, const S: usize>(
     words: &[u32; CARRIED],
     n: usize,
     m: usize,
@@ -189,8 +145,8 @@ fn put_in_rooms<const R: usize, const S: usize>(
     requires R_le_streams { R ≤ streams }
     requires all_le_S { m + n ≤ S }
     requires S_le_stairs { S ≤ stairs }
-    requires n_in_bounds { per_row told * n ≤ length out.old }
-    ensures { out.new ≡ laid_in told (plan_in n m words.now) n out.old }
+    requires n_in_bounds { per_row T.told * n ≤ length out.old }
+    ensures { out.new ≡ laid_in T.told (plan_in n m words.now) n out.old }
 {
     let mut priorities = [0; R];
     put_priorities(words, n, &mut priorities);
@@ -199,8 +155,7 @@ fn put_in_rooms<const R: usize, const S: usize>(
     let mut costs = [0; S];
     let mut periods = [0; S];
     let mut jitters = [0; R];
-    put_sorted(
-        told,
+    put_sorted::<T>(
         words,
         n,
         m,
@@ -214,14 +169,14 @@ fn put_in_rooms<const R: usize, const S: usize>(
 }
 
 // What is told of each row in file order, at the start of what is lent.
-pub(crate) fn put_rows(told: Told, words: &[u32; CARRIED], n: usize, m: usize, out: &mut [u64])
+pub(crate) fn put_rows<T: Tell>(words: &[u32; CARRIED], n: usize, m: usize, out: &mut [u64])
     requires places_within { PlacesWithin words.now n m }
-    requires n_in_bounds { per_row told * n ≤ length out.old }
-    ensures { out.new ≡ laid_in told (plan_in n m words.now) n out.old }
+    requires n_in_bounds { per_row T.told * n ≤ length out.old }
+    ensures { out.new ≡ laid_in T.told (plan_in n m words.now) n out.old }
 {
     let over = overheads_of(timing_in(words));
     if n <= FEW {
-        return put_in_rooms::<FEW, FEW_STAIRS>(told, words, n, m, over, out);
+        return put_in_rooms::<T, FEW, FEW_STAIRS>(words, n, m, over, out);
     }
-    put_in_rooms::<STREAMS, STAIRS>(told, words, n, m, over, out)
+    put_in_rooms::<T, STREAMS, STAIRS>(words, n, m, over, out)
 }

@@ -171,6 +171,7 @@ impl From<Timing> for EnteredTiming {
     }
 }
 
+// Words are a list with no type of their own, and a stream is of another crate: so these are functions, where a From would have no place.
 fn entered_words(t: EnteredTiming) -> [u32; TIMING]
     ensures { result ≡ timing_words t }
 {

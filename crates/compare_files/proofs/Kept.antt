@@ -31,7 +31,7 @@ use Rattle.carried.specs.declared.Edition.TheVariants.{Three}
 use Rattle.carried.specs.Carried.{meant, plainly}
 use Rattle.carried.proofs.Plans.{meant_plainly, one_sheet}
 use Rattle.row_words.proofs.RowWords.{RowSays, row_says}
-use Rattle.answers.specs.declared.Told.TheVariants.{Answers}
+use Rattle.answers.specs.Answers.{Answers}
 use Rattle.answers.specs.Answers.{too_few, laid_in, answer_as, answer_of}
 use Rattle.answer_files.specs.AnswerFiles.{answer_read, answer_file_of}
 use Rattle.answers.specs.Answers.{answer_with}

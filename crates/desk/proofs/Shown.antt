@@ -12,7 +12,7 @@ use Rattle.names.specs.declared.Refusal.{Refusal}
 use Rattle.plan.specs.declared.Sheet.{Sheet}
 use Rattle.checks.specs.Checks.{checked_of}
 use Rattle.file.specs.File.{read_of, read_said, read_sheet}
-use Rattle.answers.specs.declared.Told.TheVariants.{Answers, Waits}
+use Rattle.answers.specs.Answers.{Answers, Waits}
 use Rattle.answers.specs.Answers.{answer_of}
 use Rattle.text.specs.Listing.{listing_of, listing_in, refused_of}
 use Rattle.wait_lines.specs.Lines.{lines_of, lines_in}

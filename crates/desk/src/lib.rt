@@ -12,7 +12,7 @@ ghost use Rattle.text.specs.Claims.{most};
 ghost use Rattle.text.specs.Put.{Puts};
 ghost use Rattle.desk.specs.Desk.{shown, shown_waits, shown_refusal, shown_file};
 
-use answers::{Told, answer_values};
+use answers::{Answer, Wait, answer_values};
 use carried::{CARRIED, CONTENTS, WORD};
 use names::STREAMS;
 use reader::read;
@@ -60,7 +60,7 @@ pub fn show(bytes: &[u8], out: &mut [u8]) -> Option<usize>
         Ok(sheet) => {
             let mut answers = [0; WORDS_PER_ROW * STREAMS];
             // A plan that is read is fine, so it is answered.
-            let _ = answer_values(Told::Answers, sheet, &mut answers);
+            let _ = answer_values::<Answer>(sheet, &mut answers);
             listing(sheet, &answers, out)
         }
     }
@@ -74,7 +74,7 @@ pub fn show_waits(bytes: &[u8], out: &mut [u8]) -> Option<usize>
         Err(r) => refused(r, out),
         Ok(sheet) => {
             let mut words = [0; WORDS_PER_WAIT * STREAMS];
-            let _ = answer_values(Told::Waits, sheet, &mut words);
+            let _ = answer_values::<Wait>(sheet, &mut words);
             waits(sheet, &words, out)
         }
     }

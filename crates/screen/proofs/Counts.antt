@@ -17,7 +17,7 @@ use Rattle.carried.proofs.Plans.{own_places}
 use Rattle.std.specs.Prelude.{Err}
 use Rattle.checks.specs.Checks.{in_range}
 use Rattle.checks.proofs.Counts.{too_few_lem, too_many, too_noisy, by_range, out_of_range}
-use Rattle.answers.specs.declared.Told.TheVariants.{Answers}
+use Rattle.answers.specs.Answers.{Answers}
 use Rattle.answers.specs.Answers.{answer_with}
 use Rattle.answers.proofs.Outcome.{refused_is}
 use Rattle.screen.specs.Screen.{entered_for, screen_of, WrongLists}

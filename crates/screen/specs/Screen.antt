@@ -9,7 +9,7 @@ use Rattle.carried.specs.declared.Edition.TheVariants.{Three}
 use Rattle.carried.specs.declared.EnteredTiming.{EnteredTiming}
 use Rattle.carried.specs.Carried.{Entered}
 use Rattle.file.specs.File.{file_words, entered_file}
-use Rattle.answers.specs.declared.Told.TheVariants.{Answers}
+use Rattle.answers.specs.Answers.{Answers}
 use Rattle.answers.specs.Answers.{answer_with}
 use Rattle.answer_files.specs.AnswerFiles.{answer_file_of}
 

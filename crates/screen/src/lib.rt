@@ -9,7 +9,7 @@
 ghost use Rattle.std.specs.Prelude.{◌≡◌, ◌++◌, length, take, drop};
 ghost use Rattle.screen.specs.Screen.{Screens};
 
-use answers::{Told, answer_words};
+use answers::{Answer, answer_words};
 use carried::{Counts, Edition, EnteredTiming, no_streams, words_entered};
 use names::{Refusal, SOURCES};
 use plan::Stream;
@@ -41,5 +41,5 @@ pub fn screen(
     let rows = over(no_streams(), streams);
     let copies = over([0; SOURCES], gaps);
     let words = words_entered(timing, rows, counts.n, copies, counts.m);
-    answer_words(Told::Answers, counts, &words, out)
+    answer_words::<Answer>(counts, &words, out)
 }

@@ -6,16 +6,17 @@ use Rattle.costs.specs.Costs.{Overhead, overheads_of}
 use Rattle.costs.proofs.Costs.{overhead_within}
 use Rattle.answers.proofs.rows.put_rows.Goals as goal
 use Rattle.answers.proofs.rows.put_rows.Goals.{After-overheads_of-over}
+use Rattle.answers.proofs.rows.put_rows.Given.{Over}
 
-letters : (o : After-overheads_of-over) → Overhead (timing_in o.args.words.now) o.overheads_of-over.result
-letters o =
+letters : (g : Over) (o : After-overheads_of-over g) → Overhead (timing_in o.args.words.now) o.overheads_of-over.result
+letters g o =
     let t = entered_timing_in o.args.words.now in
     let w = o.requires.places_within.timing in
     let e = o.overheads_of-over.ensures ∙ ap overheads_of (o.timing_in.ensures ∙ timing_held t w) in
     subst (Overhead (meant_timing t)) (sym e) (overhead_within (meant_timing t) w)
 
 pub put_in_rooms-requires-clause-overhead : goal.put_in_rooms-requires-clause-overhead
-put_in_rooms-requires-clause-overhead c = letters (goal.at.put_in_rooms-requires-clause-overhead c).After-overheads_of-over
+put_in_rooms-requires-clause-overhead g c = letters g (goal.at.put_in_rooms-requires-clause-overhead g c).After-overheads_of-over
 
 pub put_in_rooms-requires-2-clause-overhead : goal.put_in_rooms-requires-2-clause-overhead
-put_in_rooms-requires-2-clause-overhead c = letters (goal.at.put_in_rooms-requires-2-clause-overhead c).After-overheads_of-over
+put_in_rooms-requires-2-clause-overhead g c = letters g (goal.at.put_in_rooms-requires-2-clause-overhead g c).After-overheads_of-over

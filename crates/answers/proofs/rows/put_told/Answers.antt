@@ -15,54 +15,55 @@ use Rattle.answers.specs.private.Gather.{row_stream, urgency, Cheapest, RowTold}
 use Rattle.answers.proofs.Cheapest.{some_words, row_long, rows_fit, cheapest_some, x_within, row_told}
 use Rattle.answers.proofs.rows.put_told.Goals as goal
 use Rattle.answers.proofs.rows.put_told.Goals.{In-loop-k}
+use Rattle.answers.proofs.rows.put_told.Given.{Over}
 
-row : (d : In-loop-k) → d.loop-k.k < d.args.n
-row d = omega (arith, d.loop-k-test.true, length-take d.args.n d.args.places.now)
+row : (g : Over) (d : In-loop-k g) → d.loop-k.k < d.args.n
+row g d = omega (arith, d.loop-k-test.true, length-take d.args.n d.args.places.now)
 
 -- the row's place is within the costs
-seated : (d : In-loop-k) → get_or (take d.args.n d.args.places.now) d.loop-k.k 0 ≡ rank (urgency d.args.words.now) d.args.n d.loop-k.k
-seated d = get_or-take d.args.n d.args.places.now d.loop-k.k 0 (row d) ∙ d.requires.column.is _ (row d)
+seated : (g : Over) (d : In-loop-k g) → get_or (take d.args.n d.args.places.now) d.loop-k.k 0 ≡ rank (urgency d.args.words.now) d.args.n d.loop-k.k
+seated g d = get_or-take d.args.n d.args.places.now d.loop-k.k 0 (row g d) ∙ d.requires.column.is _ (row g d)
 
-within : (d : In-loop-k) → get_or (take d.args.n d.args.places.now) d.loop-k.k 0 < d.args.n
-within d = omega (arith, seated d, rank_below (urgency d.args.words.now) d.args.n d.loop-k.k (row d))
+within : (g : Over) (d : In-loop-k g) → get_or (take d.args.n d.args.places.now) d.loop-k.k 0 < d.args.n
+within g d = omega (arith, seated g d, rank_below (urgency d.args.words.now) d.args.n d.loop-k.k (row g d))
 
 pub overflow_add-m : goal.overflow_add-m
-overflow_add-m c = let f = c.requires.places_within in omega (arith, within (goal.at.overflow_add-m c).In-loop-k, f.few, f.quiet)
+overflow_add-m g c = let f = c.requires.places_within in omega (arith, within g (goal.at.overflow_add-m g c).In-loop-k, f.few, f.quiet)
 
 pub put_row-requires-clause-to_in_bounds : goal.put_row-requires-clause-to_in_bounds
-put_row-requires-clause-to_in_bounds c =
-    omega (arith, within (goal.at.put_row-requires-clause-to_in_bounds c).In-loop-k, c.searched_row-s.ensures.in_order_2.cost.long)
+put_row-requires-clause-to_in_bounds g c =
+    omega (arith, within g (goal.at.put_row-requires-clause-to_in_bounds g c).In-loop-k, c.searched_row-s.ensures.in_order_2.cost.long)
 
 pub put_row-requires-clause-x_le_ticks : goal.put_row-requires-clause-x_le_ticks
-put_row-requires-clause-x_le_ticks c =
-    let d = (goal.at.put_row-requires-clause-x_le_ticks c).In-loop-k in
-    x_within _ _ _ _ c.requires.places_within (row d) _ c.searched_row-s.ensures.in_order_2.cost _ c.searched_row-s.ensures.value
+put_row-requires-clause-x_le_ticks g c =
+    let d = (goal.at.put_row-requires-clause-x_le_ticks g c).In-loop-k in
+    x_within _ _ _ _ c.requires.places_within (row g d) _ c.searched_row-s.ensures.in_order_2.cost _ c.searched_row-s.ensures.value
 
 pub put_row-requires-clause-by_index : goal.put_row-requires-clause-by_index
-put_row-requires-clause-by_index c =
-    let d = (goal.at.put_row-requires-clause-by_index c).In-loop-k in
+put_row-requires-clause-by_index g c =
+    let d = (goal.at.put_row-requires-clause-by_index g c).In-loop-k in
     λ v l.
-    cheapest_some _ _ _ _ c.requires.places_within (row d) _ c.searched_row-s.ensures.in_order_2.cost v
-    (subst (λ place. Cheapest c.searched_row-s.new.costs c.args.m (c.args.m + place) v) (seated d) l)
+    cheapest_some _ _ _ _ c.requires.places_within (row g d) _ c.searched_row-s.ensures.in_order_2.cost v
+    (subst (λ place. Cheapest c.searched_row-s.new.costs c.args.m (c.args.m + place) v) (seated g d) l)
 
 pub loop-k-init : goal.loop-k-init
 unfolding rows flat_map
-loop-k-init c =
-    (sym (ap (λ j. drop j c.args.out.now) (mul-zero (per_row c.args.told))), refl, c.requires.in_order, refl)
+loop-k-init g c =
+    (sym (ap (λ j. drop j c.args.out.now) (mul-zero (per_row g.T.Tell.told))), refl, c.requires.in_order, refl)
 
 pub loop-k-preserved : goal.loop-k-preserved
-loop-k-preserved c =
+loop-k-preserved g c =
     let put = c.put_row in
     let r = c.searched_row-s in
     let l = c.loop-k in
     let s = c.args in
     let p = c.requires in
-    let d = (goal.at.loop-k-preserved c).In-loop-k in
-    let h = row d in
-    let told = subst (λ place. RowTold s.told r.result r.new.costs s.m (s.m + place) l.k l.out put.new.out) (seated d) put.ensures in (
-      row_told _ _ _ _ p.places_within h _ r.ensures.in_order_2.cost _ r.ensures.value s.told l.out _ told
-          ∙ put_next (per_row s.told) (words_of s.told _) (some_words s.told) (row_long s.told _) (row_stream s.words.now) l.k _ _
-          (omega (arith, rows_fit s.told l.k s.n h, p.n_in_bounds)) l.invariant.0,
+    let d = (goal.at.loop-k-preserved g c).In-loop-k in
+    let h = row g d in
+    let told = subst (λ place. RowTold g.T.Tell.told r.result r.new.costs s.m (s.m + place) l.k l.out put.new.out) (seated g d) put.ensures in (
+      row_told _ _ _ _ p.places_within h _ r.ensures.in_order_2.cost _ r.ensures.value g.T.Tell.told l.out _ told
+          ∙ put_next (per_row g.T.Tell.told) (words_of g.T.Tell.told _) (some_words g.T.Tell.told) (row_long g.T.Tell.told _) (row_stream s.words.now) l.k _ _
+          (omega (arith, rows_fit g.T.Tell.told l.k s.n h, p.n_in_bounds)) l.invariant.0,
       put.auto.out ∙ l.invariant.1,
       r.ensures.in_order_2,
       r.auto.costs ∙ l.invariant.3,
@@ -70,9 +71,9 @@ loop-k-preserved c =
 
 pub returns : goal.returns
 unfolding entered_in
-returns c =
+returns g c =
     let s = c.args in
     let l = c.loop-k in
     let e : l.k ≡ s.n = omega (arith, length-take s.n s.places.now, c.requires.column.long, c.loop-k-test.false) in
     let p = plan_in s.n s.m s.words.now in
-    l.invariant.0 ∙ ap (λ k. flat_map (words_of s.told p) (rows k (row_stream s.words.now)) ++ drop (per_row s.told * k) s.out.now) e
+    l.invariant.0 ∙ ap (λ k. flat_map (words_of g.T.Tell.told p) (rows k (row_stream s.words.now)) ++ drop (per_row g.T.Tell.told * k) s.out.now) e

@@ -10,6 +10,6 @@ use Rattle.answers.specs.private.Gather.{row_stream, InOrder}
 use Rattle.answers.proofs.rows.put_told.Given as goal
 
 abbrev pub invariant-loop-k : goal.invariant-loop-k
-invariant-loop-k l =
-    (l.out ≡ flat_map (words_of l.told (plan_in l.n l.m l.words)) (rows l.k (row_stream l.words)) ++ drop (per_row l.told * l.k) l.initial.out) × (length l.out ≡ length l.initial.out)
+invariant-loop-k g l =
+    (l.out ≡ flat_map (words_of g.T.Tell.told (plan_in l.n l.m l.words)) (rows l.k (row_stream l.words)) ++ drop (per_row g.T.Tell.told * l.k) l.initial.out) × (length l.out ≡ length l.initial.out)
     × InOrder l.words l.n l.m l.n l.costs l.periods l.jitters × (length l.costs ≡ length l.initial.costs)
