@@ -36,14 +36,13 @@ abbrev letter : List ℕ → ℕ
 letter l = get_or l 0 0
 
 only_lighter : (c : Compared) → told_as c ≡ ascii "lighter\n" → c ≡ Lighter
-unfolding told_as again_line
+unfolding again_line
 only_lighter (FirstRefused r) e = absurd (let z : ◌≡◌ {A = ℕ} 102 108 = ap letter e in omega arith)
 only_lighter (SecondRefused r) e = absurd (let z : ◌≡◌ {A = ℕ} 115 108 = ap letter e in omega arith)
 only_lighter Lighter e = refl
 only_lighter (RunAgain why) e = absurd (let z : ◌≡◌ {A = ℕ} 114 108 = ap letter e in omega arith)
 
 lighter_line : (c : Compared) → c ≡ Lighter → told_as c ≡ ascii "lighter\n"
-unfolding told_as
 lighter_line c e = ap told_as e
 
 pub told_lighter : ToldLighter
@@ -74,7 +73,7 @@ constant_size Nb = omega arith
 constant_size P = omega arith
 
 reason_size : (why : Reason) → named why ≤ ticks → length (reason_text why) ≤ 52
-unfolding reason_text greater_text noise_text
+unfolding greater_text noise_text
 reason_size MasterNode h = omega arith
 reason_size (GreaterConstant k) h = simp length-append (omega (arith, constant_size k))
 reason_size (NewLabel l) h = omega (arith, stream_size l (ascii " is not in the first plan") h)
@@ -87,7 +86,7 @@ reason_size (LessUrgent l) h = omega (arith, stream_size l (ascii " comes after 
 reason_size (MoreNoise gap) h = simp length-append (omega (arith, few_digits 10 gap (omega arith) (omega arith)))
 
 pub largest_line : LargestLine
-unfolding told_as again_line
+unfolding again_line
 largest_line (FirstRefused r) (n, p) = simp length-append (omega (arith, largest_refusal r n p))
 largest_line (SecondRefused r) (n, p) = simp length-append (omega (arith, largest_refusal r n p))
 largest_line Lighter h = omega arith

@@ -37,7 +37,7 @@ unfoldable pub noise_text : ℕ → List ℕ
 noise_text gap = ascii "more noise sources with a gap of " ++ (digits gap ++ ascii " or less")
 
 -- why a plan is to be run again
-unfoldable pub reason_text : Reason → List ℕ
+abbrev pub reason_text : Reason → List ℕ
 reason_text MasterNode = ascii "one plan has a master node and the other has none"
 reason_text (GreaterConstant k) = greater_text k
 reason_text (NewLabel l) = label_text l ++ ascii " is not in the first plan"
@@ -53,7 +53,7 @@ unfoldable pub again_line : Reason → List ℕ
 again_line why = ascii "run again: " ++ (reason_text why ++ ascii "\n")
 
 -- the line of each answer; that of a refusal ends as `refused 4 at 1` does
-unfoldable pub told_as : Compared → List ℕ
+abbrev pub told_as : Compared → List ℕ
 told_as (FirstRefused r) = ascii "first " ++ refused_of r
 told_as (SecondRefused r) = ascii "second " ++ refused_of r
 told_as Compared-as-Lighter = ascii "lighter\n"

@@ -51,7 +51,8 @@ pub fn listing_buffer() -> [u8; LISTED]
     [0; LISTED]
 }
 
-// The listing of a file's plan, at the start of the buffer; the rest of it stays.
+// The listing of a file's plan, at the start of the buffer; the rest of it stays. This and the next two each match what is read: one function
+// that takes what to show of a sheet as a closure is no plainer, since it needs the text of every sheet as a ghost value.
 pub fn show(bytes: &[u8], out: &mut [u8]) -> Option<usize>
     ensures { Puts out.old 0 (shown bytes.now) result out.new }
 {
