@@ -11,7 +11,6 @@ use Rattle.judge.proofs.Table.{given, passed}
 use Rattle.tournament.specs.Rule.{begun_of, next}
 use Rattle.tournament.specs.Answers.{outcome, start_of, step_of}
 use Rattle.tournament_state.specs.declared.Phase.{Phase, TheVariants.AtBit}
-use Rattle.tournament_state.specs.declared.Tournament.{Tournament}
 use Rattle.tournament_state.specs.Refusals.{verdict_of}
 use Rattle.states.specs.States.{priorities_from, phase_from, state_from}
 use Rattle.outside.specs.Outside.{lent_lines, start_from, step_from, StartEnough, StepEnough}

@@ -20,7 +20,7 @@ use Rattle.tournament_state.specs.declared.Phase.{Phase, TheVariants.AtBit, TheV
 use Rattle.tournament_state.specs.Refusals.{state_lines}
 use Rattle.tournament_state.specs.declared.Tournament.{Tournament}
 use Rattle.tournament.specs.Rule.{begun_of, next}
-use Rattle.tournament.specs.Answers.{outcome, left, checked as checked_of, start_of, step_of}
+use Rattle.tournament.specs.Answers.{outcome, left, checked as checked_of, nobody, start_of, step_of}
 use Rattle.screen.specs.Screen.{screen_of}
 use Rattle.states.specs.States.{priorities_from, phase_from, state_from, marks_into, marked_out}
 use Rattle.outside.specs.declared.Said.{Said}
@@ -116,6 +116,14 @@ start_from NB ps bs = outcome (judge (lent_lines NB ps bs (AtBit 1))) (begun_of 
 -- a step of the state that is lent
 unfoldable pub step_from : ℕ → ℕ → ℕ → List ℕ → List ℕ → Result Tournament Refusal
 step_from NB phase at ps bs = outcome (judge (lent_lines NB ps bs (phase_from phase at))) (next (state_from NB phase at ps bs))
+
+-- what comes back of a start, whose caller has no state before it, ..
+abbrev pub started : ℕ → List ℕ → List ℕ → Stepped
+started NB ps bs = stepped_by (start_from NB ps bs) nobody
+
+-- .. and of a step
+abbrev pub gone_on : ℕ → ℕ → ℕ → List ℕ → List ℕ → Stepped
+gone_on NB phase at ps bs = stepped_by (step_from NB phase at ps bs) (state_from NB phase at ps bs)
 
 -- the lent bytes after a start: 1 for each contender and 0 for each unused place, and as they were if it is refused, ..
 abbrev pub start_bytes : Result Tournament Refusal → List ℕ → List ℕ

@@ -9,9 +9,8 @@ ghost use Rattle.std.specs.Prelude.{◌≡◌};
 ghost use Rattle.answer_files.specs.AnswerFiles.{answer_file_of};
 ghost use Rattle.compare.specs.Changes.{place_of};
 ghost use Rattle.compare_files.specs.Files.{compared_files};
-ghost use Rattle.tournament.specs.Answers.{nobody, parting_of};
+ghost use Rattle.tournament.specs.Answers.{parting_of};
 ghost use Rattle.rewriter.specs.Rewriter.{rewrite_of};
-ghost use Rattle.states.specs.States.{state_from};
 ghost use Rattle.outside.specs.Outside as number;
 ghost use Rattle.outside.specs.Outside.{Screened};
 
@@ -225,7 +224,7 @@ fn refused_at(r: Refusal, phase: Phase) -> Stepped
 // The start of a tournament of as many contenders as there are priorities: what stood in the lent marks is not looked at. One that is
 // not refused leaves every place in the lent bytes, in or out.
 pub fn livnakesh_start(bits: u32, priorities: &[u32], marks: &mut [u8]) -> Stepped
-    ensures value { result ≡ number.stepped_by (number.start_from bits priorities.now marks.old) nobody }
+    ensures value { result ≡ number.started bits priorities.now marks.old }
     ensures marks_after { marks.new ≡ number.start_marks bits priorities.now marks.old }
 {
     let n = priorities.len();
@@ -250,7 +249,7 @@ pub fn livnakesh_step(
     priorities: &[u32],
     marks: &mut [u8],
 ) -> Stepped
-    ensures value { result ≡ number.stepped_by (number.step_from bits phase at priorities.now marks.old) (state_from bits phase at priorities.now marks.old) }
+    ensures value { result ≡ number.gone_on bits phase at priorities.now marks.old }
     ensures marks_after { marks.new ≡ number.step_marks bits phase at priorities.now marks.old }
 {
     let t = state_from(bits, phase, at, priorities, &marks[..]);

@@ -4,9 +4,8 @@
 ghost use Rattle.std.specs.Prelude.{◌≡◌};
 ghost use Rattle.answer_files.specs.AnswerFiles.{answer_file_of};
 ghost use Rattle.compare_files.specs.Files.{compared_files};
-ghost use Rattle.tournament.specs.Answers.{nobody, parting_of};
+ghost use Rattle.tournament.specs.Answers.{parting_of};
 ghost use Rattle.rewriter.specs.Rewriter.{rewrite_of};
-ghost use Rattle.states.specs.States.{state_from};
 ghost use Rattle.outside.specs.Outside as number;
 ghost use Rattle.outside.specs.Outside.{Screened};
 
@@ -72,7 +71,7 @@ pub extern "C" fn livnakesh_lighter(old: &[u8], new: &[u8]) -> Weighed
 // The start of a tournament of as many contenders as there are priorities: what stood in the lent marks is not looked at.
 #[unsafe(no_mangle)]
 pub extern "C" fn livnakesh_start(bits: u32, priorities: &[u32], marks: &mut [u8]) -> Stepped
-    ensures value { result ≡ number.stepped_by (number.start_from bits priorities.now marks.old) nobody }
+    ensures value { result ≡ number.started bits priorities.now marks.old }
     ensures marks_after { marks.new ≡ number.start_marks bits priorities.now marks.old }
 {
     outside::livnakesh_start(bits, priorities, marks)
@@ -87,7 +86,7 @@ pub extern "C" fn livnakesh_step(
     priorities: &[u32],
     marks: &mut [u8],
 ) -> Stepped
-    ensures value { result ≡ number.stepped_by (number.step_from bits phase at priorities.now marks.old) (state_from bits phase at priorities.now marks.old) }
+    ensures value { result ≡ number.gone_on bits phase at priorities.now marks.old }
     ensures marks_after { marks.new ≡ number.step_marks bits phase at priorities.now marks.old }
 {
     outside::livnakesh_step(bits, phase, at, priorities, marks)

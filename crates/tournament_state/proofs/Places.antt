@@ -5,7 +5,7 @@ use mathlib.Core.List.{List, [], ◌∷◌, ◌++◌, append_assoc, map}
 use Prim.Native.Nat.{ℕ, zero, suc, ◌+◌, ◌<◌}
 use native.Mathlib.Numerals.{add-one}
 use native.Mathlib.Omega.{arith}
-use lib.ListN.{length, get_or, set, take, drop, replicate, replicate-append-replicate}
+use lib.ListN.{length, get_or, set, take, drop}
 use lib.Seq.{set_at, take-length, drop-cons}
 use Rattle.laws.specs.Lists.{rows}
 use Rattle.laws.specs.Search.{first}
@@ -29,12 +29,6 @@ module _ {A : Type 0} (f : ℕ → A) where
   -- a place that keeps what it has is laid as it is
   pub lay_kept : (base : List A) (d : A) (i : ℕ) → i < length base → f i ≡ get_or base i d → rows i f ++ drop i base ≡ rows (i + 1) f ++ drop (i + 1) base
   lay_kept base d i h e = rw (drop-cons base i d h, ← e, rows_more, append_assoc, add-one) refl
-
--- rows that all hold one value
-pub rows_one : {A : Type 0} (a : A) (n : ℕ) → rows n (λ k. a) ≡ replicate n a
-unfolding rows
-rows_one a zero = refl
-rows_one a (suc n) = ap (λ l. l ++ (a ∷ [])) (rows_one a n) ∙ replicate-append-replicate n 1 a ∙ ap (λ k. replicate k a) (add-one n)
 
 -- all places, each through a function
 pub rows_all : {A B : Type 0} (f : A → B) (xs : List A) (d : A) (n : ℕ) → length xs ≡ n → rows n (λ k. f (get_or xs k d)) ≡ map f xs
