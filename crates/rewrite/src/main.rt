@@ -1,14 +1,12 @@
 // Reads a plan file from standard input and writes the plan in it to standard output, as a file of edition 3, or the one line of its refusal.
 //
-// A thin program: the crate desk fixes each byte that is printed, and showing how a file is read. What comes out is byte for byte what went in, if
-// that has edition 3 (SameFile, in desk's claims), means the same if it is older (SameMeaning), or is a line of 43 bytes at most, which is never
-// taken for a plan file, since that has 44 at least (LineIsNoPlan).
-// The buffer holds every plan file (FileFits, in desk's claims) and every refusal (LargestRefusal, in text's).
+// A thin program: the crate desk fixes each byte that is printed, and showing how a file is read and shown. What comes out is byte for byte what
+// went in, if that has edition 3 (SameFile, in desk's claims), means the same if it is older (SameMeaning), or is a line of 43 bytes at most, which
+// is never taken for a plan file, since that has 44 at least (LineIsNoPlan).
 #![tactic(auto)]
 
 use showing::show_input;
 
 fn main(rt: HostRuntime) {
-    let mut out = desk::file_buffer();
-    show_input(&rt, b"rewrite", &mut rt.stdin(), &mut out, desk::show_file);
+    show_input(&rt, b"rewrite", rt.stdin(), desk::show_file);
 }

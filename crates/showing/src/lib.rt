@@ -18,24 +18,29 @@ fn read_file<'a>(input: &mut impl Read, file: &'a mut [u8]) -> io::Result<&'a [u
     read(input, file)
 }
 
+fn print_shown<F: Fn(&[u8], &mut [u8]) -> Option<usize>>(rt: &impl Print, file: &[u8], show: F)
+    requires { F.IsAlwaysCallable show }
+{
+    // It holds every listing, all waits and every plan file (ListingFits, WaitsFit and FileFits, in desk's claims), and every refusal (LargestRefusal,
+    // in text's), so nothing that is shown lacks room.
+    let mut out = desk::listing_buffer();
+    if let Some(k) = show(file, &mut out) {
+        print_first(rt, &out, k);
+    }
+}
+
 // Prints what is shown of the file that is read, or that it cannot be read.
-// A buffer in which it has no room is left as it is, and nothing is printed.
 pub fn show_input<F: Fn(&[u8], &mut [u8]) -> Option<usize>>(
     rt: &impl Print,
     program: &[u8],
-    input: &mut impl Read,
-    out: &mut [u8],
+    mut input: impl Read + Drop,
     show: F,
 )
     requires { F.IsAlwaysCallable show }
 {
     let mut file = desk::file_buffer();
-    match read_file(input, &mut file) {
-        Ok(bytes) => {
-            if let Some(k) = show(bytes, out) {
-                print_first(rt, out, k);
-            }
-        }
+    match read_file(&mut input, &mut file) {
+        Ok(bytes) => print_shown(rt, bytes, show),
         Err(_) => print_unreadable(rt, program, b"standard input"),
     }
 }

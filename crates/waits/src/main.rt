@@ -1,13 +1,11 @@
 // Reads a plan file from standard input and prints how many evaluations the search for each stream's L takes and how many it takes at most, or
 // the one line of its refusal.
 //
-// A thin program: the crate desk fixes each byte that is printed, and showing how a file is read. The buffer holds every wait (WaitsFit, in desk's
-// claims) and every refusal (LargestRefusal, in text's).
+// A thin program: the crate desk fixes each byte that is printed, and showing how a file is read and shown.
 #![tactic(auto)]
 
 use showing::show_input;
 
 fn main(rt: HostRuntime) {
-    let mut out = desk::listing_buffer();
-    show_input(&rt, b"waits", &mut rt.stdin(), &mut out, desk::show_waits);
+    show_input(&rt, b"waits", rt.stdin(), desk::show_waits);
 }
