@@ -6,4 +6,4 @@ use Rattle.chief.proofs.told.Goals as goal
 
 pub returns : goal.returns
 unfolding told_of
-returns c = put_as c.args.out.now 0 (ap told_as c.lighter_files-said.ensures.is) c.put.ensures
+returns c = put_as c.args.out.now 0 (ap told_as c.lighter_files.ensures.is) c.put.ensures
