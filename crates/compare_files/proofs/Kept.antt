@@ -1,7 +1,6 @@
 -- What is said of two files is what is said of their plans, and a row of the answer words is the row's answer, so that a second file that is
 -- called lighter keeps the promise in the words. Assumes nothing.
 use Rattle.file.specs.File.{ReadPlan, read_said, read_sheet}
-use Rattle.std.specs.Prelude.{Result}
 use Rattle.plan.specs.declared.Sheet.{Sheet}
 use mathlib.Core.Path.{◌≡◌, refl, sym, ap, ◌∙◌, subst}
 use mathlib.Core.Bool.{Bool, true, false, cond}

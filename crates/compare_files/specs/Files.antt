@@ -1,5 +1,5 @@
 -- The answer to two files: which is refused, or that the plan in the second is lighter, or why it is to be run again.
-use Rattle.std.specs.Prelude.{Result, Ok, Err}
+use Rattle.std.specs.Prelude.{Ok}
 use Rattle.file.specs.File.{read_said, read_sheet}
 use Rattle.std.specs.Prelude.{◌≡◌, List, ◌↔◌, ℕ, ◌≤◌, ◌<◌, length}
 use Rattle.std.specs.Prelude.{Ok}

@@ -20,7 +20,7 @@ use Rattle.judge.proofs.Table.{given, passed, not_given, refused_then, unless_no
 use Rattle.plan.specs.Plan.{Plan}
 use Rattle.carried.specs.declared.Edition.{Edition, TheVariants.Three}
 use Rattle.carried.specs.Layout as layout
-use Rattle.carried.specs.Carried.{plainly, entered_in, entered_words, in_places, sheet_of, no_sheet}
+use Rattle.carried.specs.Carried.{plainly, entered_in, entered_words, in_places, sheet_of}
 use Rattle.carried.proofs.Plans.{one_sheet, own_places}
 use Rattle.checks.specs.Checks.{range_lines, value_lines, lines, checked_of}
 use Rattle.checks.proofs.Counts.{range_number, fine_range, ranges_counted}

@@ -2,7 +2,6 @@
 -- Assumes nothing.
 use Rattle.file.specs.File.{ReadPlan}
 use Rattle.std.specs.Prelude.{Result}
-use Rattle.plan.specs.declared.Sheet.{Sheet}
 use Rattle.names.specs.declared.Refusal.{Refusal}
 use Rattle.file.specs.File.{read_sheet}
 use mathlib.Core.Path.{◌≡◌, refl, sym, ap, ap₂, ◌∙◌}

@@ -1,9 +1,6 @@
 -- U has the same value, and every other letter of the two rules is put together from it in the same way. Assumes nothing.
 use Rattle.file.specs.File.{ReadPlan}
-use Rattle.std.specs.Prelude.{Result}
-use Rattle.plan.specs.declared.Sheet.{Sheet}
-use Rattle.names.specs.declared.Refusal.{Refusal}
-use Rattle.file.specs.File.{read_said, read_sheet, counts_said}
+use Rattle.file.specs.File.{read_said, read_sheet}
 use mathlib.Core.Path.{◌≡◌, refl, sym, ap, fun_ext, ◌∙◌}
 use mathlib.Core.Bool.{◌&&◌}
 use mathlib.Core.List.{List, [], ◌∷◌, ◌++◌, map}

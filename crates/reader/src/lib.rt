@@ -1,7 +1,8 @@
 // The reader of plan files: any bytes at all give a plan or a refusal.
 //
 // `carry` is the one way from bytes to what is carried: reading, answering, writing again and comparing a file all go by it. Both
-// public functions answer for bytes of any length, exactly as the definition of the file has it. Nothing is assumed. This crate only goes from bytes to words: the values' own refusals are the crate checks'.
+// public functions answer for bytes of any length, exactly as the definition of the file has it. Nothing is assumed. This crate only goes
+// from bytes to words: the values' own refusals are the crate checks'.
 #![tactic(auto)]
 
 ghost use Rattle.std.specs.Prelude.{◌≡◌, cond, ◌+◌, ◌≤◌, ◌<◌, length, get_or, take};

@@ -1,8 +1,7 @@
 -- The claims of SaysLighter are those of the answer that the table gives. Assumes nothing.
 use mathlib.Core.Path.{◌≡◌, refl, ap₂, ◌∙◌}
-use Rattle.std.specs.Prelude.{Result, Ok, Err}
+use Rattle.std.specs.Prelude.{Ok, Err}
 use Rattle.std.specs.Result.{result_and}
-use Rattle.names.specs.declared.Refusal.{Refusal}
 use Rattle.judge.specs.Table.{Checked}
 use Rattle.plan.specs.declared.Sheet.{Sheet}
 use Rattle.plan.specs.Plan.{plan_of}

@@ -3,8 +3,7 @@ use Rattle.file.specs.File.{ReadPlan}
 use mathlib.Core.Path.{◌≡◌, refl, ap₂, ◌∙◌}
 use mathlib.Core.List.{List}
 use Prim.Native.Nat.{ℕ}
-use Rattle.std.specs.Prelude.{Result, Ok, Err}
-use Rattle.plan.specs.declared.Sheet.{Sheet}
+use Rattle.std.specs.Prelude.{Ok, Err}
 use Rattle.plan.specs.Plan.{plan_of}
 use Rattle.compare.specs.declared.Compared.{Compared}
 use Rattle.compare.specs.Changes.{changes, compared_as, compared_with}

@@ -1,5 +1,5 @@
 -- What is taken of the lists is what they come to, and its answers are the screen's. Assumes nothing.
-use mathlib.Core.Path.{◌≡◌, ap, ◌∙◌}
+use mathlib.Core.Path.{ap, ◌∙◌}
 use mathlib.Core.List.{◌++◌}
 use lib.ListN.{length, take, drop}
 use Rattle.names.specs.Limits.{streams, sources}
