@@ -6,7 +6,9 @@
 // differs is printed, and the last line counts. This program must not know of plans.
 #![tactic(auto)]
 
-use console::{LIST, first, open, print, print_unreadable, print_wrong_line, read, read_list};
+use console::{
+    LIST, Unreadable, first, open, print, print_unreadable, print_wrong_line, read, read_list,
+};
 use pairs::lines_of;
 use std::rt::Files;
 
