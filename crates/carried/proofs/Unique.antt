@@ -4,6 +4,8 @@ use borrow.Fn.Kinds.{Dens, res_t, ended_of}
 use contract.Lifetimes.{Lfts}
 use denote.Triple.Clauses.{Lasts, at_exit}
 use Rattle.laws.specs.Determined.{OneOutcome}
+use Rattle.carried.proofs.U32FromEdition.from.Kinds as number-kinds
+use Rattle.carried.proofs.U32FromEdition.from.Reads as number
 use Rattle.carried.proofs.timing_body.Kinds as timing-body-kinds
 use Rattle.carried.proofs.timing_body.Reads as timing-body
 use Rattle.carried.proofs.stream_body.Kinds as stream-body-kinds
@@ -34,6 +36,9 @@ use Rattle.carried.proofs.records.Kinds as records-kinds
 use Rattle.carried.proofs.records.Reads as records
 use Rattle.carried.proofs.sheet_in.Kinds as sheet-in-kinds
 use Rattle.carried.proofs.sheet_in.Reads as sheet-in
+
+pub number_from_edition_one : OneOutcome 0 number-kinds.ps number-kinds.r number.Post
+number_from_edition_one κs a x y ws us p q = (p ∙ sym q, refl)
 
 pub timing_body_one : OneOutcome 0 timing-body-kinds.ps timing-body-kinds.r timing-body.Post
 timing_body_one κs a x y ws us p q = (p.0 ∙ sym q.0, refl)
