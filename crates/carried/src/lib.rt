@@ -72,6 +72,19 @@ pub const SLOT: usize = TIMING - 1;
 // The words of the largest plan.
 pub const CARRIED: usize = TIMING + STREAM * STREAMS + SOURCES;
 
+// The number that a file says its edition by.
+impl From<Edition> for u32 {
+    ghost from_gives = { λ edition number. number ≡ layout.edition_number edition };
+
+    fn from(edition: Edition) -> u32 {
+        match edition {
+            Edition::One => 1,
+            Edition::Two => 2,
+            Edition::Three => 3,
+        }
+    }
+}
+
 // How many timing words a file has.
 pub fn timing_body(edition: Edition) -> usize
     ensures value { result ≡ layout.timing_body edition }

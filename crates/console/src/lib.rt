@@ -87,6 +87,8 @@ pub fn print(rt: &impl Print, bytes: &[u8]) {
     let _ = rt.write_all(bytes);
 }
 
+// A text comes as how many bytes it has in a lent buffer, not as a slice: what stays of the buffer is promised too, and a slice would keep it
+// borrowed.
 pub fn print_first(rt: &impl Print, bytes: &[u8], k: usize) {
     print(rt, first(bytes, k));
 }

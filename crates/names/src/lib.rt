@@ -19,7 +19,8 @@ pub struct Row(pub usize);
 #[derive(Clone, Copy)]
 pub struct Label(pub u32);
 
-// Why the answer is no: the number of document 01's table, and the place that its last column names.
+// Why the answer is no: the number of document 01's table, and the place that its last column names. The number is no enum of the table's
+// lines, since whoever makes or shows a refusal answers for every number.
 #[derive(Clone, Copy)]
 pub struct Refusal {
     pub number: u32,

@@ -27,7 +27,8 @@ const STREAMS_LENGTH: usize = 7;
 
 const NOISE_LENGTH: usize = 10;
 
-// The edition that a file says it has. One that says none of the three is refused by its contents, which differ from edition 1's.
+// The edition that a file says it has. One that says none of the three is refused by its contents, which differ from edition 1's: each number
+// has an edition here, where a TryFrom would have a case for those that have none.
 fn edition_in(bytes: &[u8]) -> Edition
     ensures { result ≡ spec.edition_in (words_of bytes.now) }
 {
