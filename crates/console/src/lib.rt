@@ -99,7 +99,7 @@ pub fn print_number(rt: &impl Print, n: u64) {
 
 // The words of a refusal, with no end of the line.
 pub fn print_refusal(rt: &impl Print, r: Refusal) {
-    let _ = print!(rt; "refused {} at {}", r.number, r.place);
+    let _ = rt.print(r);
 }
 
 // The line that a program prints of what it cannot read. A name need not be text, so its bytes are written as they are.
