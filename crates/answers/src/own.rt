@@ -12,6 +12,7 @@ use costs::Overheads;
 use names::Row;
 use terms::Gathered;
 
+// Places here and below are a part of the costs, from one up to another, since the part that counts differs from row to row.
 // The largest cost from one place on and before another, or 0 if there is none between: as words of 32 bits, of which several are compared at
 // once.
 fn dearest(costs: &[u64], from: usize, to: usize) -> u64

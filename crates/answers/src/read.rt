@@ -24,7 +24,7 @@ pub(crate) const DEADLINE: usize = 5;
 
 const ACKNOWLEDGEMENT: usize = 6;
 
-// Word w of the stream of row k.
+// Word w of the stream of row k. That a row has a place is asked of a number here and below: a type for it would be taken apart at once.
 pub(crate) fn word_of(words: &[u32; CARRIED], k: usize, w: usize) -> u64
     requires k_lt_streams { k < limit.streams }
     requires w_lt_stream_length { w < layout.stream_length }

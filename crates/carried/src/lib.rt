@@ -347,6 +347,7 @@ pub fn records(words: &[u32; CARRIED], n: usize) -> &[[u32; STREAM]]
     &records[..n.min(STREAMS)]
 }
 
+// The counts here and below are bounded where they are made, by `min`: a type for a bounded count would be made there in the same words.
 fn streams_in(words: &[u32; CARRIED], n: usize) -> [Stream; STREAMS]
     requires { n ≤ limit.streams }
     ensures { result ≡ placed limit.streams no_stream (streams_in n words.now) }
