@@ -3,8 +3,16 @@
 // A thin program: the crate desk fixes each byte that is printed, and showing how a file is read and shown.
 #![tactic(auto)]
 
-use showing::show_input;
+use showing::{Show, show_input};
+
+struct Listing;
+
+impl Show for Listing {
+    fn show(file: &[u8], out: &mut [u8]) -> Option<usize> {
+        desk::show(file, out)
+    }
+}
 
 fn main(rt: HostRuntime) {
-    show_input(&rt, b"listing", rt.stdin(), desk::show);
+    show_input::<Listing>(&rt, b"listing", rt.stdin());
 }

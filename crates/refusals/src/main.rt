@@ -3,8 +3,16 @@
 // A thin program: the crate desk fixes each byte that is printed, and showing how a file is read and shown.
 #![tactic(auto)]
 
-use showing::show_input;
+use showing::{Show, show_input};
+
+struct Refusals;
+
+impl Show for Refusals {
+    fn show(file: &[u8], out: &mut [u8]) -> Option<usize> {
+        desk::show_refusal(file, out)
+    }
+}
 
 fn main(rt: HostRuntime) {
-    show_input(&rt, b"refusals", rt.stdin(), desk::show_refusal);
+    show_input::<Refusals>(&rt, b"refusals", rt.stdin());
 }

@@ -5,8 +5,16 @@
 // is never taken for a plan file, since that has 44 at least (LineIsNoPlan).
 #![tactic(auto)]
 
-use showing::show_input;
+use showing::{Show, show_input};
+
+struct Rewritten;
+
+impl Show for Rewritten {
+    fn show(file: &[u8], out: &mut [u8]) -> Option<usize> {
+        desk::show_file(file, out)
+    }
+}
 
 fn main(rt: HostRuntime) {
-    show_input(&rt, b"rewrite", rt.stdin(), desk::show_file);
+    show_input::<Rewritten>(&rt, b"rewrite", rt.stdin());
 }

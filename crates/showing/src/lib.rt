@@ -18,29 +18,25 @@ fn read_file<'a>(input: &mut impl Read, file: &'a mut [u8]) -> io::Result<&'a [u
     read(input, file)
 }
 
-fn print_shown<F: Fn(&[u8], &mut [u8]) -> Option<usize>>(rt: &impl Print, file: &[u8], show: F)
-    requires { F.IsAlwaysCallable show }
-{
+// What a program shows of a plan file, at the start of a buffer.
+pub trait Show {
+    fn show(file: &[u8], out: &mut [u8]) -> Option<usize>;
+}
+
+fn print_shown<S: Show>(rt: &impl Print, file: &[u8]) {
     // It holds every listing, all waits and every plan file (ListingFits, WaitsFit and FileFits, in desk's claims), and every refusal (LargestRefusal,
     // in text's), so nothing that is shown lacks room.
     let mut out = desk::listing_buffer();
-    if let Some(k) = show(file, &mut out) {
+    if let Some(k) = S::show(file, &mut out) {
         print_first(rt, &out, k);
     }
 }
 
 // Prints what is shown of the file that is read, or that it cannot be read.
-pub fn show_input<F: Fn(&[u8], &mut [u8]) -> Option<usize>>(
-    rt: &impl Print,
-    program: &[u8],
-    mut input: impl Read + Drop,
-    show: F,
-)
-    requires { F.IsAlwaysCallable show }
-{
+pub fn show_input<S: Show>(rt: &impl Print, program: &[u8], mut input: impl Read + Drop) {
     let mut file = desk::file_buffer();
     match read_file(&mut input, &mut file) {
-        Ok(bytes) => print_shown(rt, bytes, show),
+        Ok(bytes) => print_shown::<S>(rt, bytes),
         Err(_) => print_unreadable(rt, program, b"standard input"),
     }
 }

@@ -4,8 +4,16 @@
 // A thin program: the crate desk fixes each byte that is printed, and showing how a file is read and shown.
 #![tactic(auto)]
 
-use showing::show_input;
+use showing::{Show, show_input};
+
+struct Waits;
+
+impl Show for Waits {
+    fn show(file: &[u8], out: &mut [u8]) -> Option<usize> {
+        desk::show_waits(file, out)
+    }
+}
 
 fn main(rt: HostRuntime) {
-    show_input(&rt, b"waits", rt.stdin(), desk::show_waits);
+    show_input::<Waits>(&rt, b"waits", rt.stdin());
 }
