@@ -14,6 +14,7 @@ use Rattle.laws.proofs.Round.{ceil_zero, ceil_mono, ceil_more, ceil_over}
 use Rattle.laws.proofs.Lists.{sum_to_none, sum_to_more, sum_to_le, sum_to_same, sum_to_add, sum_to_mono, sum_to_at_most, sum_to_append}
 use Rattle.laws.proofs.Chain.{Mono}
 use Rattle.analysis.specs.private.Stairs.{stair, height, start, earliest, latest, onward, Stairs, Edges, Gone, NoEdgeBefore, lot, LotEnds, Near, NewNearest, Moved, far}
+use Rattle.analysis.specs.declared.stairs.Climber.{Climber}
 use Rattle.analysis.specs.private.Chains.{side}
 
 -- ---- one stair
@@ -167,18 +168,18 @@ nearest_more edges from k v near next h e f j a l =
     j l a
 
 -- at first none is known, and the earliest is before all
-pub near_start : (edges nearest : List ℕ) (n : ℕ) → n ≤ length nearest * lot → ((k : ℕ) → k < n → earliest ≤ get_or edges k 0)
-    → ((b : ℕ) → b < length nearest → get_or nearest b 0 ≡ earliest) → Near edges nearest n
-near_start edges nearest n h after none = record { long = h; before = λ b k a l g. omega (arith, none b (omega arith), after k g) }
+pub near_start : {R L : ℕ} (c : Climber R L) (n : ℕ) → n ≤ length c.nearest * lot → ((k : ℕ) → k < n → earliest ≤ get_or c.edges k 0)
+    → ((b : ℕ) → b < length c.nearest → get_or c.nearest b 0 ≡ earliest) → Near c n
+near_start c n h after none = record { long = h; before = λ b k a l g. omega (arith, none b (omega arith), after k g) }
 
 -- lot b of n stairs: what is known of its nearest edge
-pub near_lot : (edges nearest : List ℕ) (n b from to : ℕ) → from ≡ b * lot → LotEnds from n to → Near edges nearest n → NoEdgeBefore (get_or nearest b 0) edges from to
-near_lot edges nearest n b from to d e r k a l = r.before b k (omega arith) (omega (arith, e.short)) (omega (arith, e.within))
+pub near_lot : {R L : ℕ} (c : Climber R L) (n b from to : ℕ) → from ≡ b * lot → LotEnds from n to → Near c n → NoEdgeBefore (get_or c.nearest b 0) c.edges from to
+near_lot c n b from to d e r k a l = r.before b k (omega arith) (omega (arith, e.short)) (omega (arith, e.within))
 
 -- .. and after it went on
-pub near_on : (periods edges next nearest found : List ℕ) (n b from to x : ℕ) → from ≡ b * lot → LotEnds from n to → Gone periods edges next from to x → NewNearest next nearest found b from to
-    → Near edges nearest n → Near next found n
-near_on periods edges next nearest found n b from to x s e p f r =
+pub near_on : {R L : ℕ} (periods : List ℕ) (c next : Climber R L) (n b from to x : ℕ) → from ≡ b * lot → LotEnds from n to → Gone periods c.edges next.edges from to x → NewNearest c next b from to
+    → Near c n → Near next n
+near_on periods c next n b from to x s e p f r =
     record {
       long = rw f.long r.long;
       before = λ a k l g m. elim (dec_le from k) [
@@ -190,5 +191,5 @@ near_on periods edges next nearest found n b from to x s e p f r =
       ];
     }
   where
-    other : (a k : ℕ) → a * lot ≤ k → k < a * lot + lot → k < n → (a ≡ b → ⊥) → get_or next k 0 ≡ get_or edges k 0 → get_or found a 0 ≤ get_or next k 0
+    other : (a k : ℕ) → a * lot ≤ k → k < a * lot + lot → k < n → (a ≡ b → ⊥) → get_or next.edges k 0 ≡ get_or c.edges k 0 → get_or next.nearest a 0 ≤ get_or next.edges k 0
     other a k l g m d s = rw (f.others a d, s) (r.before a k l g m)

@@ -12,6 +12,7 @@ use Rattle.laws.proofs.Lists.{sum_to_append, sum_to_same, sum_rows, sum_times}
 use Rattle.bound.specs.Bound.{demand, E}
 use Rattle.terms.specs.Gathered.{Lent, terms_of, share_at, gap_of, cost}
 use Rattle.analysis.specs.private.Stairs.{start, earliest, stair, height, Stairs, Edges, lot, Near, StreamsStarted, SourcesStarted, Started}
+use Rattle.analysis.specs.declared.stairs.Climber.{Climber}
 use Rattle.analysis.specs.private.Chains.{MakesUp}
 use Rattle.terms.specs.Fit.{Fit}
 use Rattle.analysis.proofs.Climbing.{near_start}
@@ -27,11 +28,11 @@ by_place : {P : Type 0} (sources urgent k : ℕ) → k < sources + urgent → (k
 by_place sources urgent k h a b = elim (dec_le sources k) [ yes l ↦ b (k - sources) (omega arith) (omega arith) | no l ↦ a (lt_of_not-le l) ]
 
 -- no stair starts so early as the earliest
-pub started_near : (jitters : List ℕ) (sources urgent late window : ℕ) (r nearest : List ℕ) → late ≤ cost → window ≤ cost → ((k : ℕ) → k < urgent → get_or jitters k 0 ≤ ticks)
-    → Started jitters sources urgent late window r → sources + urgent ≤ length nearest * lot → ((b : ℕ) → b < length nearest → get_or nearest b 0 ≡ earliest)
-    → Near r nearest (sources + urgent)
-started_near jitters sources urgent late window r nearest p q small s room none =
-    near_start r nearest (sources + urgent) room
+pub started_near : {R L : ℕ} (jitters : List ℕ) (sources urgent late window : ℕ) (c : Climber R L) → late ≤ cost → window ≤ cost → ((k : ℕ) → k < urgent → get_or jitters k 0 ≤ ticks)
+    → Started jitters sources urgent late window c.edges → sources + urgent ≤ length c.nearest * lot → ((b : ℕ) → b < length c.nearest → get_or c.nearest b 0 ≡ earliest)
+    → Near c (sources + urgent)
+started_near jitters sources urgent late window c p q small s room none =
+    near_start c (sources + urgent) room
     (λ k h. by_place sources urgent k h (λ l. rw (s.source k l) (omega arith)) (λ j l e. rw (e, s.stream j l) (omega (arith, small j l))))
     none
 

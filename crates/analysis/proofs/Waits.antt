@@ -23,6 +23,7 @@ use Rattle.bound.proofs.Largest.{some_instance}
 use Rattle.bound.proofs.Instances.{room, settles, w_exists, w_rises, side_W_suc}
 use Rattle.terms.specs.Gathered.{Lent, terms_of}
 use Rattle.analysis.specs.declared.searches.Reached.{Reached}
+use Rattle.analysis.specs.declared.stairs.Climber.{Climber}
 use Rattle.analysis.specs.private.Stairs.{Near}
 use Rattle.analysis.specs.private.Chains.{side, rest_W, alone_terms, MakesUp, RestKept, Bounded, Settled, larger_of}
 use Rattle.analysis.proofs.Chains.{kept_start, kept_up}
@@ -132,13 +133,13 @@ worst_more f q best z k e =
     }
 
 -- ---- what is kept from instance to instance: the wait of q, the edges where it came to, and the worst so far
-pub record WaitsTo (r : Terms) (L : ℕ) (costs periods edges nearest : List ℕ) (n q base wait : ℕ) (best : Reached) : Type 0 where
+pub record WaitsTo {R K : ℕ} (r : Terms) (L : ℕ) (costs periods : List ℕ) (c : Climber R K) (n q base wait : ℕ) (best : Reached) : Type 0 where
   pub counts : q < Q r L
   pub based : base ≡ r.B + q * r.own.C''
   pub is : wait ≡ w r q
-  pub kept : RestKept costs periods edges n (rest_W r) wait (wait - base)
+  pub kept : RestKept costs periods c.edges n (rest_W r) wait (wait - base)
   pub worst : WorstTo (term r) q best
-  pub near : Near edges nearest n
+  pub near : Near c n
 
 -- ---- nobody else on the channel
 pub alone_terms_lem : (t : Lent) → t.row.urgent ≡ 0 → t.row.sources ≡ 0 → terms_of t ≡ alone_terms t.row

@@ -13,7 +13,7 @@ ghost use Rattle.analysis.specs.private.Stairs.{lot, Room, Stand, Near};
 ghost use Rattle.analysis.specs.private.Chains.{OwnKept, own_l, EndsAs, no_bound, Bounded, side, Settled, larger_of};
 
 use crate::fitting::Fitting;
-use crate::stairs::{LOT, START, climbed, periods_past, start};
+use crate::stairs::{Climber, LOT, START, periods_past};
 use bound::{Answer, Searched, Verdict};
 use names::{FEW, SOURCES, TICKS};
 use terms::STAIRS;
@@ -65,61 +65,6 @@ pub(crate) struct Ended {
     pub(crate) evaluations: u64,
 }
 
-// The chain for L: from 1, one evaluation of the right side a turn. The stairs come before i's own: measured, that is faster.
-fn busy_period(fitting: Fitting, edges: &mut [u64], nearest: &mut [u64]) -> Ended
-    requires { Room (stairs_in fitting) edges.old nearest.old }
-    ensures { EndsAs (terms_in fitting.entry) result }
-{
-    start(fitting, 0, 0, edges, nearest);
-    let mut own = own_start(fitting);
-    let mut rest: u64 = 0;
-    let mut x = FIRST;
-    let mut evaluations: u64 = 0;
-    while x <= TICKS {
-        rest = climbed(fitting, x + START, edges, nearest, rest);
-        own = own_at(fitting, own, x);
-        let y = own.sum + rest;
-        evaluations += 1;
-        if y == x {
-            return Ended {
-                busy: Some(y),
-                evaluations,
-            };
-        }
-        x = y;
-    }
-    Ended {
-        busy: None,
-        evaluations,
-    }
-}
-
-// The least fixed point from `from` on of base + sum + what the stairs rise by: w(q), once it is known not to be below.
-fn settled(
-    fitting: Fitting,
-    base: u64,
-    from: u64,
-    sum: u64,
-    edges: &mut [u64],
-    nearest: &mut [u64],
-) -> u64
-    requires stand { Stand fitting.terms.costs.now fitting.terms.periods.now edges.old nearest.old (stairs_in fitting) }
-    requires bounded { Bounded (side fitting.terms.costs.now fitting.terms.periods.now edges.old (stairs_in fitting) base sum) from }
-    ensures settled { Settled fitting.entry.terms.costs.now fitting.entry.terms.periods.now edges.old edges.new (stairs_in fitting.entry) base sum from result }
-    ensures near { Near edges.new nearest.new (stairs_in fitting.entry) }
-{
-    let mut x = from;
-    let mut total = sum;
-    loop {
-        total = climbed(fitting, x + START, edges, nearest, total);
-        let y = base + total;
-        if y == x {
-            return x;
-        }
-        x = y;
-    }
-}
-
 // a - b, which may be below zero.
 pub(crate) fn term(a: u64, b: u64) -> i64
     requires a_bound { a < 2 ^ 63 }
@@ -154,41 +99,6 @@ fn instances(l: u64, jitter: u64, period: u64) -> u64
     (l + jitter).div_ceil(period)
 }
 
-// What the largest term J + w(q) + C'' - q * T gives, and the first q that has it. The search for w(q + 1) starts at w(q) + C'', with the
-// edges where they are.
-fn worst(fitting: Fitting, l: u64, edges: &mut [u64], nearest: &mut [u64], deadline: u64) -> Answer
-    requires busy { rule.busy (terms_in fitting) ≡ Some l }
-    requires room { Room (stairs_in fitting) edges.old nearest.old }
-    ensures { result ≡ rule.answer (terms_in fitting.entry) deadline }
-{
-    let row = fitting.terms.row;
-    start(fitting, row.late + 1, row.cost, edges, nearest);
-    let count = instances(l, row.jitter, row.period);
-    let ends = row.jitter + row.last;
-    let cost = row.cost;
-    let mut base = row.blocking;
-    let mut wait = settled(fitting, base, 0, 0, edges, nearest);
-    let first = term(ends + wait, 0);
-    let mut best = Reached {
-        term: first,
-        instance: 0,
-    };
-    for q in 1..count {
-        let sum = wait - base;
-        base += cost;
-        wait = settled(fitting, base, wait + cost, sum, edges, nearest);
-        let next = term(ends + wait, q * row.period);
-        best = larger(
-            best,
-            Reached {
-                term: next,
-                instance: q,
-            },
-        );
-    }
-    judged(best.term as u64, best.instance, deadline)
-}
-
 pub(crate) fn judged(bound: u64, instance: u64, deadline: u64) -> Answer
     ensures { result ≡ record { verdict = rule.verdict bound deadline; bound = bound; instance = instance } }
 {
@@ -220,22 +130,109 @@ pub(crate) fn no_bound(evaluations: u64) -> Searched
     }
 }
 
-// The answer among other streams and noise sources, in rooms that are set before they are read.
-fn search(fitting: Fitting, edges: &mut [u64], nearest: &mut [u64], deadline: u64) -> Searched
-    requires { Room (stairs_in fitting) edges.old nearest.old }
-    ensures { result ≡ searched (terms_in fitting.entry) deadline }
-{
-    let ended = busy_period(fitting, edges, nearest);
-    match ended.busy {
-        Some(l) => {
-            let answer = worst(fitting, l, edges, nearest, deadline);
-            Searched {
-                answer,
-                evaluations: ended.evaluations,
-                x: l,
+impl<const ROOM: usize, const LOTS_ROOM: usize> Climber<ROOM, LOTS_ROOM> {
+    // The chain for L: from 1, one evaluation of the right side a turn. The stairs come before i's own: measured, that is faster.
+    fn busy_period(&mut self, fitting: Fitting) -> Ended
+        requires { Room ROOM LOTS_ROOM (stairs_in fitting) }
+        ensures { EndsAs (terms_in fitting.entry) result }
+    {
+        self.start(fitting, 0, 0);
+        let mut own = own_start(fitting);
+        let mut rest: u64 = 0;
+        let mut x = FIRST;
+        let mut evaluations: u64 = 0;
+        while x <= TICKS {
+            rest = self.climbed(fitting, x + START, rest);
+            own = own_at(fitting, own, x);
+            let y = own.sum + rest;
+            evaluations += 1;
+            if y == x {
+                return Ended {
+                    busy: Some(y),
+                    evaluations,
+                };
             }
+            x = y;
         }
-        None => no_bound(ended.evaluations),
+        Ended {
+            busy: None,
+            evaluations,
+        }
+    }
+
+    // The least fixed point from `from` on of base + sum + what the stairs rise by: w(q), once it is known not to be below.
+    fn settled(&mut self, fitting: Fitting, base: u64, from: u64, sum: u64) -> u64
+        requires stand { Stand fitting.terms.costs.now fitting.terms.periods.now self.old (stairs_in fitting) }
+        requires bounded { Bounded (side fitting.terms.costs.now fitting.terms.periods.now self.old.edges (stairs_in fitting) base sum) from }
+        ensures settled { Settled fitting.entry.terms.costs.now fitting.entry.terms.periods.now self.old.edges self.new.edges (stairs_in fitting.entry) base sum from result }
+        ensures near { Near self.new (stairs_in fitting.entry) }
+    {
+        let mut x = from;
+        let mut total = sum;
+        loop {
+            total = self.climbed(fitting, x + START, total);
+            let y = base + total;
+            if y == x {
+                return x;
+            }
+            x = y;
+        }
+    }
+
+    // What the largest term J + w(q) + C'' - q * T gives, and the first q that has it. The search for w(q + 1) starts at w(q) + C'', with the
+    // edges where they are.
+    fn worst(&mut self, fitting: Fitting, l: u64, deadline: u64) -> Answer
+        requires busy { rule.busy (terms_in fitting) ≡ Some l }
+        requires room { Room ROOM LOTS_ROOM (stairs_in fitting) }
+        ensures { result ≡ rule.answer (terms_in fitting.entry) deadline }
+    {
+        let row = fitting.terms.row;
+        self.start(fitting, row.late + 1, row.cost);
+        let count = instances(l, row.jitter, row.period);
+        let ends = row.jitter + row.last;
+        let cost = row.cost;
+        let mut base = row.blocking;
+        let mut wait = self.settled(fitting, base, 0, 0);
+        let first = term(ends + wait, 0);
+        let mut best = Reached {
+            term: first,
+            instance: 0,
+        };
+        for q in 1..count {
+            let sum = wait - base;
+            base += cost;
+            wait = self.settled(fitting, base, wait + cost, sum);
+            let next = term(ends + wait, q * row.period);
+            best = larger(
+                best,
+                Reached {
+                    term: next,
+                    instance: q,
+                },
+            );
+        }
+        judged(best.term as u64, best.instance, deadline)
+    }
+
+    // The answer among other streams and noise sources, in rooms that are set before they are read. It stays a function of its own: measured,
+    // the chains run slower where the searches of both rooms stand in one.
+    #[inline(never)]
+    fn search(&mut self, fitting: Fitting, deadline: u64) -> Searched
+        requires { Room ROOM LOTS_ROOM (stairs_in fitting) }
+        ensures { result ≡ searched (terms_in fitting.entry) deadline }
+    {
+        let ended = self.busy_period(fitting);
+        match ended.busy {
+            Some(l) => {
+                let answer = self.worst(fitting, l, deadline);
+                Searched {
+                    answer,
+                    evaluations: ended.evaluations,
+                    x: l,
+                }
+            }
+            None => no_bound(ended.evaluations),
+        }
     }
 }
 
@@ -246,9 +243,11 @@ fn answer_in<const ROOM: usize, const LOTS_ROOM: usize>(fitting: Fitting, deadli
     requires few { ROOM ≤ most }
     ensures { result ≡ searched (terms_in fitting.entry) deadline }
 {
-    let mut edges = [0; ROOM];
-    let mut nearest = [0; LOTS_ROOM];
-    search(fitting, &mut edges, &mut nearest, deadline)
+    let mut climber = Climber {
+        edges: [0; ROOM],
+        nearest: [0; LOTS_ROOM],
+    };
+    climber.search(fitting, deadline)
 }
 
 // The answer among other streams and noise sources. Few stairs have small rooms.

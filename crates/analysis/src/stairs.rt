@@ -90,64 +90,6 @@ fn lot_at(
     Lot { total, nearest }
 }
 
-// Lot b goes on to x. Where its nearest edge is not passed none of its stairs rises, and it is not looked at.
-fn climbed_lot(
-    fitting: Fitting,
-    x: u64,
-    b: usize,
-    from: usize,
-    to: usize,
-    edges: &mut [u64],
-    nearest: &mut [u64],
-    sum: u64,
-) -> u64
-    requires due { Due fitting.terms.costs.now fitting.terms.periods.now edges.old from to x sum }
-    requires b_in_bounds { b < length nearest.old }
-    requires no_edge_before { NoEdgeBefore (get_or nearest.old b 0) edges.old from to }
-    ensures risen { Risen fitting.entry.terms.costs.now fitting.entry.terms.periods.now edges.old edges.new from to x sum result }
-    ensures new_nearest { NewNearest edges.new nearest.old nearest.new b from to }
-{
-    if x <= nearest[b] {
-        return sum;
-    }
-    let lot = lot_at(
-        x,
-        from,
-        to,
-        fitting.terms.costs,
-        fitting.terms.periods,
-        edges,
-        sum,
-    );
-    nearest[b] = lot.nearest;
-    lot.total
-}
-
-// One evaluation: `sum` and what the stairs rise by up to x. A lot starts where the one before it ended: measured, that is faster than `b * LOT`.
-pub(crate) fn climbed(
-    fitting: Fitting,
-    x: u64,
-    edges: &mut [u64],
-    nearest: &mut [u64],
-    sum: u64,
-) -> u64
-    requires due { Due fitting.terms.costs.now fitting.terms.periods.now edges.old 0 (stairs_in fitting) x sum }
-    requires near { Near edges.old nearest.old (stairs_in fitting) }
-    ensures value { result ≡ sum + height fitting.entry.terms.costs.now fitting.entry.terms.periods.now edges.old (stairs_in fitting.entry) x }
-    ensures moved { Moved fitting.entry.terms.costs.now fitting.entry.terms.periods.now edges.old edges.new (stairs_in fitting.entry) x }
-    ensures near_2 { Near edges.new nearest.new (stairs_in fitting.entry) }
-{
-    let n = fitting.stairs();
-    let mut total = sum;
-    let mut from = 0;
-    for b in 0..n.div_ceil(LOT) {
-        let to = n.min(from + LOT);
-        total = climbed_lot(fitting, x, b, from, to, edges, nearest, total);
-        from = to;
-    }
-    total
-}
-
 // A noise source's stair starts `window` before time's start.
 fn start_sources(n: usize, window: u64, edges: &mut [u64])
     requires n_in_bounds { n ≤ length edges.old }
@@ -170,22 +112,77 @@ fn start_streams(fitting: Fitting, late: u64, edges: &mut [u64])
     }
 }
 
-// Where all stairs start: those of the noise sources, and the streams' after them. Of no lot is the nearest edge known: 0 would do as well,
-// but a few zeros are cleared by a call that takes longer than they do.
-pub(crate) fn start(
-    fitting: Fitting,
-    late: u64,
-    window: u64,
-    edges: &mut [u64],
-    nearest: &mut [u64],
-)
-    requires late_le_cost { late ≤ cost }
-    requires window_le_cost { window ≤ cost }
-    requires room { Room (stairs_in fitting) edges.old nearest.old }
-    ensures started { Started fitting.entry.terms.jitters.now fitting.entry.terms.row.sources fitting.entry.terms.row.urgent late window edges.new }
-    ensures near { Near edges.new nearest.new (stairs_in fitting.entry) }
-{
-    start_sources(fitting.terms.row.sources, window, edges);
-    start_streams(fitting, late, edges);
-    nearest.fill(EARLIEST);
+// How far the stairs have gone on: the edge of each, and of each lot one that none of its own is before.
+#[derive(Drop)]
+pub(crate) struct Climber<const ROOM: usize, const LOTS_ROOM: usize> {
+    pub(crate) edges: [u64; ROOM],
+    pub(crate) nearest: [u64; LOTS_ROOM],
+}
+
+impl<const ROOM: usize, const LOTS_ROOM: usize> Climber<ROOM, LOTS_ROOM> {
+    // Where all stairs start: those of the noise sources, and the streams' after them. Of no lot is the nearest edge known: 0 would do as well,
+    // but a few zeros are cleared by a call that takes longer than they do.
+    pub(crate) fn start(&mut self, fitting: Fitting, late: u64, window: u64)
+        requires late_le_cost { late ≤ cost }
+        requires window_le_cost { window ≤ cost }
+        requires room { Room ROOM LOTS_ROOM (stairs_in fitting) }
+        ensures started { Started fitting.entry.terms.jitters.now fitting.entry.terms.row.sources fitting.entry.terms.row.urgent late window self.new.edges }
+        ensures near { Near self.new (stairs_in fitting.entry) }
+    {
+        start_sources(fitting.terms.row.sources, window, &mut self.edges);
+        start_streams(fitting, late, &mut self.edges);
+        self.nearest.fill(EARLIEST);
+    }
+
+    // Lot b goes on to x. Where its nearest edge is not passed none of its stairs rises, and it is not looked at.
+    fn climbed_lot(
+        &mut self,
+        fitting: Fitting,
+        x: u64,
+        b: usize,
+        from: usize,
+        to: usize,
+        sum: u64,
+    ) -> u64
+        requires due { Due fitting.terms.costs.now fitting.terms.periods.now self.old.edges from to x sum }
+        requires b_in_bounds { b < length self.old.nearest }
+        requires no_edge_before { NoEdgeBefore (get_or self.old.nearest b 0) self.old.edges from to }
+        ensures risen { Risen fitting.entry.terms.costs.now fitting.entry.terms.periods.now self.old.edges self.new.edges from to x sum result }
+        ensures new_nearest { NewNearest self.old self.new b from to }
+    {
+        if x <= self.nearest[b] {
+            return sum;
+        }
+        let lot = lot_at(
+            x,
+            from,
+            to,
+            fitting.terms.costs,
+            fitting.terms.periods,
+            &mut self.edges,
+            sum,
+        );
+        self.nearest[b] = lot.nearest;
+        lot.total
+    }
+
+    // One evaluation: `sum` and what the stairs rise by up to x. A lot starts where the one before it ended: measured, that is faster than
+    // `b * LOT`.
+    pub(crate) fn climbed(&mut self, fitting: Fitting, x: u64, sum: u64) -> u64
+        requires due { Due fitting.terms.costs.now fitting.terms.periods.now self.old.edges 0 (stairs_in fitting) x sum }
+        requires near { Near self.old (stairs_in fitting) }
+        ensures value { result ≡ sum + height fitting.entry.terms.costs.now fitting.entry.terms.periods.now self.old.edges (stairs_in fitting.entry) x }
+        ensures moved { Moved fitting.entry.terms.costs.now fitting.entry.terms.periods.now self.old.edges self.new.edges (stairs_in fitting.entry) x }
+        ensures near_2 { Near self.new (stairs_in fitting.entry) }
+    {
+        let n = fitting.stairs();
+        let mut total = sum;
+        let mut from = 0;
+        for b in 0..n.div_ceil(LOT) {
+            let to = n.min(from + LOT);
+            total = self.climbed_lot(fitting, x, b, from, to, total);
+            from = to;
+        }
+        total
+    }
 }

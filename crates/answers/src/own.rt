@@ -1,18 +1,18 @@
 // A row's own terms: what it is itself, and what those before it and behind it are to it.
 ghost use Rattle.std.specs.Prelude.{◌≡◌, ℕ, ◌+◌, ◌-◌, ◌≤◌, ◌<◌, length, get_or};
-ghost use Rattle.laws.specs.Ranks.{rank};
 ghost use Rattle.terms.specs.Gathered.{cost};
 ghost use Rattle.plan.specs.Rules.{self_or_slotted, airtime};
-ghost use Rattle.costs.specs.Costs.{Overhead};
 ghost use Rattle.carried.specs.Carried.{timing_in};
-ghost use Rattle.answers.specs.private.Gather.{urgency, PlacesWithin, largest_in, Cheapest, Ordered, RowOf};
+ghost use Rattle.answers.specs.private.Gather.{largest_in, Cheapest, Ordered, RowOf};
+ghost use Rattle.answers.specs.private.FinePlan.{seat};
 
+use crate::fine::FinePlan;
 use crate::read::{JITTER, PERIOD, whole_of, word_of};
-use carried::CARRIED;
 use costs::Overheads;
 use names::Row;
 use terms::Gathered;
 
+// Places here and below are a part of the costs, from one up to another, since the part that counts differs from row to row.
 // The largest cost from one place on and before another, or 0 if there is none between: as words of 32 bits, of which several are compared at
 // once.
 fn dearest(costs: &[u64], from: usize, to: usize) -> u64
@@ -55,38 +55,28 @@ fn blocking(over: Overheads, behind: u64) -> u64
 }
 
 // The own terms of a row, where the costs of all streams stand in order after m noise sources.
-pub(crate) fn gathered(
-    words: &[u32; CARRIED],
-    n: usize,
-    m: usize,
-    over: Overheads,
-    row: Row,
-    place: usize,
-    costs: &[u64],
-) -> Gathered
-    requires places_within { PlacesWithin words.now n m }
-    requires overhead { Overhead (timing_in words.now) over }
-    requires row_lt_n { row.0 < n }
-    requires place_value { place ≡ rank (urgency words.now) n row.0 }
-    requires ordered { Ordered (airtime (timing_in words.now)) words.now n m n costs.now }
-    ensures { RowOf words.now n m row.0 result }
+pub(crate) fn gathered(fine: FinePlan, row: Row, place: usize, costs: &[u64]) -> Gathered
+    requires row_lt_n { row.0 < fine.n }
+    requires place_value { place ≡ seat fine row.0 }
+    requires ordered { Ordered (airtime (timing_in fine.words.now)) fine.words.now fine.n fine.m fine.n costs.now }
+    ensures { RowOf fine.entry.words.now fine.entry.n fine.entry.m row.0 result }
 {
     let k = row.0;
-    let here = m + place;
-    let hit = dearest(costs, m, here + 1);
-    let behind = dearest(costs, here + 1, m + n);
-    let period = word_of(words, k, PERIOD);
-    let jitter = word_of(words, k, JITTER);
-    let last = whole_of(words, k, over);
+    let here = fine.m + place;
+    let hit = dearest(costs, fine.m, here + 1);
+    let behind = dearest(costs, here + 1, fine.m + fine.n);
+    let period = word_of(fine.words, k, PERIOD);
+    let jitter = word_of(fine.words, k, JITTER);
+    let last = whole_of(fine, k);
     Gathered {
-        blocking: blocking(over, behind),
+        blocking: blocking(fine.over, behind),
         cost: costs[here],
         period,
         jitter,
         urgent: place,
-        sources: m,
+        sources: fine.m,
         hit,
-        late: over.late,
+        late: fine.over.late,
         last,
     }
 }

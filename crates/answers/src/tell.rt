@@ -9,7 +9,7 @@ use bound::{Answer, Searched, Wait};
 use names::Row;
 use row_words::{WORDS_PER_ROW, WORDS_PER_WAIT, put_answer, put_wait};
 
-// What is told, by the type of it.
+// What is told, by the type of it. This module is private, so no caller outside can name the trait or meet what its methods require.
 pub trait Tell {
     ghost told: { Told };
 

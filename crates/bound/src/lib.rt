@@ -12,7 +12,8 @@ pub enum Verdict {
     None,
 }
 
-// A row's answer: its verdict, its bound, and the instance that gives it. Where there is no bound, both numbers are 0.
+// A row's answer: its verdict, its bound, and the instance that gives it. Where there is no bound, both numbers are 0. They stand beside the
+// verdict and not in its cases, since lent words may have any numbers beside any verdict and are handed back as they stand (row_words).
 #[derive(Clone, Copy)]
 pub struct Answer {
     pub verdict: Verdict,

@@ -72,6 +72,19 @@ pub const SLOT: usize = TIMING - 1;
 // The words of the largest plan.
 pub const CARRIED: usize = TIMING + STREAM * STREAMS + SOURCES;
 
+// The number that a file says its edition by.
+impl From<Edition> for u32 {
+    ghost from_gives = { λ edition number. number ≡ layout.edition_number edition };
+
+    fn from(edition: Edition) -> u32 {
+        match edition {
+            Edition::One => 1,
+            Edition::Two => 2,
+            Edition::Three => 3,
+        }
+    }
+}
+
 // How many timing words a file has.
 pub fn timing_body(edition: Edition) -> usize
     ensures value { result ≡ layout.timing_body edition }
@@ -334,6 +347,7 @@ pub fn records(words: &[u32; CARRIED], n: usize) -> &[[u32; STREAM]]
     &records[..n.min(STREAMS)]
 }
 
+// The counts here and below are bounded where they are made, by `min`: a type for a bounded count would be made there in the same words.
 fn streams_in(words: &[u32; CARRIED], n: usize) -> [Stream; STREAMS]
     requires { n ≤ limit.streams }
     ensures { result ≡ placed limit.streams no_stream (streams_in n words.now) }

@@ -54,7 +54,7 @@ fn repeat_in<const R: usize>(words: &[u32; CARRIED], n: usize, k: usize) -> Opti
     first_repeat(&column[..n])
 }
 
-// Few rows have a small room.
+// Few rows have a small room. The count is bounded by its callers, by `min`: a type for that would be no plainer.
 fn repeat_of(words: &[u32; CARRIED], n: usize, k: usize) -> Option<Row>
     requires n_le_streams { n ≤ limit.streams }
     requires k_lt_stream_length { k < layout.stream_length }

@@ -87,6 +87,8 @@ pub fn print(rt: &impl Print, bytes: &[u8]) {
     let _ = rt.write_all(bytes);
 }
 
+// A text comes as how many bytes it has in a lent buffer, not as a slice: what stays of the buffer is promised too, and a slice would keep it
+// borrowed.
 pub fn print_first(rt: &impl Print, bytes: &[u8], k: usize) {
     print(rt, first(bytes, k));
 }
@@ -97,7 +99,7 @@ pub fn print_number(rt: &impl Print, n: u64) {
 
 // The words of a refusal, with no end of the line.
 pub fn print_refusal(rt: &impl Print, r: Refusal) {
-    let _ = print!(rt; "refused {} at {}", r.number, r.place);
+    let _ = rt.print(r);
 }
 
 // The line that a program prints of what it cannot read. A name need not be text, so its bytes are written as they are.

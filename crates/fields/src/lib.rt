@@ -83,7 +83,8 @@ fn largest_priority(nb: u32) -> u32
     ((1u64 << nb) - 1) as u32
 }
 
-// The streams, which all have one row of limits. Every word is a label.
+// The streams, which all have one row of limits. Every word is a label. Their count and that of the gaps are bounded by `outside`, by `min`: a
+// type for that would be no plainer.
 fn streams_outside(words: &[u32; CARRIED], n: usize, nb: u32) -> Option<u64>
     requires n_le_streams { n ≤ limit.streams }
     requires nb_le_bits { nb ≤ limit.bits }

@@ -17,21 +17,11 @@ pub fn size(edition: Edition, n: u16, m: u16) -> usize
     WORD * (CONTENTS + (record_at(edition, n) + m as usize))
 }
 
-fn number_of(edition: Edition) -> u32
-    ensures { result ≡ layout.edition_number edition }
-{
-    match edition {
-        Edition::One => 1,
-        Edition::Two => 2,
-        Edition::Three => 3,
-    }
-}
-
 // The contents of a file of n streams and m noise sources.
 pub fn contents(edition: Edition, n: u16, m: u16) -> [u32; CONTENTS]
     ensures { result ≡ spec.contents edition n m }
 {
-    let number = number_of(edition);
+    let number = u32::from(edition);
     let timing = timing_body(edition);
     let entries = 3;
     let noise = record_at(edition, n);

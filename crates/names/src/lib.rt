@@ -2,8 +2,12 @@
 //
 // A priority decides a tournament, a row is a place in the plan (from 0), a label is what is painted on
 // the node. Each is a struct of one number, so the build refuses one where another is wanted.
-// There is no function here, nothing is assumed, and this crate knows of no other.
+// There is no function here but what prints a refusal, nothing is assumed, and this crate knows of no other.
 #![tactic(auto)]
+
+ghost use Rattle.std.specs.Prelude.{Some, ◌++◌, codes, decimal};
+
+use std::fmt;
 
 // A smaller priority is the more urgent one: bit 0 is dominant.
 #[repr(C)]
@@ -19,11 +23,21 @@ pub struct Row(pub usize);
 #[derive(Clone, Copy)]
 pub struct Label(pub u32);
 
-// Why the answer is no: the number of document 01's table, and the place that its last column names.
+// Why the answer is no: the number of document 01's table, and the place that its last column names. The number is no enum of the table's
+// lines, since whoever makes or shows a refusal answers for every number.
 #[derive(Clone, Copy)]
 pub struct Refusal {
     pub number: u32,
     pub place: usize,
+}
+
+// The words of a refusal, with no end of the line. Whether they are written is the writer's to say.
+impl fmt::Display for Refusal {
+    ghost output = { λ r. Some (codes "refused " ++ decimal r.number ++ codes " at " ++ decimal r.place) };
+
+    fn fmt<W: fmt::Write>(&self, f: &mut fmt::Formatter<W>) -> fmt::Result {
+        write!(f, "refused {} at {}", self.number, self.place)
+    }
 }
 
 // The most streams, the most in a file of edition 1 or 2, the most noise sources and contenders.

@@ -1,4 +1,5 @@
-// What C calls: each export calls the function of `outside` that has its name, and promises what that promises.
+// What C calls: each export calls the function of `outside` that has its name, and promises what that promises. C links the exports of a
+// static library, and Rust and the tests call the functions of `outside`, so each stands in both.
 #![tactic(auto)]
 
 ghost use Rattle.std.specs.Prelude.{◌≡◌};

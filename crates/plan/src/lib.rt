@@ -34,7 +34,8 @@ pub struct Stream {
     pub acknowledgement: u32,
 }
 
-// A plan's values in places of fixed number: the first `count` streams and the first `sources` gaps are the plan.
+// A plan's values in places of fixed number: the first `count` streams and the first `sources` gaps are the plan. There is no heap, and a sheet
+// is handed on whole, so the counts stand beside the places.
 #[derive(Clone, Copy)]
 pub struct Sheet {
     pub timing: Timing,

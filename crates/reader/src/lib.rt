@@ -27,7 +27,8 @@ const STREAMS_LENGTH: usize = 7;
 
 const NOISE_LENGTH: usize = 10;
 
-// The edition that a file says it has. One that says none of the three is refused by its contents, which differ from edition 1's.
+// The edition that a file says it has. One that says none of the three is refused by its contents, which differ from edition 1's: each number
+// has an edition here, where a TryFrom would have a case for those that have none.
 fn edition_in(bytes: &[u8]) -> Edition
     ensures { result ≡ spec.edition_in (words_of bytes.now) }
 {
@@ -38,7 +39,8 @@ fn edition_in(bytes: &[u8]) -> Edition
     }
 }
 
-// Whether the eleven contents words are those of a file of n streams and m noise sources.
+// Whether the eleven contents words are those of a file of n streams and m noise sources. These and those of the two functions below are counts
+// that check_counts has called fine: a type for that would be made at one place and taken apart at these three, and is no plainer.
 fn contents_in(bytes: &[u8], counts: Counts) -> bool
     requires n_le_streams { counts.n ≤ limit.streams }
     requires m_le_sources { counts.m ≤ limit.sources }

@@ -25,7 +25,8 @@ fn show(rt: &impl Print, text: &[u8]) {
     }
 }
 
-// Each tournament of a text, parted by a blank line.
+// Each tournament of a text, parted by a blank line. The first is shown even where it has no word and a later one only where it has some, so an
+// iterator over the parts would need both tests again and be no plainer.
 fn show_all(rt: &impl Print, text: &[u8]) {
     let (one, mut rest) = text.split_at(first_end(text));
     show(rt, one);

@@ -122,7 +122,7 @@ fn lay_winner(out: &mut [u8], at: usize, priorities: [Priority; CONTENDERS], pha
     }
 }
 
-// The winner's priority; 0 where there is no winner.
+// The winner's priority; 0 where there is no winner, which no start comes to, so that an Option would have to be taken apart for nothing.
 fn winning(priorities: [Priority; CONTENDERS], phase: Phase) -> Priority
     ensures { result ≡ won_with priorities phase }
 {
@@ -132,7 +132,8 @@ fn winning(priorities: [Priority; CONTENDERS], phase: Phase) -> Priority
     }
 }
 
-// The bit at which a contender goes silent: where its priority parts from the winner's. The winner's own is no bit's number.
+// The bit at which a contender goes silent: where its priority parts from the winner's. The winner's own is 0, no bit's number: an Option would
+// only be held against Some(k) at the one call.
 fn silent_bit(bits: u32, p: Priority, won: Priority) -> u32
     ensures { result ≡ silent_bit bits p won }
 {

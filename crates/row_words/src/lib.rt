@@ -95,7 +95,8 @@ pub fn answer_in(words: &[u64], row: Row) -> Answer
     }
 }
 
-// A row's wait from its words; 0 and 0 where they are not all there.
+// A row's wait from its words; 0 and 0 where they are not all there, which is what their line shows: an Option would be told the same there.
+// It is not one function with the above: they share where the words stand, which is std's, and nothing that is made of them.
 pub fn wait_in(words: &[u64], row: Row) -> Wait
     ensures { result ≡ laid.wait_at words.now row.0 }
 {

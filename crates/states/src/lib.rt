@@ -64,7 +64,8 @@ pub fn marks_into(marks: [bool; CONTENDERS], out: &mut [u8])
     out[..n].copy_from_slice(&bytes[..n]);
 }
 
-// Only contenders are marked out, and whatever stands for in stays: a state that is handed back unchanged keeps its bytes.
+// Only contenders are marked out, and whatever stands for in stays: a state that is handed back unchanged keeps its bytes. They are written by
+// index, since a proof knows nothing of what is written through `iter_mut().zip()` but how many places there are.
 pub fn mark_out(count: usize, marks: [bool; CONTENDERS], out: &mut [u8])
     ensures { out.new ≡ marked_out count marks out.old }
 {

@@ -1,7 +1,7 @@
 // The listing as text: numbers, labels, and the whole listing or a refusal's line, into a lent buffer.
 //
 // Every public function answers for every input, and its contract fixes each byte of the buffer. What is put is there whole,
-// or is answered `Full` and leaves the buffer as it was; what is laid is there as far as there is room, so that texts can be
+// or is answered `None` and leaves the buffer as it was; what is laid is there as far as there is room, so that texts can be
 // laid one after the other and measured before they are put. Nothing is assumed. This crate must not know of files, of
 // checks, or of how an answer comes about.
 #![tactic(auto)]

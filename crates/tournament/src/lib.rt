@@ -41,7 +41,8 @@ fn heard(t: Tournament, k: u32) -> bool
         .any(|(mark, p)| *mark && bit(*p, bits, k) == 0)
 }
 
-// The marks once every contender with a 1 at bit k is marked out.
+// The marks once every contender with a 1 at bit k is marked out. They are written by index, since a proof knows nothing of what is written
+// through `iter_mut().zip()` but how many places there are.
 fn silenced(t: Tournament, k: u32) -> [bool; CONTENDERS]
     requires { AtABit t k }
     ensures { result ≡ silenced_at t k }
@@ -104,6 +105,7 @@ fn begun(bits: u32, count: usize, priorities: [Priority; CONTENDERS]) -> Tournam
     }
 }
 
+// What is entered is three values and no Tournament: it has no marks and no phase yet.
 pub fn start(
     bits: u32,
     count: usize,

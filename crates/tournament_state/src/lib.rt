@@ -22,7 +22,8 @@ pub enum Phase {
     NoWinner,
 }
 
-// Rows 0 to count - 1 are the contenders, a mark is true for in; the other places belong to nobody.
+// Rows 0 to count - 1 are the contenders, a mark is true for in; the other places belong to nobody. There is no heap, so priorities and marks
+// have fixed places, as document 01 has them, and a count beside them.
 #[derive(Clone, Copy)]
 pub struct Tournament {
     pub bits: u32,
@@ -63,7 +64,8 @@ fn lowest_repeat(priorities: [Priority; CONTENDERS], count: usize) -> Option<Row
     first_repeat(&numbers[..count])
 }
 
-// The lines of document 01's table in their order, whatever else is wrong.
+// The lines of document 01's table in their order, whatever else is wrong. Not of a Tournament, which would have to be given marks that no
+// line looks at.
 pub fn verdict(
     bits: u32,
     count: usize,

@@ -3,6 +3,7 @@ use Rattle.std.specs.Prelude.{◌≡◌, List, ℕ, ◌+◌, ◌-◌, ◌*◌, �
 use Rattle.names.specs.Limits.{ticks}
 use Rattle.laws.specs.Lists.{ceil, sum_to}
 use Rattle.terms.specs.Gathered.{stairs as most, cost}
+use Rattle.analysis.specs.declared.stairs.Climber.{Climber}
 
 -- how high stair k is at x
 abbrev pub stair : List ℕ → List ℕ → List ℕ → ℕ → ℕ → ℕ
@@ -79,30 +80,30 @@ pub record LotEnds (k n r : ℕ) : Type 0 where
   pub whole : r < n → r ≡ k + lot
 
 -- there is room for all lots, and for each an edge that none of the lot is before
-pub record Near (edges nearest : List ℕ) (n : ℕ) : Type 0 where
-  pub long : n ≤ length nearest * lot
-  pub before : (b k : ℕ) → b * lot ≤ k → k < b * lot + lot → k < n → get_or nearest b 0 ≤ get_or edges k 0
+pub record Near {R L : ℕ} (c : Climber R L) (n : ℕ) : Type 0 where
+  pub long : n ≤ length c.nearest * lot
+  pub before : (b k : ℕ) → b * lot ≤ k → k < b * lot + lot → k < n → get_or c.nearest b 0 ≤ get_or c.edges k 0
 
--- room for the edges of n stairs, and for the nearest of each lot
-pub record Room (n : ℕ) (edges nearest : List ℕ) : Type 0 where
-  pub each : n ≤ length edges
-  pub lots : n ≤ length nearest * lot
+-- there is room for the edges of n stairs, and for the nearest of each lot
+pub record Room (edges nearest n : ℕ) : Type 0 where
+  pub each : n ≤ edges
+  pub lots : n ≤ nearest * lot
 
 -- the stairs of few streams
 abbrev pub few_stairs : ℕ
 few_stairs = 24
 
 -- stairs that may climb: their edges, and the nearest of each lot, are known
-pub record Stand (costs periods edges nearest : List ℕ) (n : ℕ) : Type 0 where
+pub record Stand {R L : ℕ} (costs periods : List ℕ) (c : Climber R L) (n : ℕ) : Type 0 where
   pub stairs : Stairs costs periods n
-  pub known : Edges edges n
-  pub near : Near edges nearest n
+  pub known : Edges c.edges n
+  pub near : Near c n
 
 -- lot b, which is from `from` up to `to`, has a new nearest edge, and the other lots keep theirs
-pub record NewNearest (edges nearest next : List ℕ) (b from to : ℕ) : Type 0 where
-  pub long : length next ≡ length nearest
-  pub this : NoEdgeBefore (get_or next b 0) edges from to
-  pub others : (a : ℕ) → (a ≡ b → ⊥) → get_or next a 0 ≡ get_or nearest a 0
+pub record NewNearest {R L : ℕ} (c next : Climber R L) (b from to : ℕ) : Type 0 where
+  pub long : length next.nearest ≡ length c.nearest
+  pub this : NoEdgeBefore (get_or next.nearest b 0) next.edges from to
+  pub others : (a : ℕ) → (a ≡ b → ⊥) → get_or next.nearest a 0 ≡ get_or c.nearest a 0
 
 -- the edges went on to x: the stairs' height from there on is what it was at x, and what the new edges give
 pub record Moved (costs periods edges next : List ℕ) (n x : ℕ) : Type 0 where

@@ -1,7 +1,7 @@
-use mathlib.Core.Path.{◌≡◌, refl, ◌∙◌}
-use Prim.Native.Nat.{ℕ, ◌<◌}
+use mathlib.Core.Path.{refl, ◌∙◌}
+use Prim.Native.Nat.{◌<◌}
 use native.Mathlib.Omega.{arith}
-use lib.ListN.{length, take, length-set, length-take}
+use lib.ListN.{take, length-set, length-take}
 use Rattle.words.proofs.Laws.{laid_next}
 use Rattle.carried.specs.Layout as layout
 use Rattle.carried.specs.Carried.{entered_words}

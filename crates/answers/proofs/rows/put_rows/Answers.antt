@@ -15,8 +15,8 @@ letters g o =
     let e = o.overheads_of-over.ensures ∙ ap overheads_of (o.timing_in.ensures ∙ timing_held t w) in
     subst (Overhead (meant_timing t)) (sym e) (overhead_within (meant_timing t) w)
 
-pub put_in_rooms-requires-clause-overhead : goal.put_in_rooms-requires-clause-overhead
-put_in_rooms-requires-clause-overhead g c = letters g (goal.at.put_in_rooms-requires-clause-overhead g c).After-overheads_of-over
+pub invariant_of-fine : goal.invariant_of-fine
+invariant_of-fine g c = record { within = c.requires.places_within; overhead = letters g (goal.at.invariant_of-fine g c).After-overheads_of-over }
 
-pub put_in_rooms-requires-2-clause-overhead : goal.put_in_rooms-requires-2-clause-overhead
-put_in_rooms-requires-2-clause-overhead g c = letters g (goal.at.put_in_rooms-requires-2-clause-overhead g c).After-overheads_of-over
+pub invariant_of-fine-2 : goal.invariant_of-fine-2
+invariant_of-fine-2 g c = record { within = c.requires.places_within; overhead = letters g (goal.at.invariant_of-fine-2 g c).After-overheads_of-over }

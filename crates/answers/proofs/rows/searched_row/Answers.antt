@@ -2,7 +2,8 @@
 use mathlib.Core.Path.{ap, ◌∙◌}
 use Rattle.bound.specs.Evaluations.{searched}
 use Rattle.terms.specs.Gathered.{lent}
-use Rattle.answers.specs.private.Gather.{InOrder, RowTerms}
+use Rattle.answers.specs.private.Gather.{RowTerms}
+use Rattle.answers.specs.private.FinePlan.{AllInOrder}
 use Rattle.answers.proofs.Gather.{still_ordered}
 use Rattle.answers.proofs.Terms.{row_terms}
 use Rattle.answers.proofs.rows.searched_row.Goals as goal
@@ -11,17 +12,17 @@ use Rattle.answers.proofs.rows.searched_row.Goals.{After-put_hits}
 -- the streams are still in order once the hits stand before them, and so the terms are the row's
 still : (c : After-put_hits)
     → let s = c.args in
-    InOrder s.words.now s.n s.m s.n c.put_hits.new.costs s.periods.now s.jitters.now
+    AllInOrder s.fine c.put_hits.new.costs s.periods.now s.jitters.now
 still c = let o = c.requires.in_order in record { cost = still_ordered c.put_hits.ensures o.cost; period = o.period; jitter = o.jitter }
 
 terms : (c : After-put_hits)
     → let s = c.args in
-    RowTerms s.words.now s.n s.m s.row.0 (lent c.gathered-g.result c.put_hits.new.costs s.periods.now s.jitters.now)
+    RowTerms s.fine.words.now s.fine.n s.fine.m s.row.0 (lent c.gathered-g.result c.put_hits.new.costs s.periods.now s.jitters.now)
 terms c =
     let s = c.args in
     let p = c.requires in
-    row_terms s.words.now s.n s.m s.over p.places_within p.overhead s.row.0 p.row_lt_n c.gathered-g.result _ _ _ _ c.gathered-g.ensures (still c)
-    c.put_hits.ensures p.by_index
+    row_terms s.fine.words.now s.fine.n s.fine.m s.fine.over s.fine.within s.fine.overhead s.row.0 p.row_lt_n c.gathered-g.result _ _ _ _ c.gathered-g.ensures (still c)
+    c.put_hits.ensures p.gaps_before
 
 pub row_answer-requires : goal.row_answer-requires
 row_answer-requires c = (terms (goal.at.row_answer-requires c).After-put_hits).fits

@@ -3,9 +3,9 @@ use mathlib.Core.Path.{◌≡◌}
 use Prim.Native.Nat.{◌+◌, ◌*◌, min}
 use Rattle.analysis.specs.private.Fitting.{stairs_in}
 use Rattle.analysis.specs.private.Stairs.{height, lot, Gone, Near}
-use Rattle.analysis.proofs.stairs.climbed.Given as goal
+use Rattle.analysis.proofs.stairs.Climber.climbed.Given as goal
 
 abbrev pub invariant-loop-b : goal.invariant-loop-b
-invariant-loop-b l =
+invariant-loop-b g l =
     let t = l.fitting.terms in
-    (l.from ≡ min l.n (l.b * lot)) × (l.total ≡ l.sum + height t.costs.now t.periods.now l.initial.edges l.from l.x) × Gone t.periods.now l.initial.edges l.edges 0 l.from l.x × Near l.edges l.nearest (stairs_in l.fitting)
+    (l.from ≡ min l.n (l.b * lot)) × (l.total ≡ l.sum + height t.costs.now t.periods.now l.initial.self.edges l.from l.x) × Gone t.periods.now l.initial.self.edges l.self.edges 0 l.from l.x × Near l.self (stairs_in l.fitting)

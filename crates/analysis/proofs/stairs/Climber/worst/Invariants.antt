@@ -3,9 +3,9 @@
 use Prim.Native.Nat.{◌-◌}
 use Rattle.analysis.specs.private.Fitting.{terms_in, stairs_in}
 use Rattle.analysis.proofs.Waits.{WaitsTo}
-use Rattle.analysis.proofs.searches.worst.Given as goal
+use Rattle.analysis.proofs.stairs.Climber.worst.Given as goal
 
 abbrev pub invariant-loop-q : goal.invariant-loop-q
-invariant-loop-q l =
+invariant-loop-q g l =
     let t = l.fitting.terms in
-    WaitsTo (terms_in l.fitting) l.l t.costs.now t.periods.now l.edges l.nearest (stairs_in l.fitting) (l.q - 1) l.base l.wait l.best
+    WaitsTo (terms_in l.fitting) l.l t.costs.now t.periods.now l.self (stairs_in l.fitting) (l.q - 1) l.base l.wait l.best

@@ -4,12 +4,12 @@ use Rattle.analysis.specs.private.Fitting.{terms_in, stairs_in}
 use Rattle.analysis.specs.private.Stairs.{Near}
 use Rattle.analysis.specs.private.Chains.{rest_L, RestKept}
 use Rattle.analysis.proofs.Chains.{BusyChain}
-use Rattle.analysis.proofs.searches.busy_period.Given as goal
+use Rattle.analysis.proofs.stairs.Climber.busy_period.Given as goal
 
 abbrev pub invariant-loop-x : goal.invariant-loop-x
-invariant-loop-x l =
+invariant-loop-x g l =
     let t = l.fitting.terms in
-    BusyChain t.row (terms_in l.fitting) l.own l.evaluations l.x × RestKept t.costs.now t.periods.now l.edges (stairs_in l.fitting) (rest_L (terms_in l.fitting)) l.x l.rest × Near l.edges l.nearest (stairs_in l.fitting)
+    BusyChain t.row (terms_in l.fitting) l.own l.evaluations l.x × RestKept t.costs.now t.periods.now l.self.edges (stairs_in l.fitting) (rest_L (terms_in l.fitting)) l.x l.rest × Near l.self (stairs_in l.fitting)
 
 abbrev pub decreases-loop-x : goal.decreases-loop-x
-decreases-loop-x l = 2 ^ 32 - l.x
+decreases-loop-x g l = 2 ^ 32 - l.x

@@ -5,14 +5,14 @@ use Rattle.laws.proofs.Chain.{Climb}
 use Rattle.analysis.specs.private.Fitting.{stairs_in}
 use Rattle.analysis.specs.private.Stairs.{height, start, Near}
 use Rattle.analysis.specs.private.Chains.{side, RestKept}
-use Rattle.analysis.proofs.searches.settled.Given as goal
+use Rattle.analysis.proofs.stairs.Climber.settled.Given as goal
 
 abbrev pub invariant-loop-x : goal.invariant-loop-x
-invariant-loop-x l =
+invariant-loop-x g l =
     let t = l.fitting.terms in
     let n = stairs_in l.fitting in
-    Climb (side t.costs.now t.periods.now l.initial.edges n l.base l.sum) l.from l.x × RestKept t.costs.now t.periods.now l.edges n (λ y. l.sum + height t.costs.now t.periods.now l.initial.edges n (y + start)) l.x l.total
-    × Near l.edges l.nearest n
+    Climb (side t.costs.now t.periods.now l.initial.self.edges n l.base l.sum) l.from l.x × RestKept t.costs.now t.periods.now l.self.edges n (λ y. l.sum + height t.costs.now t.periods.now l.initial.self.edges n (y + start)) l.x l.total
+    × Near l.self n
 
 abbrev pub decreases-loop-x : goal.decreases-loop-x
-decreases-loop-x l = ticks - l.x
+decreases-loop-x g l = ticks - l.x
