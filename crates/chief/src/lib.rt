@@ -41,7 +41,7 @@ fn lay_noise(out: &mut [u8], at: usize, gap: u32) -> usize
     ensures { Lays out.old at (told.noise_text gap) result out.new }
 {
     let at = lay_text(out, at, b"more noise sources with a gap of ");
-    let at = lay_number(out, at, u64::from(gap));
+    let at = lay_number(out, at, gap as u64);
     lay_text(out, at, b" or less")
 }
 

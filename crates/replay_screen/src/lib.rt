@@ -109,7 +109,7 @@ fn lay_wins(out: &mut [u8], at: usize, row: Row, priority: Priority) -> usize
     let at = lay_text(out, at, b"row ");
     let at = lay_number(out, at, row.0 as u64);
     let at = lay_text(out, at, b" wins with priority ");
-    let at = lay_number(out, at, u64::from(priority.0));
+    let at = lay_number(out, at, priority.0 as u64);
     lay_text(out, at, b"\n")
 }
 
@@ -166,7 +166,7 @@ fn lay_played(out: &mut [u8], at: usize, t: Tournament) -> usize
         let after = step(now).unwrap();
         let carrier = listen(now).unwrap();
         let silent = silent_at(t, won, bit);
-        next = lay_bit(out, next, u64::from(bit), carrier, silent, after.marks);
+        next = lay_bit(out, next, bit as u64, carrier, silent, after.marks);
         now = after;
     }
     lay_winner(out, next, end.priorities, end.phase)
