@@ -1,11 +1,11 @@
 -- An array that a loop lays down from the front, the first places of an array as rows, and the first that passes a test.
 -- Assumes nothing.
 use mathlib.Core.Path.{◌≡◌, refl, sym, ap, ap₂, ◌∙◌}
-use mathlib.Core.List.{List, [], ◌∷◌, ◌++◌, append_assoc, map}
-use Prim.Native.Nat.{ℕ, zero, suc, ◌+◌, ◌<◌}
+use mathlib.Core.List.{List, [], ◌∷◌, ◌++◌, append-nil, append_assoc, map}
+use Prim.Native.Nat.{ℕ, zero, suc, ◌+◌, ◌-◌, ◌≤◌, ◌<◌}
 use native.Mathlib.Numerals.{add-one}
 use native.Mathlib.Omega.{arith}
-use lib.ListN.{length, get_or, set, take, drop}
+use lib.ListN.{length, get_or, set, take, drop, replicate}
 use lib.Seq.{set_at, take-length, drop-cons}
 use Rattle.laws.specs.Lists.{rows}
 use Rattle.laws.specs.Search.{first}
@@ -29,6 +29,10 @@ module _ {A : Type 0} (f : ℕ → A) where
   -- a place that keeps what it has is laid as it is
   pub lay_kept : (base : List A) (d : A) (i : ℕ) → i < length base → f i ≡ get_or base i d → rows i f ++ drop i base ≡ rows (i + 1) f ++ drop (i + 1) base
   lay_kept base d i h e = rw (drop-cons base i d h, ← e, rows_more, append_assoc, add-one) refl
+
+-- all n places are laid
+pub laid_all : {A : Type 0} (p : List A) (y : A) (n i : ℕ) → n ≤ i → p ++ replicate (n - i) y ≡ p
+laid_all p y n i h = let s : n - i ≡ 0 = omega arith in rw s (append-nil p)
 
 -- all places, each through a function
 pub rows_all : {A B : Type 0} (f : A → B) (xs : List A) (d : A) (n : ℕ) → length xs ≡ n → rows n (λ k. f (get_or xs k d)) ≡ map f xs
