@@ -1,0 +1,7 @@
+-- No row so far is under the label, so the first that is stands in what is left. Assumes nothing.
+use Rattle.std.proofs.Common.{◌≡◌, ◌==◌, drop}
+use Rattle.std.specs.Prelude.{find}
+use Rattle.compare.proofs.namesake.Given as goal
+
+abbrev pub invariant-loop-s : goal.invariant-loop-s
+invariant-loop-s l = find (λ s. s.label.0 == l.label.0) (drop l.s-index l.streams) ≡ find (λ s. s.label.0 == l.label.0) l.streams
