@@ -103,10 +103,10 @@ fn compared_files<'a>(
     let mut plan = open(rt, name).ok_or(Unreadable(name))?;
     let mut expected = open(rt, out).ok_or(Unreadable(out))?;
     let mut file = desk::file_buffer();
-    let file = read(&mut plan, &mut file).map_err(|_| Unreadable(name))?;
+    let n = read(&mut plan, &mut file).map_err(|_| Unreadable(name))?;
     let mut must = desk::listing_buffer();
-    let must = read(&mut expected, &mut must).map_err(|_| Unreadable(out))?;
-    Ok(compared(rt, name, file, must))
+    let m = read(&mut expected, &mut must).map_err(|_| Unreadable(out))?;
+    Ok(compared(rt, name, first(&file, n), first(&must, m)))
 }
 
 // Whether the case of these two files holds.

@@ -4,7 +4,8 @@
 // std's to say. A write that fails is passed over. This crate knows of the names alone.
 #![tactic(auto)]
 
-ghost use Rattle.std.specs.Prelude.{◌≡◌, ◌≤◌, length, take, IfOk, IfSome, IsSome, IsUtf8};
+ghost use Rattle.std.specs.Prelude.{◌≡◌, ◌≤◌, length, take, IfSome, IsSome, IsUtf8};
+ghost use Rattle.console.specs.Input.{InBuffer};
 
 use names::Refusal;
 use std::env::FillError;
@@ -34,17 +35,18 @@ pub fn arg_count(rt: &impl Env) -> usize {
         .count()
 }
 
-// An argument, which is put at the buffer's start, or that it is missing or longer than the buffer.
-pub fn arg<'a>(rt: &impl Env, i: usize, buf: &'a mut [u8]) -> Result<&'a [u8], FillError>
-    ensures { IfOk result (λ bytes. length bytes.now ≤ length buf.old) }
+// Puts an argument at the buffer's start and gives its length, or that it is missing or longer than the buffer.
+// A length, which says what bytes of the buffer are meant: of a slice that borrows the buffer that would not be proved.
+pub fn arg(rt: &impl Env, i: usize, buf: &mut [u8]) -> Result<usize, FillError>
+    ensures { InBuffer result buf.new }
 {
-    let n = rt.arg(i, buf)?;
-    Ok(&buf[..n])
+    rt.arg(i, buf)
 }
 
-// What an open file has, put at the buffer's start, until the buffer is full, the file ends or a read fails, as of a directory.
-pub fn read<'a>(file: &mut impl Read, buf: &'a mut [u8]) -> io::Result<&'a [u8]>
-    ensures { IfOk result (λ bytes. length bytes.now ≤ length buf.old) }
+// Reads an open file, from the buffer's start on, until the buffer is full, the file ends or a read fails, as of a directory. It gives how many
+// bytes that is, which stand at the buffer's start.
+pub fn read(file: &mut impl Read, buf: &mut [u8]) -> io::Result<usize>
+    ensures { InBuffer result buf.new }
 {
     // A read may give less than it is lent, so each goes on where the last one ended.
     let mut done: usize = 0;
@@ -55,7 +57,7 @@ pub fn read<'a>(file: &mut impl Read, buf: &'a mut [u8]) -> io::Result<&'a [u8]>
         }
         done += more;
     }
-    Ok(&buf[..done])
+    Ok(done)
 }
 
 // What is read of a list of names, or nothing: then a line says that the list cannot be read or is too long.
@@ -69,7 +71,7 @@ pub fn read_list<'a>(
     ensures { IfSome result (λ list. length list.now ≤ LIST) }
 {
     match read(input, buf) {
-        Ok(list) if list.len() <= LIST => return Some(list),
+        Ok(n) if n <= LIST => return Some(&buf[..n]),
         Ok(_) => print_too_long(rt, program),
         Err(_) => print_unreadable(rt, program.as_bytes(), b"standard input"),
     }

@@ -25,7 +25,8 @@ const NAME: usize = 4096;
 fn read_file<'a>(file: &mut impl Read, buf: &'a mut [u8]) -> io::Result<&'a [u8]>
     requires { largest_file < length buf.old }
 {
-    read(file, buf)
+    let n = read(file, buf)?;
+    Ok(&buf[..n])
 }
 
 fn tell(rt: &impl Print, was: &[u8], is: &[u8]) {
@@ -61,8 +62,10 @@ fn files(rt: &(impl Print + Files), old: &[u8], new: &[u8]) {
 
 // The name that an argument gives. One that is empty, or that the buffer cannot hold, has no byte of a name to open.
 fn name<'a>(rt: &impl Env, i: usize, buf: &'a mut [u8; NAME]) -> Option<&'a [u8]> {
-    let name = arg(rt, i, buf).ok()?;
-    if name.is_empty() { None } else { Some(name) }
+    match arg(rt, i, buf) {
+        Ok(n) if n > 0 => Some(&buf[..n]),
+        _ => None,
+    }
 }
 
 fn nameless(rt: &impl Print, which: &str) {

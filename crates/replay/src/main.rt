@@ -42,7 +42,7 @@ fn show_all(rt: &impl Print, text: &[u8]) {
 fn lay_argument(rt: &impl Env, out: &mut [u8], at: usize, i: usize) -> usize {
     let mut buf = [0u8; WORD];
     let word = match arg(rt, i, &mut buf) {
-        Ok(word) if word.len() > 0 => word,
+        Ok(n) if n > 0 => &buf[..n],
         _ => b"?",
     };
     let at = lay_text(out, at, word);
@@ -75,7 +75,7 @@ fn read_arguments(rt: &(impl Print + Env), count: usize) {
 fn read_input(rt: &impl Print, input: &mut impl Read) {
     let mut text = [0u8; INPUT];
     match read(input, &mut text) {
-        Ok(text) if text.len() < INPUT => show_all(rt, text),
+        Ok(n) if n < INPUT => show_all(rt, &text[..n]),
         Ok(_) => too_long(rt),
         Err(_) => print_unreadable(rt, b"replay", b"standard input"),
     }

@@ -15,7 +15,8 @@ use std::io::Read;
 fn read_file<'a>(input: &mut impl Read, file: &'a mut [u8]) -> io::Result<&'a [u8]>
     requires { largest_file < length file.old }
 {
-    read(input, file)
+    let n = read(input, file)?;
+    Ok(&file[..n])
 }
 
 // What a program shows of a plan file, at the start of a buffer.
