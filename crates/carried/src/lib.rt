@@ -18,6 +18,7 @@ ghost use Rattle.carried.specs.Carried.{held_timing, held, plain_timing};
 ghost use Rattle.carried.specs.Carried.{entered_timing_in, stream_in, streams_in, gaps_in, entered_in};
 ghost use Rattle.carried.specs.Carried.{timing_words, stream_words, records_in, entered_words, values_of, in_places, sheet_of};
 
+use laws::smaller;
 use names::{Label, OLDER_STREAMS, Priority, SOURCES, STREAMS};
 use plan::{Sheet, Stream, Timing};
 
@@ -231,8 +232,8 @@ pub fn words_entered(
 ) -> [u32; CARRIED]
     ensures { result ≡ in_places (entered_words (record { timing = timing; streams = take count streams; gaps = take sources gaps })) }
 {
-    let n = count.min(STREAMS);
-    let m = sources.min(SOURCES);
+    let n = smaller(count, STREAMS);
+    let m = smaller(sources, SOURCES);
     let mut out = [0; CARRIED];
     lay(&mut out, 0, &entered_words(timing));
     for (r, stream) in streams[..n].iter().enumerate() {
@@ -260,7 +261,7 @@ pub fn words_of(sheet: Sheet) -> [u32; CARRIED]
 pub fn words_from(values: &[u32]) -> [u32; CARRIED]
     ensures { result ≡ in_places values.now }
 {
-    let n = values.len().min(CARRIED);
+    let n = smaller(values.len(), CARRIED);
     let mut out = [0; CARRIED];
     out[..n].copy_from_slice(&values[..n]);
     out
@@ -344,7 +345,7 @@ pub fn records(words: &[u32; CARRIED], n: usize) -> &[[u32; STREAM]]
     ensures { result.now ≡ records_in (min n limit.streams) words.now }
 {
     let (records, _) = words[TIMING..].as_chunks::<STREAM>();
-    &records[..n.min(STREAMS)]
+    &records[..smaller(n, STREAMS)]
 }
 
 // The counts here and below are bounded where they are made, by `min`: a type for a bounded count would be made there in the same words.

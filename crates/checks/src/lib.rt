@@ -24,6 +24,7 @@ use carried::{
 use costs::overheads_of;
 use fields::outside;
 use judge::refused;
+use laws::smaller;
 use names::{CONSTANT, FEW, Refusal, Row, SOURCES, STREAMS};
 use plan::Sheet;
 use repeats::first_repeat;
@@ -54,7 +55,7 @@ fn repeat_in<const R: usize>(words: &[u32; CARRIED], n: usize, k: usize) -> Opti
     first_repeat(&column[..n])
 }
 
-// Few rows have a small room. The count is bounded by its callers, by `min`: a type for that would be no plainer.
+// Few rows have a small room. The count is bounded by its callers, by `smaller`: a type for that would be no plainer.
 fn repeat_of(words: &[u32; CARRIED], n: usize, k: usize) -> Option<Row>
     requires n_le_streams { n ≤ limit.streams }
     requires k_lt_stream_length { k < layout.stream_length }
@@ -96,7 +97,7 @@ fn byte_of(edition: Edition, n: usize, k: usize) -> usize
 pub fn check_fields(counts: Counts, words: &[u32; CARRIED]) -> Result<(), Refusal>
     ensures { result ≡ judge (field_lines counts.edition (entered_in (min counts.n limit.streams) (min counts.m limit.sources) words.now)) }
 {
-    let rows = counts.n.min(STREAMS);
+    let rows = smaller(counts.n, STREAMS);
     match outside(counts, words) {
         Some(k) => refused(3, byte_of(counts.edition, rows, k as usize)),
         None => Ok(()),
@@ -124,7 +125,7 @@ pub fn check_lag(words: &[u32; CARRIED]) -> Result<(), Refusal>
 pub fn check_rows(words: &[u32; CARRIED], n: usize) -> Result<(), Refusal>
     ensures { result ≡ judge (row_lines (streams_in (min n limit.streams) words.now)) }
 {
-    let count = n.min(STREAMS);
+    let count = smaller(n, STREAMS);
     if let Some(r) = repeat_of(words, count, PRIORITY) {
         return refused(4, r.0);
     }

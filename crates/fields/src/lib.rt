@@ -15,6 +15,7 @@ ghost use Rattle.fields.specs.Fields.{◌from◌to◌, inside, slot_least, slot_
 ghost use Rattle.fields.specs.private.Bands.{fields_of, out_of_band};
 
 use carried::{CARRIED, Counts, Edition, STREAM, TIMING, records};
+use laws::smaller;
 use names::{ACKNOWLEDGEMENT, BITS, CONSTANT, PAYLOAD, SLOT, SOURCES, STREAMS};
 
 // The timing's words that have the number of priority bits and P.
@@ -83,7 +84,7 @@ fn largest_priority(nb: u32) -> u32
     ((1u64 << nb) - 1) as u32
 }
 
-// The streams, which all have one row of limits. Every word is a label. Their count and that of the gaps are bounded by `outside`, by `min`: a
+// The streams, which all have one row of limits. Every word is a label. Their count and that of the gaps are bounded by `outside`, by `smaller`: a
 // type for that would be no plainer.
 fn streams_outside(words: &[u32; CARRIED], n: usize, nb: u32) -> Option<u64>
     requires n_le_streams { n ≤ limit.streams }
@@ -123,9 +124,9 @@ pub fn outside(counts: Counts, words: &[u32; CARRIED]) -> Option<u64>
     if let Some(p) = timing_outside(counts.edition, words) {
         return Some(p);
     }
-    let rows = counts.n.min(STREAMS);
+    let rows = smaller(counts.n, STREAMS);
     if let Some(p) = streams_outside(words, rows, words[NB]) {
         return Some(p);
     }
-    gaps_outside(words, rows, counts.m.min(SOURCES))
+    gaps_outside(words, rows, smaller(counts.m, SOURCES))
 }

@@ -14,6 +14,7 @@ ghost use Rattle.plan.specs.declared.Stream.{Stream as Stream·Stream};
 ghost use Rattle.text.specs.Put.{Lays, Puts};
 
 use bound::{Answer, Verdict};
+use laws::smaller;
 use names::{Label, Refusal, Row, STREAMS};
 use plan::{Sheet, Stream};
 use row_words::answer_in;
@@ -196,7 +197,7 @@ impl Laid for Listed<'_> {
     ghost bytes = { λ l. text.listing_in l.sheet l.answers.now };
 
     fn lay(&self, out: &mut [u8], at: usize) -> usize {
-        let n = self.sheet.count.min(STREAMS);
+        let n = smaller(self.sheet.count, STREAMS);
         let at = lay_text(out, at, b"label priority bound instance deadline verdict\n");
         lay_lines(out, at, &self.sheet.streams[..n], &Answers(self.answers))
     }

@@ -9,6 +9,7 @@ ghost use Rattle.text.specs.Put.{Lays, Puts};
 ghost use Rattle.wait_lines.specs.Lines.{wait_row, lines_in};
 
 use bound::Wait;
+use laws::smaller;
 use names::{Row, STREAMS};
 use plan::{Sheet, Stream};
 use row_words::wait_in;
@@ -49,7 +50,7 @@ impl Laid for Listed<'_> {
     ghost bytes = { λ l. lines_in l.sheet l.waits.now };
 
     fn lay(&self, out: &mut [u8], at: usize) -> usize {
-        let n = self.sheet.count.min(STREAMS);
+        let n = smaller(self.sheet.count, STREAMS);
         let at = lay_text(out, at, b"label evaluations limit\n");
         lay_lines(out, at, &self.sheet.streams[..n], &Kept(self.waits))
     }

@@ -11,6 +11,6 @@ pub returns : goal.returns
 returns c =
     let a = c.args in
     let rest : take 1800 (drop 10 a.words.now) ≡ drop 10 a.words.now = take_all 1800 (drop 10 a.words.now) (omega (arith, length-drop 10 a.words.now)) in
-    ap (take c.min.result) c.as_chunks.ensures.front
-    ∙ cut c.min.result a.words.now _ rest (omega (arith, c.min.ensures))
-    ∙ ap (λ n. records_in n a.words.now) c.min.ensures
+    ap (take c.smaller.result) c.as_chunks.ensures.front
+    ∙ cut c.smaller.result a.words.now _ rest (omega (arith, c.smaller.ensures))
+    ∙ ap (λ n. records_in n a.words.now) c.smaller.ensures

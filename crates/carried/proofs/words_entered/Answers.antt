@@ -21,11 +21,11 @@ pub loop-r-preserved : goal.loop-r-preserved
 loop-r-preserved c =
     let a = c.args in
     let l = c.loop-r in
-    let e = c.min-n.ensures in
-    let long = length-take c.min-n.result a.streams in
+    let e = c.smaller-n.ensures in
+    let long = length-take c.smaller-n.result a.streams in
     c.lay-in-loop-r.ensures
     ∙ lay_stream a.timing a.streams l.r (omega (arith, long, e)) l.invariant
-    (c.stream_words.ensures ∙ ap stream_words (get_or-take c.min-n.result a.streams l.r blank (omega (arith, long))))
+    (c.stream_words.ensures ∙ ap stream_words (get_or-take c.smaller-n.result a.streams l.r blank (omega (arith, long))))
 
 pub returns : goal.returns
 returns c =
@@ -34,8 +34,8 @@ returns c =
     let v : Entered = record { timing = a.timing; streams = take a.count a.streams; gaps = take a.sources a.gaps } in
     let n : length a.streams ≡ streams = omega arith in
     let m : length a.gaps ≡ sources = omega arith in
-    let e : l.r ≡ c.min-n.result = omega (arith, length-take c.min-n.result a.streams, c.min-n.ensures) in
-    let rows : take c.min-n.result a.streams ≡ v.streams = ap (λ k. take k a.streams) c.min-n.ensures ∙ take_min a.count streams a.streams (omega (arith, n)) in
-    let gaps : take c.min-m.result a.gaps ≡ v.gaps = ap (λ k. take k a.gaps) c.min-m.ensures ∙ take_min a.sources sources a.gaps (omega (arith, m)) in
+    let e : l.r ≡ c.smaller-n.result = omega (arith, length-take c.smaller-n.result a.streams, c.smaller-n.ensures) in
+    let rows : take c.smaller-n.result a.streams ≡ v.streams = ap (λ k. take k a.streams) c.smaller-n.ensures ∙ take_min a.count streams a.streams (omega (arith, n)) in
+    let gaps : take c.smaller-m.result a.gaps ≡ v.gaps = ap (λ k. take k a.gaps) c.smaller-m.ensures ∙ take_min a.sources sources a.gaps (omega (arith, m)) in
     let room : length (entered_words v) ≤ layout.largest = omega (arith, length_words v, length-take a.count a.streams, length-take a.sources a.gaps, n, m) in
-    c.lay-2.ensures ∙ lay_gaps v a.streams c.min-n.result (omega (arith, c.min-n.ensures, n)) rows gaps room (rw (← e) l.invariant)
+    c.lay-2.ensures ∙ lay_gaps v a.streams c.smaller-n.result (omega (arith, c.smaller-n.ensures, n)) rows gaps room (rw (← e) l.invariant)

@@ -8,4 +8,4 @@ use Rattle.carried.proofs.words_from.Goals as goal
 pub returns : goal.returns
 returns c =
     let values = c.args.values.now in
-    put_first layout.largest c.min-n.result 0 values c.copy_from_slice.ensures.after ∙ ap (placed_to layout.largest 0 values) c.min-n.ensures ∙ placed_all layout.largest 0 values
+    put_first layout.largest c.smaller-n.result 0 values c.copy_from_slice.ensures.after ∙ ap (placed_to layout.largest 0 values) c.smaller-n.ensures ∙ placed_all layout.largest 0 values

@@ -44,7 +44,7 @@ pub returns-in-Some : goal.returns-in-Some
 returns-in-Some c =
     let at = goal.at.returns-in-Some c in
     c.refused.ensures
-    ∙ ap (λ x. Err (record { number = 3; place = x })) (c.byte_of.ensures ∙ ap (λ n. layout.byte_of (layout.in_bodies c.args.counts.edition n c.in-Some.k)) (c.min-rows.ensures ∙ sym (rows_asked at.Start)))
+    ∙ ap (λ x. Err (record { number = 3; place = x })) (c.byte_of.ensures ∙ ap (λ n. layout.byte_of (layout.in_bodies c.args.counts.edition n c.in-Some.k)) (c.smaller-rows.ensures ∙ sym (rows_asked at.Start)))
     ∙ sym (given _ _ _ (ap (byte_in c.args.counts.edition (length (asked at.Start).streams)) (sym c.outside.ensures ∙ c.in-Some.is)))
 
 pub returns-in-None : goal.returns-in-None

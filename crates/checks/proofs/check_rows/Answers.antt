@@ -12,10 +12,10 @@ use Rattle.carried.specs.Layout as layout
 use Rattle.carried.specs.Carried.{stream_in, streams_in}
 use Rattle.checks.specs.Checks.{priorities, labels}
 use Rattle.checks.proofs.check_rows.Goals as goal
-use Rattle.checks.proofs.check_rows.Goals.{After-repeat_of, After-repeat_of-2, After-min-count}
+use Rattle.checks.proofs.check_rows.Goals.{After-repeat_of, After-repeat_of-2, After-smaller-count}
 
 -- how many rows there are, seen from the two looks
-abbrev counted : After-repeat_of → After-min-count
+abbrev counted : After-repeat_of → After-smaller-count
 counted c = c.before
 
 abbrev before : After-repeat_of-2 → After-repeat_of
@@ -25,7 +25,7 @@ priorities_are : (c : After-repeat_of)
     → let a = (counted c).args in
     first_repeat (priorities (streams_in (min a.n streams) a.words.now)) ≡ c.repeat_of.result
 priorities_are c =
-    let n = (counted c).min-count in
+    let n = (counted c).smaller-count in
     let ws = (counted c).args.words.now in
     ap (λ k. first_repeat (priorities (streams_in k ws))) (sym n.ensures)
     ∙ ap first_repeat (rows_map (λ s. s.priority.0) n.result (λ j. stream_in ws (layout.stream_at j)))
@@ -35,7 +35,7 @@ labels_are : (c : After-repeat_of-2)
     → let a = (counted (before c)).args in
     first_repeat (labels (streams_in (min a.n streams) a.words.now)) ≡ c.repeat_of-2.result
 labels_are c =
-    let n = (counted (before c)).min-count in
+    let n = (counted (before c)).smaller-count in
     let ws = (counted (before c)).args.words.now in
     ap (λ k. first_repeat (labels (streams_in k ws))) (sym n.ensures)
     ∙ ap first_repeat

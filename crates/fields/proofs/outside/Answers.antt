@@ -29,7 +29,7 @@ streams_are : (c : After-streams_outside) → let v = asked c.args.counts.n c.ar
 unfolding entered_in
 streams_are c =
     let ws = c.args.words.now in
-    ap (λ k. lowest (layout.stream_at 0) (flat_map (stream_fields (entered_timing_in ws).nb) (rows k (λ r. stream_in ws (layout.stream_at r))))) (sym c.min-rows.ensures) ∙ sym c.streams_outside.ensures
+    ap (λ k. lowest (layout.stream_at 0) (flat_map (stream_fields (entered_timing_in ws).nb) (rows k (λ r. stream_in ws (layout.stream_at r))))) (sym c.smaller-rows.ensures) ∙ sym c.streams_outside.ensures
 
 pub returns-in-Some : goal.returns-in-Some
 unfolding entered_in
@@ -53,5 +53,5 @@ returns c =
     let ws = c.args.words.now in
     let n = min c.args.counts.n streams in
     c.gaps_outside.ensures
-    ∙ rw (c.min-rows.ensures, c.min.ensures) (ap (λ k. lowest (layout.stream_at k) (map gap_field (rows (min c.args.counts.m sources) (λ k. get_or ws (layout.gap_at n k) 0)))) (sym (length_rows n (λ r. stream_in ws (layout.stream_at r)))))
+    ∙ rw (c.smaller-rows.ensures, c.smaller.ensures) (ap (λ k. lowest (layout.stream_at k) (map gap_field (rows (min c.args.counts.m sources) (λ k. get_or ws (layout.gap_at n k) 0)))) (sym (length_rows n (λ r. stream_in ws (layout.stream_at r)))))
     ∙ sym (gaps_left c.args.counts.edition (asked c.args.counts.n c.args.counts.m ws) (timing_inside at.In_default) (streams_are at.After-streams_outside ∙ c.in_default-streams_outside.is))

@@ -13,5 +13,5 @@ pub returns : goal.returns
 unfolding listing_of
 returns c =
     let a = c.args.self.now in
-    let n : c.min-n.result ≡ min a.sheet.count (length a.sheet.streams) = omega arith in
-    then c.lay_text-at.ensures (last (is (lines_told row (answer_at a.answers.now) a.sheet.count c.min-n.result a.sheet.streams n) c.lay_lines.ensures)) (omega arith)
+    let n : c.smaller-n.result ≡ min a.sheet.count (length a.sheet.streams) = omega arith in
+    then c.lay_text-at.ensures (last (is (lines_told row (answer_at a.answers.now) a.sheet.count c.smaller-n.result a.sheet.streams n) c.lay_lines.ensures)) (omega arith)
