@@ -9,7 +9,7 @@ use native.Mathlib.Numerals.{add-one}
 use native.Mathlib.Omega.{arith}
 use borrow.Author.Tests.{le-leb, lt-leb}
 use lib.ListN.{length, get_or, set, take, drop, replicate, length-append, length-drop, length-replicate, drop_of_length-le, get_or-eq_default, take-append-drop}
-use lib.Seq.{length-take-le, take_all, take-suc, take_at, drop-cons, append_snoc, set_at, drop-append-add, drop-drop}
+use lib.Seq.{length-take-le, take_all, take-suc, take_at, drop-cons, append_snoc, set_at, drop-append-add, drop-drop, sets-eq}
 use Rattle.std.specs.Int.{w32, from_le_bytes}
 use Rattle.std.proofs.lemmas.Nat.{from_le_bytes-to_le_bytes_4, le_bytes_4}
 use Rattle.std.specs.Simd.{first_chunks}
@@ -31,7 +31,7 @@ unfolding bytes_of
 length_bytes [] = refl
 length_bytes (w ∷ words) = omega (arith, length_bytes words)
 
--- ---- the word at an index, which is of the k-th four bytes, as std cuts them
+-- ---- the word at an index: of the bytes 4k to 4k + 3, which are the k-th four, as std cuts them
 pub four_at : (bytes : List ℕ) (n k : ℕ) (none : List ℕ) → k < n → 4 * n ≤ length bytes
     → from_le_bytes w32 (get_or (first_chunks 4 n bytes) k none) ≡ get_or (words_of bytes) k 0
 unfolding words_of
@@ -42,6 +42,19 @@ four_at (a ∷ b ∷ c ∷ []) (suc n) k none h l = absurd (omega arith)
 four_at (a ∷ b ∷ []) (suc n) k none h l = absurd (omega arith)
 four_at (a ∷ []) (suc n) k none h l = absurd (omega arith)
 four_at [] (suc n) k none h l = absurd (omega arith)
+
+pub word_is : (bytes : List ℕ) (k : ℕ) → 4 * k + 4 ≤ length bytes
+    → get_or (words_of bytes) k 0 ≡ joined_of (get_or bytes (4 * k) 0) (get_or bytes (4 * k + 1) 0) (get_or bytes (4 * k + 2) 0) (get_or bytes (4 * k + 3) 0)
+unfolding words_of
+word_is (a ∷ b ∷ c ∷ d ∷ bytes) zero h = refl
+word_is (a ∷ b ∷ c ∷ d ∷ bytes) (suc k) h =
+    let on : (j : ℕ) → 4 * suc k + j ≡ suc (suc (suc (suc (4 * k + j)))) = λ j. omega arith in
+    let on-0 : 4 * suc k ≡ suc (suc (suc (suc (4 * k)))) = omega arith in
+    rw (on 1, on 2, on 3, on-0) (word_is bytes k (omega arith))
+word_is (a ∷ b ∷ c ∷ []) k h = absurd (omega arith)
+word_is (a ∷ b ∷ []) k h = absurd (omega arith)
+word_is (a ∷ []) k h = absurd (omega arith)
+word_is [] k h = absurd (omega arith)
 
 pub word_past : (bytes : List ℕ) (k : ℕ) → length bytes / 4 ≤ k → get_or (words_of bytes) k 0 ≡ 0
 word_past bytes k h = get_or-eq_default (words_of bytes) 0 (omega (arith, length_words bytes))
@@ -181,3 +194,13 @@ put_next bytes at ws i h fits e =
     let k : length (take i ws) ≡ i = length-take-le i ws (omega arith) in
     rw (e, add-one i, take-suc ws i 0 h)
     (put_more bytes at (take i ws) (omega arith) (get_or ws i 0 ∷ []) (at + 4 * i) (ap (λ j. at + 4 * j) (sym k)))
+
+-- four stores, as the code makes them
+pub put_one : (bytes : List ℕ) (at w : ℕ) → at + 4 ≤ length bytes
+    → set (set (set (set bytes at (w % 256)) (at + 1) (w / 256 % 256)) (at + 2) (w / 65536 % 256)) (at + 3) (w / 16777216 % 256) ≡ with_words bytes at (w ∷ [])
+unfolding with_words bytes_of
+put_one bytes at w h =
+    let e : at + 1 ≡ suc at = omega arith in
+    let f : at + 2 ≡ suc (suc at) = omega arith in
+    let g : at + 3 ≡ suc (suc (suc at)) = omega arith in
+    rw (e, f, g) (sets-eq (w % 256 ∷ w / 256 % 256 ∷ w / 65536 % 256 ∷ w / 16777216 % 256 ∷ []) bytes at h ∙ append_assoc (take at bytes) _ _)

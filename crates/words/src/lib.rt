@@ -5,7 +5,17 @@
 #![tactic(auto)]
 
 ghost use Rattle.std.specs.Prelude.{◌≡◌, [], ◌∷◌, ◌+◌, ◌≤◌, length, get_or};
+ghost use Rattle.std.specs.Int.{w32, from_le_bytes};
 ghost use Rattle.words.specs.Words.{words_of, laid_onto, with_words, put_words};
+
+use laws::smaller;
+
+// A word of its four bytes, the least first.
+fn joined(four: &[u8; 4]) -> u32
+    ensures { result ≡ from_le_bytes w32 four.now }
+{
+    u32::from_le_bytes(*four)
+}
 
 // Word k of the bytes, counted from 0.
 pub fn word_at(bytes: &[u8], k: usize) -> u32
@@ -13,7 +23,7 @@ pub fn word_at(bytes: &[u8], k: usize) -> u32
 {
     let (fours, _) = bytes.as_chunks::<4>();
     match fours.get(k) {
-        Some(four) => u32::from_le_bytes(*four),
+        Some(four) => joined(four),
         None => 0,
     }
 }
@@ -23,9 +33,9 @@ pub fn words_into(bytes: &[u8], out: &mut [u32])
     ensures { out.new ≡ laid_onto (words_of bytes.now) out.old }
 {
     let (fours, _) = bytes.as_chunks::<4>();
-    let n = fours.len().min(out.len());
+    let n = smaller(fours.len(), out.len());
     for (i, four) in fours[..n].iter().enumerate() {
-        out[i] = u32::from_le_bytes(*four);
+        out[i] = joined(four);
     }
 }
 
@@ -34,8 +44,11 @@ fn put_word(buf: &mut [u8], at: usize, w: u32)
     requires { at + 4 ≤ length buf.old }
     ensures { buf.new ≡ with_words buf.old at (w ∷ []) }
 {
-    let bytes = w.to_le_bytes();
-    buf[at..at + 4].copy_from_slice(&bytes);
+    let [a, b, c, d] = w.to_le_bytes();
+    buf[at] = a;
+    buf[at + 1] = b;
+    buf[at + 2] = c;
+    buf[at + 3] = d;
 }
 
 // The words from byte `at` on, and the rest of the buffer as it was; nothing, if they have no room.

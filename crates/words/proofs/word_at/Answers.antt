@@ -17,6 +17,6 @@ pub returns-in-Some : goal.returns-in-Some
 returns-in-Some c =
     let a = c.args in
     let found = c.in-Some.ensures.lookup.3 in
-    c.from_le_bytes.ensures
+    c.joined.ensures
     ∙ ap (from_le_bytes w32) (found.1 [] ∙ ap (λ fours. get_or fours a.k []) c.as_chunks.ensures.front)
     ∙ four_at a.bytes.now (length a.bytes.now / 4) a.k [] (omega (arith, found.0, c.as_chunks.ensures.front_len)) (omega arith)

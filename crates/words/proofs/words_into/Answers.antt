@@ -15,19 +15,19 @@ loop-i-preserved c =
     let a = c.args in
     let i = c.loop-i.i in
     let fours = c.as_chunks.result.0.now in
-    let long = length-take {A = List ℕ} c.min-n.result fours in
-    let h : i < c.min-n.result = omega (arith, long) in
-    let m : i < length a.bytes.now / 4 = omega (arith, c.min-n.ensures, c.as_chunks.ensures.front_len) in
-    laid_next (words_of a.bytes.now) a.out.now i (omega (arith, length_words a.bytes.now)) (omega (arith, c.min-n.ensures)) c.loop-i.invariant
+    let long = length-take {A = List ℕ} c.smaller-n.result fours in
+    let h : i < c.smaller-n.result = omega (arith, long) in
+    let m : i < length a.bytes.now / 4 = omega (arith, c.smaller-n.ensures, c.as_chunks.ensures.front_len) in
+    laid_next (words_of a.bytes.now) a.out.now i (omega (arith, length_words a.bytes.now)) (omega (arith, c.smaller-n.ensures)) c.loop-i.invariant
     (
-    c.from_le_bytes.ensures
-    ∙ ap (from_le_bytes w32) (get_or-take c.min-n.result fours i [] h ∙ ap (λ xs. get_or xs i []) c.as_chunks.ensures.front)
+    c.joined.ensures
+    ∙ ap (from_le_bytes w32) (get_or-take c.smaller-n.result fours i [] h ∙ ap (λ xs. get_or xs i []) c.as_chunks.ensures.front)
     ∙ four_at a.bytes.now (length a.bytes.now / 4) i [] m (omega arith)
     )
 
 pub returns : goal.returns
 returns c =
     let a = c.args in
-    let long = length-take {A = List ℕ} c.min-n.result c.as_chunks.result.0.now in
+    let long = length-take {A = List ℕ} c.smaller-n.result c.as_chunks.result.0.now in
     c.loop-i.invariant
-    ∙ laid_all (words_of a.bytes.now) a.out.now c.loop-i.i (omega (arith, long, c.min-n.ensures, c.as_chunks.ensures.front_len, length_words a.bytes.now))
+    ∙ laid_all (words_of a.bytes.now) a.out.now c.loop-i.i (omega (arith, long, c.smaller-n.ensures, c.as_chunks.ensures.front_len, length_words a.bytes.now))
