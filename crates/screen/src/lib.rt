@@ -11,6 +11,7 @@ ghost use Rattle.screen.specs.Screen.{Screens};
 
 use answers::{Answer, answer_words};
 use carried::{Counts, Edition, EnteredTiming, no_streams, words_entered};
+use laws::smaller;
 use names::{Refusal, SOURCES};
 use plan::Stream;
 
@@ -18,7 +19,7 @@ use plan::Stream;
 fn over<T: Copy, const N: usize>(mut places: [T; N], values: &[T]) -> [T; N]
     ensures { result ≡ take N values.now ++ drop (length values.now) places }
 {
-    let n = values.len().min(N);
+    let n = smaller(values.len(), N);
     places[..n].copy_from_slice(&values[..n]);
     places
 }
@@ -33,13 +34,13 @@ pub fn screen(
 ) -> Result<(), Refusal>
     ensures { Screens streams.now timing gaps.now out.old result out.new }
 {
+    let rows = over(no_streams(), streams);
+    let copies = over([0; SOURCES], gaps);
+    let words = words_entered(timing, rows, streams.len(), copies, gaps.len());
     let counts = Counts {
         edition: Edition::Three,
         n: streams.len(),
         m: gaps.len(),
     };
-    let rows = over(no_streams(), streams);
-    let copies = over([0; SOURCES], gaps);
-    let words = words_entered(timing, rows, counts.n, copies, counts.m);
     answer_words::<Answer>(counts, &words, out)
 }
