@@ -48,8 +48,8 @@ fn contents_in(bytes: &[u8], counts: Counts) -> bool
     ensures { result ≡ spec.same (take layout.contents_length (words_of bytes.now)) (spec.contents counts.edition counts.n counts.m) }
 {
     let right = contents(counts.edition, counts.n as u16, counts.m as u16);
-    for (k, word) in right.iter().enumerate() {
-        if word_at(bytes, k) != *word {
+    for k in 0..CONTENTS {
+        if word_at(bytes, k) != right[k] {
             return false;
         }
     }

@@ -6,4 +6,4 @@ use Rattle.file.specs.File.{same}
 use Rattle.reader.proofs.contents_in.Given as goal
 
 abbrev pub invariant-loop-k : goal.invariant-loop-k
-invariant-loop-k l = same (take layout.contents_length (words_of l.bytes)) l.word-items ≡ same (drop l.k (take layout.contents_length (words_of l.bytes))) (drop l.k l.word-items)
+invariant-loop-k l = same (take layout.contents_length (words_of l.bytes)) l.right ≡ same (drop l.k (take layout.contents_length (words_of l.bytes))) (drop l.k l.right)
