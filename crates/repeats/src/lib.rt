@@ -29,7 +29,7 @@ fn first_by_buckets<const COUNT: usize>(values: &[u32], mut met: [bool; COUNT]) 
 {
     for (i, value) in values.iter().enumerate() {
         let b = bucket(*value, COUNT);
-        if met[b] && values[..i].contains(value) {
+        if met[b] && values[0..i].contains(value) {
             return Some(Row(i));
         }
         met[b] = true;

@@ -3,12 +3,12 @@ use borrow.Author.Tests.{ne_eqb}
 use mathlib.Core.Path.{◌≡◌, refl, sym, ap, ◌∙◌}
 use mathlib.Core.Bool.{Bool, true, false, true≢false, ◌||◌}
 use mathlib.Core.List.{List}
-use Prim.Native.Nat.{ℕ, zero, suc, ◌+◌, ◌≤◌, ◌<◌}
+use Prim.Native.Nat.{ℕ, zero, suc, ◌+◌, ◌-◌, ◌≤◌, ◌<◌}
 use native.Mathlib.Nat.{le_refl}
 use native.Mathlib.Numerals.{add-one}
 use native.Mathlib.Omega.{arith}
 use lib.Dec.{eqb}
-use lib.ListN.{length, get_or, set, take, length-set}
+use lib.ListN.{length, get_or, set, take, drop, length-set}
 use Rattle.std.specs.List.{list_any}
 use Rattle.std.proofs.lemmas.List.Folds.{list_any_more}
 use Rattle.std.proofs.lemmas.Grind.{common_steps}
@@ -35,16 +35,18 @@ any_some p xs (suc i) h =
     ∙ list_any_more p xs i 0 (omega arith)
     ∙ ap (λ b. b || p (get_or xs i 0)) (any_some p xs i (omega arith))
 
--- the front of the list contains the row's value exactly if the row repeats another
-same : (xs : List ℕ) (i : ℕ) → i ≤ length xs → list_any (λ y. eqb y (get_or xs i 0)) (take i xs) ≡ repeats_at xs i
-same xs i h = any_some (λ y. eqb y (get_or xs i 0)) xs i h
+-- the list from row 0 up to a row contains the row's value exactly if the row repeats another
+same : (xs : List ℕ) (from i : ℕ) → from ≡ 0 → i ≤ length xs → list_any (λ y. eqb y (get_or xs i 0)) (take (i - from) (drop from xs)) ≡ repeats_at xs i
+same xs from i e h =
+    let all : i - 0 ≡ i = omega arith in
+    rw (e, all) (any_some (λ y. eqb y (get_or xs i 0)) xs i h)
 
 no_repeat : (g : Over) (c : Joined-else-met-b g) → repeats_at c.args.values.now c.loop-i.i ≡ false
 no_repeat g c =
     let a = c.args in
     let l = c.loop-i in
     elim c.else-met-b.branch [
-      | else-met-b-via-then-met-b+else-contains w ↦ sym (w.contains.ensures.value ∙ same a.values.now l.i (omega arith)) ∙ w.if-contains.false
+      | else-met-b-via-then-met-b+else-contains w ↦ sym (w.contains.ensures.value ∙ same a.values.now _ l.i (omega arith) (omega arith)) ∙ w.if-contains.false
       | else-met-b-via-else-met-b w ↦
           unmet g.row.COUNT a.values.now l.met l.i l.invariant.2 (ap (λ b. get_or l.met b false) (sym c.bucket-b.ensures.value) ∙ w.if-met-b.false)
     ]
@@ -66,7 +68,7 @@ unfolding first_repeat
 returns-then-contains g c =
     let xs = c.args.values.now in
     let l = c.loop-i in
-    ap as_row (sym (found_at (repeats_at xs) (length xs) l.i l.invariant.0 (search rules) (sym (c.contains.ensures.value ∙ same xs l.i (omega arith)) ∙ c.if-contains.true)))
+    ap as_row (sym (found_at (repeats_at xs) (length xs) l.i l.invariant.0 (search rules) (sym (c.contains.ensures.value ∙ same xs _ l.i (omega arith) (omega arith)) ∙ c.if-contains.true)))
 
 pub returns : goal.returns
 unfolding first_repeat
