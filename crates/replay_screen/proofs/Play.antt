@@ -21,7 +21,7 @@ use Rattle.tournament_laws.proofs.Steps.{next_bit}
 use Rattle.tournament_laws.proofs.Start.{start_long, kept, start_bits, start_count, start_phase}
 use Rattle.tournament_laws.proofs.Calls.{outcome_of, judged_steps as steps-judged, start_fine, start_judged}
 use Rattle.replay_screen.specs.Shown.{gone, bit_line, bit_lines}
-use Rattle.replay_screen.specs.private.Begun.{Begun}
+use Rattle.replay_screen.specs.private.Begun.{Begun, is_heard}
 
 -- ---- what a start hands out
 module _ (NB n : ℕ) (places : List Priority) (long : length places ≡ contenders) where
@@ -74,11 +74,11 @@ module _ (t : Tournament) (b : Begun t) where
   carrier_fine k now l e = rw (e, heard_at_lem k l) refl
 
   -- one bit more
-  pub bit_more : (k : ℕ) (now after : Tournament) (h : Bool) (silent : List Bool) → k < t.bits → now ≡ steps k t → carrier_of now ≡ Ok h
+  pub bit_more : (k : ℕ) (now after : Tournament) (h : Bool) (silent : List Bool) → k < t.bits → now ≡ steps k t → h ≡ is_heard (carrier_of now)
       → step_of now ≡ Ok after → silent ≡ gone (steps k t).marks (steps (k + 1) t).marks
       → (after ≡ steps (k + 1) t) × (bit_lines t k ++ bit_line (k + 1) h silent after.marks ≡ bit_lines t (k + 1))
   unfolding bit_lines
   bit_more k now after h silent l e p q g =
       let d : after ≡ steps (k + 1) t = let o : ◌≡◌ {A = Result Tournament Refusal} (Ok after) (Ok (steps (k + 1) t)) = sym q ∙ ap step_of e ∙ stepped k in cc in
-      let f : h ≡ heard_at (steps k t) (k + 1) = let o : ◌≡◌ {A = Result Bool Refusal} (Ok h) (Ok (heard_at (steps k t) (k + 1))) = sym p ∙ ap carrier_of e ∙ heard_at_lem k l in cc in
+      let f : h ≡ heard_at (steps k t) (k + 1) = p ∙ ap is_heard (ap carrier_of e ∙ heard_at_lem k l) in
       (d, rw (f, g, d, add-one k) refl)

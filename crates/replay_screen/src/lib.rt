@@ -164,7 +164,7 @@ fn lay_played(out: &mut [u8], at: usize, t: Tournament) -> usize
     for k in 0..t.bits {
         let bit = k + 1;
         let after = step(now).unwrap();
-        let carrier = listen(now).unwrap();
+        let carrier = listen(now).unwrap_or(false);
         let silent = silent_at(t, won, bit);
         next = lay_bit(out, next, bit as u64, carrier, silent, after.marks);
         now = after;

@@ -7,7 +7,8 @@ use Rattle.tournament_state.proofs.Meaning.{fine_passed}
 use Rattle.tournament.specs.Rule.{steps}
 use Rattle.text.proofs.Laying.{is, then, last, none}
 use Rattle.replay_screen.specs.Shown.{bit_line, bit_lines, winner_line, played_of}
-use Rattle.replay_screen.proofs.Play.{step_fine, carrier_fine, bit_more}
+use Rattle.replay_screen.specs.private.Begun.{is_heard}
+use Rattle.replay_screen.proofs.Play.{step_fine, bit_more}
 use Rattle.replay_screen.proofs.Silent.{end_is, run_fine, silent_gone}
 use Rattle.replay_screen.proofs.lay_played.Goals as goal
 
@@ -27,18 +28,13 @@ unwrap-after-requires c =
     let l = c.loop-k in
     rw c.step.ensures (step_fine c.args.t c.requires l.k l.now l.invariant.1)
 
-pub unwrap-carrier-requires : goal.unwrap-carrier-requires
-unwrap-carrier-requires c =
-    let l = c.loop-k in
-    rw c.listen.ensures (carrier_fine c.args.t c.requires l.k l.now c.loop-k-test.true l.invariant.1)
-
 pub loop-k-preserved : goal.loop-k-preserved
 loop-k-preserved c =
     let l = c.loop-k in
     let k = c.loop-k-test.true in
     let gone = c.silent_at-silent.ensures ∙ silent_gone c.args.t c.requires _ _ (sym c.run.ensures ∙ c.unwrap-end.ensures) c.winning-won.ensures l.k k in
-    let m = bit_more c.args.t c.requires l.k l.now _ _ _ k l.invariant.1 (sym c.listen.ensures ∙ c.unwrap-carrier.ensures) (sym c.step.ensures ∙ c.unwrap-after.ensures) gone in
-    (omega arith, m.0, is m.1 (then {t = bit_line (l.k + 1) c.unwrap-carrier.result c.silent_at-silent.result c.unwrap-after.result.marks} l.invariant.2 (last c.lay_bit-next.ensures) (omega arith)))
+    let m = bit_more c.args.t c.requires l.k l.now _ _ _ k l.invariant.1 (c.unwrap_or-carrier.ensures ∙ ap is_heard c.listen.ensures) (sym c.step.ensures ∙ c.unwrap-after.ensures) gone in
+    (omega arith, m.0, is m.1 (then {t = bit_line (l.k + 1) c.unwrap_or-carrier.result c.silent_at-silent.result c.unwrap-after.result.marks} l.invariant.2 (last c.lay_bit-next.ensures) (omega arith)))
 
 pub returns : goal.returns
 unfolding played_of

@@ -18,6 +18,10 @@ pub record Begun (t : Tournament) : Type 0 where
   pub long : length t.priorities ≡ contenders
   pub start : t ≡ begun_of t.bits t.count t.priorities
 
+-- whether a carrier is heard: one that is refused is not, and in such a state none is refused
+abbrev pub is_heard : Result Bool Refusal → Bool
+is_heard answer = result_unwrap_or answer false
+
 -- the winner's priority
 abbrev pub won_with : List Priority → Phase → Priority
 won_with places (Finished row) = get_or places row.0 none
