@@ -40,7 +40,8 @@ fn edition_in(bytes: &[u8]) -> Edition
 }
 
 // Whether the eleven contents words are those of a file of n streams and m noise sources. These and those of the two functions below are counts
-// that check_counts has called fine: a type for that would be made at one place and taken apart at these three, and is no plainer.
+// that check_counts has called fine: a type for that would be made at one place and taken apart at these three, and is no plainer. The words are
+// compared by their numbers, so that the loop says from which on.
 fn contents_in(bytes: &[u8], counts: Counts) -> bool
     requires n_le_streams { counts.n ≤ limit.streams }
     requires m_le_sources { counts.m ≤ limit.sources }

@@ -39,7 +39,7 @@ pub fn words_into(bytes: &[u8], out: &mut [u32])
     }
 }
 
-// The four bytes of a word, from byte `at` on.
+// The four bytes of a word, from byte `at` on, each in a line of its own, which says where it stands.
 fn put_word(buf: &mut [u8], at: usize, w: u32)
     requires { at + 4 ≤ length buf.old }
     ensures { buf.new ≡ with_words buf.old at (w ∷ []) }
