@@ -1,22 +1,17 @@
 -- What is said of the lists that are lent is what is said of the plans. Assumes nothing.
-use Rattle.std.proofs.Common.{◌≡◌, ◌∙◌, refl, sym, ap, ap₂, arith, add-one, ℕ, zero, suc, ◌+◌, ◌<◌, ◌≤◌, List, [], ◌∷◌, map, Bool, true, false, not, ◌&&◌, ◌||◌, Option, Some, None, Result, Ok, Err, ltb, leb, eqb, length, get_or, take, find, count_by}
-use Rattle.std.proofs.lemmas.List.{get_or-map, length-map, take_all}
-use Rattle.std.proofs.lemmas.List.Sums.{count_by_more_yes, count_by_more_no}
+use Rattle.std.proofs.Common.{◌≡◌, ◌∙◌, refl, sym, ap, ap₂, arith, ℕ, zero, suc, ◌+◌, ◌<◌, ◌≤◌, List, [], ◌∷◌, map, Bool, true, false, not, ◌&&◌, ◌||◌, Option, Some, None, ltb, leb, eqb, length, get_or, take, find, set, min}
+use Rattle.std.proofs.lemmas.List.{get_or-map, length-map}
 use Rattle.std.specs.Option.{option_map}
-use borrow.Author.Tests.{lt-ltb}
 use Rattle.names.specs.Limits.{streams}
 use Rattle.laws.specs.Rows.{some}
-use Rattle.laws.specs.Lists.{placed}
 use Rattle.laws.specs.Search.{first}
-use Rattle.laws.proofs.Placed.{placed_front}
+use Rattle.laws.proofs.Placed.{placed_to, placed_more, placed_all, placed_front}
 use Rattle.laws.proofs.Rows.{finds_lowest, finds_nothing}
 use Rattle.plan.specs.declared.Stream.{Stream}
 use Rattle.plan.specs.Plan.{Plan, blank, at}
-use Rattle.compare.specs.declared.Moved.{Moved}
-use Rattle.compare.specs.declared.Reason.{Reason}
 use Rattle.compare.specs.declared.Reason.TheVariants.{LessUrgent}
 use Rattle.compare.specs.Changes.{must, ◌or◌, first_change, row_of, in_row, of_stream, number_in, number_under, overtakes, of_streams, of_order}
-use Rattle.compare.specs.private.Moves.{under, beside, moved, moved_from, unmoved, with_moves, of_row, moves_of, overtakes_by, order_by}
+use Rattle.compare.specs.private.Moves.{priority_of, column_placed, under, beside, had, number_then, of_row, overtakes_by, order_by, streams_by}
 use Rattle.compare.proofs.First.{Change}
 
 -- ---- what is found in a list is the element in the first place that passes
@@ -46,31 +41,25 @@ found t d xs = go (first u 0 (length xs)) refl
         found_here t d xs r (omega (arith, l.below)) l.passes (λ k h. l.lowest k (omega arith) h)
     go None e = found_nowhere t d xs (λ k h. (finds_nothing u 0 (length xs)).0 e k (omega arith) (omega (arith, h)))
 
--- ---- some row passes exactly if one or more are counted
-none_counted : (m n : ℕ) (s : Bool) → n ≡ m → ltb 0 m ≡ s → ltb 0 n ≡ s || false
-none_counted m n true e d = ap (ltb 0) e ∙ d
-none_counted m n false e d = ap (ltb 0) e ∙ d
+-- ---- a column in the places of an array: one stream more, ..
+pub column_more : (f : Stream → ℕ) (ss : List Stream) (k : ℕ) {l : List ℕ} {x : ℕ} → k < length ss → length ss ≤ streams
+    → l ≡ placed_to streams 0 (map f ss) k → x ≡ f (get_or ss k blank) → set l k x ≡ placed_to streams 0 (map f ss) (k + 1)
+column_more f ss k {l} h few e d =
+    ap (set l k) (d ∙ sym (get_or-map f ss k blank 0 h))
+    ∙ placed_more streams 0 (map f ss) k l (omega arith) (omega (arith, length-map ss f)) e
 
-one_counted : (m n : ℕ) (s : Bool) → n ≡ m + 1 → ltb 0 n ≡ s || true
-one_counted m n true e = lt-ltb 0 n (omega (arith, e))
-one_counted m n false e = lt-ltb 0 n (omega (arith, e))
+-- .. all, ..
+pub column_all : (f : Stream → ℕ) (ss : List Stream) (n : ℕ) {l : List ℕ} → n ≡ length ss → length ss ≤ streams
+    → l ≡ placed_to streams 0 (map f ss) n → l ≡ column_placed f ss
+column_all f ss n d h e =
+    let m : n ≡ min (length (map f ss)) streams = omega (arith, length-map ss f) in
+    e ∙ ap (placed_to streams 0 (map f ss)) m ∙ placed_all streams 0 (map f ss)
 
-counted_to : {A : Type 0} (t : A → Bool) (d : A) (xs : List A) (n : ℕ) → n ≤ length xs → ltb 0 (count_by t (take n xs)) ≡ some (λ k. t (get_or xs k d)) n
-unfolding some
-counted_to t d xs zero h = refl
-counted_to {A} t d xs (suc n) h =
-    go (t (get_or xs n d)) refl (counted_to t d xs n (omega arith))
-  where
-    next : count_by t (take (suc n) xs) ≡ count_by t (take (n + 1) xs)
-    next = rw (add-one n) refl
-
-    go : (b : Bool) → t (get_or xs n d) ≡ b → ltb 0 (count_by t (take n xs)) ≡ some (λ k. t (get_or xs k d)) n
-        → ltb 0 (count_by t (take (suc n) xs)) ≡ some (λ k. t (get_or xs k d)) n || t (get_or xs n d)
-    go true e q = rw e (one_counted (count_by t (take n xs)) _ _ (next ∙ count_by_more_yes t xs n d (omega arith) e))
-    go false e q = rw e (none_counted (count_by t (take n xs)) _ _ (next ∙ count_by_more_no t xs n d (omega arith) e) q)
-
-counted : {A : Type 0} (t : A → Bool) (d : A) (xs : List A) → ltb 0 (count_by t xs) ≡ some (λ k. t (get_or xs k d)) (length xs)
-counted t d xs = ap (λ l. ltb 0 (count_by t l)) (sym (take_all (length xs) xs (omega arith))) ∙ counted_to t d xs (length xs) (omega arith)
+-- .. and its front, one place for each stream, is the column
+pub column_front : (f : Stream → ℕ) (ss : List Stream) → length ss ≤ streams → take (length ss) (column_placed f ss) ≡ map f ss
+column_front f ss h =
+    let n : length ss ≡ length (map f ss) = sym (length-map ss f) in
+    ap (λ k. take k (column_placed f ss)) n ∙ placed_front streams 0 (map f ss) (omega (arith, n))
 
 -- ---- the same tests, row by row
 some_same : (t u : ℕ → Bool) (n : ℕ) → ((j : ℕ) → j < n → t j ≡ u j) → some t n ≡ some u n
@@ -101,60 +90,35 @@ module _ (old new : Plan) where
   as_streams = changes_same _ _ (length new.streams) (λ k h. beside_row (at new k))
 
   -- ---- their order of priority
-  number_is : (s : Stream) → (moved old.streams s).was.0 ≡ number_under old s.label
-  number_is s = ap (λ o. (moved_from s o).was.0) (under_row s) ∙ go (row_of old s.label)
+  abbrev was : List ℕ
+  was = map (number_then old.streams) new.streams
+
+  abbrev is : List ℕ
+  is = map priority_of new.streams
+
+  then_is : (s : Stream) → number_then old.streams s ≡ number_under old s.label
+  then_is s = ap had (under_row s) ∙ go (row_of old s.label)
     where
-      go : (f : Option ℕ) → (moved_from s (option_map (at old) f)).was.0 ≡ number_in old f
+      go : (f : Option ℕ) → had (option_map (at old) f) ≡ number_in old f
       go (Some r) = refl
       go None = refl
 
-  is_own : (s : Stream) → (moved old.streams s).is.0 ≡ s.priority.0
-  is_own s = go (under old.streams s)
-    where
-      go : (o : Option Stream) → (moved_from s o).is.0 ≡ s.priority.0
-      go (Some held) = refl
-      go None = refl
+  was_at : (k : ℕ) → k < length new.streams → get_or was k 0 ≡ number_under old (at new k).label
+  was_at k h = get_or-map (number_then old.streams) new.streams k blank 0 h ∙ then_is (at new k)
 
-  abbrev moves : List Moved
-  moves = map (moved old.streams) new.streams
+  is_at : (k : ℕ) → k < length new.streams → get_or is k 0 ≡ (at new k).priority.0
+  is_at k h = get_or-map priority_of new.streams k blank 0 h
 
-  move_at : (k : ℕ) → k < length new.streams → get_or moves k unmoved ≡ moved old.streams (at new k)
-  move_at k h = get_or-map (moved old.streams) new.streams k blank unmoved h
+  overtaking : (k j : ℕ) → k < length new.streams → j < length new.streams → overtakes_by was is k j ≡ overtakes old new k j
+  overtaking k j h i = λ x. ltb (is_at j i x) (is_at k h x) && leb (was_at k h x) (was_at j i x)
 
-  overtaking : (k j : ℕ) → k < length new.streams → j < length new.streams → overtakes_by (get_or moves k unmoved) (get_or moves j unmoved) ≡ overtakes old new k j
-  overtaking k j h i =
-      ap₂ overtakes_by (move_at k h) (move_at j i)
-      ∙ (λ x. ltb (is_own (at new j) x) (is_own (at new k) x) && leb (number_is (at new k) x) (number_is (at new j) x))
-
-  as_order : order_by new.streams moves ≡ of_order old new
+  as_order : order_by new.streams was is ≡ of_order old new
   as_order =
       changes_same _ _ (length new.streams)
       (λ k h. ap (λ t. must (not t) (LessUrgent (at new k).label))
-      (counted (overtakes_by (get_or moves k unmoved)) unmoved moves
-      ∙ ap (some (λ j. overtakes_by (get_or moves k unmoved) (get_or moves j unmoved))) (length-map new.streams (moved old.streams))
+      (ap (some (overtakes_by was is k)) (length-map new.streams priority_of)
       ∙ some_same _ _ (length new.streams) (λ j i. overtaking k j h i)))
 
--- ---- the lists that are lent
-with_err : (ms : List Moved) (c : Change) (r : Reason) → with_moves ms c ≡ Err r → c ≡ Err r
-with_err ms (Ok _) r e = absurd (let z : ◌≡◌ {A = ℕ} 0 1 = cc in omega arith)
-with_err ms (Err q) r e = let d : q ≡ r = cc in ap Err d
-
-with_ok : (ms : List Moved) (c : Change) (l : List Moved) → with_moves ms c ≡ Ok l → (c ≡ Ok tt) × (l ≡ ms)
-with_ok ms (Ok _) l e = let d : l ≡ ms = cc in (refl, d)
-with_ok ms (Err q) l e = absurd (let z : ◌≡◌ {A = ℕ} 0 1 = cc in omega arith)
-
-module _ (old new : Plan) (xs ys : List Stream) (held : xs ≡ old.streams) (given : ys ≡ new.streams) where
-  moves_are : moves_of xs ys ≡ with_moves (placed streams unmoved (moves old new)) (of_streams old new)
-  moves_are = ap₂ moves_of held given ∙ ap (with_moves _) (as_streams old new)
-
-  pub streams_broken : (x : Result (List Moved) Reason) (r : Reason) → x ≡ moves_of xs ys → x ≡ Err r → of_streams old new ≡ Err r
-  streams_broken x r e d = with_err _ _ r (sym moves_are ∙ sym e ∙ d)
-
-  pub streams_hold : (x : Result (List Moved) Reason) (l : List Moved) → x ≡ moves_of xs ys → x ≡ Ok l
-      → (of_streams old new ≡ Ok tt) × (l ≡ placed streams unmoved (moves old new))
-  streams_hold x l e d = with_ok _ _ l (sym moves_are ∙ sym e ∙ d)
-
-  pub order_is : (l : List Moved) → length ys ≤ streams → l ≡ placed streams unmoved (moves old new) → order_by ys (take (length ys) l) ≡ of_order old new
-  order_is l h e =
-      let n : length ys ≡ length (moves old new) = ap length given ∙ sym (length-map new.streams (moved old.streams)) in
-      ap₂ order_by given (ap₂ take n e ∙ placed_front streams unmoved (moves old new) (omega (arith, n))) ∙ as_order old new
+  -- ---- the streams, and then their order
+  pub as_plans : (xs ys : List Stream) → xs ≡ old.streams → ys ≡ new.streams → streams_by xs ys ≡ of_streams old new or of_order old new
+  as_plans xs ys held given = ap₂ streams_by held given ∙ ap₂ (λ a b. a or b) as_streams as_order

@@ -4,16 +4,16 @@
 // Nothing is assumed. This crate knows of plans' values; it must not know of bytes or of text, and it runs no analysis.
 #![tactic(auto)]
 
-ghost use Rattle.std.specs.Prelude.{◌≡◌, ◌≤◌, ◌==◌, leb, length, find};
+ghost use Rattle.std.specs.Prelude.{◌≡◌, ◌≤◌, ◌<◌, ◌==◌, leb, ltb, length, map, find, slice_index};
 ghost use Rattle.names.specs.Limits as limit;
 ghost use Rattle.plan.specs.Plan.{plan_of};
 ghost use Rattle.compare.specs.Changes as rule;
 ghost use Rattle.compare.specs.Changes.{compared_with};
 ghost use Rattle.compare.specs.Claims.{SaysLighter};
-ghost use Rattle.compare.specs.private.Moves.{moves_of, overtaken_by, order_by, noise_by};
+ghost use Rattle.compare.specs.private.Moves.{label_of, column_placed, overtaken_by, order_by, streams_by, noise_by};
 
 use checks::check;
-use names::{Label, Priority, Refusal, STREAMS};
+use names::{Label, Refusal, STREAMS};
 use plan::{Sheet, Stream, Timing};
 
 // A timing constant of a plan, under the documents' letters.
@@ -105,14 +105,27 @@ fn gaps_of(plan: &Sheet) -> &[u32]
     &plan.gaps[..plan.sources.min(plan.gaps.len())]
 }
 
-// The stream that is under a label. By a loop, as whether it is overtaken: measured, with `find` and `filter` comparing two plans of 256 streams takes
-// seven times as long.
-fn namesake(streams: &[Stream], label: Label) -> Option<Stream>
+// The labels of streams, as plain numbers. Where each row is held to each, a row is a number in a column, and the loop is written out: measured,
+// comparing two plans of 256 streams takes a third longer or more over a list of structs, and seven times as long with `find` and `filter`.
+fn labels_of(streams: &[Stream]) -> [u32; STREAMS]
+    requires { length streams.now ≤ limit.streams }
+    ensures { result ≡ column_placed label_of streams.now }
+{
+    let mut labels = [0; STREAMS];
+    for (k, s) in streams.iter().enumerate() {
+        labels[k] = s.label.0;
+    }
+    labels
+}
+
+// The stream that is under a label.
+fn namesake(streams: &[Stream], labels: &[u32], label: Label) -> Option<Stream>
+    requires { labels.now ≡ map label_of streams.now }
     ensures { result ≡ find (λ s. s.label.0 == label.0) streams.now }
 {
-    for s in streams {
-        if s.label.0 == label.0 {
-            return Some(*s);
+    for (r, held) in labels.iter().enumerate() {
+        if *held == label.0 {
+            return Some(streams[r]);
         }
     }
     None
@@ -134,57 +147,53 @@ fn eased(old: Stream, new: Stream) -> Result<(), Reason>
     )
 }
 
-// The priority that a stream had in the first plan, and the one that it has in the second.
-#[derive(Clone, Copy)]
-struct Moved {
-    was: Priority,
-    is: Priority,
+// Whether some row overtakes row k. There is no way out of the loop, so that several rows are compared at once.
+fn overtaken(was: &[u32], is: &[u32], k: usize) -> bool
+    requires same { length was.now ≡ length is.now }
+    requires row { k < length is.now }
+    ensures { result ≡ overtaken_by was.now is.now k }
+{
+    let had = was[k];
+    let has = is[k];
+    let mut overtaking = false;
+    for (j, other) in is.iter().enumerate() {
+        overtaking |= (*other < has) & (had <= was[j]);
+    }
+    overtaking
 }
 
-// The streams of the second plan beside those that they stand in: the first change or, where there is none, how each moved.
-fn moves(old: &[Stream], new: &[Stream]) -> Result<[Moved; STREAMS], Reason>
-    requires { length new.now ≤ limit.streams }
-    ensures { result ≡ moves_of old.now new.now }
+// The first row that is overtaken, by the numbers of the priorities that the rows had and have.
+fn order(new: &[Stream], was: &[u32], is: &[u32]) -> Result<(), Reason>
+    requires was_len { length was.now ≡ length new.now }
+    requires is_len { length is.now ≡ length new.now }
+    ensures { result ≡ order_by new.now was.now is.now }
 {
-    let nowhere = Priority(0);
-    let mut moves = [Moved {
-        was: nowhere,
-        is: nowhere,
-    }; STREAMS];
     for (k, s) in new.iter().enumerate() {
-        let held = namesake(old, s.label).ok_or(Reason::NewLabel(s.label))?;
-        eased(held, *s)?;
-        moves[k] = Moved {
-            was: held.priority,
-            is: s.priority,
-        };
-    }
-    Ok(moves)
-}
-
-// Whether some row overtakes a stream. It counts them all, so that several rows are compared at once.
-fn overtaken(moves: &[Moved], own: Moved) -> bool
-    ensures { result ≡ overtaken_by moves.now own }
-{
-    let mut overtaking: usize = 0;
-    for other in moves {
-        let ahead = other.is.0 < own.is.0 && own.was.0 <= other.was.0;
-        overtaking += usize::from(ahead);
-    }
-    0 < overtaking
-}
-
-// The first row that is overtaken.
-fn order(streams: &[Stream], moves: &[Moved]) -> Result<(), Reason>
-    requires { length streams.now ≡ length moves.now }
-    ensures { result ≡ order_by streams.now moves.now }
-{
-    for (k, own) in moves.iter().enumerate() {
-        if overtaken(moves, *own) {
-            return Err(Reason::LessUrgent(streams[k].label));
+        if overtaken(was, is, k) {
+            return Err(Reason::LessUrgent(s.label));
         }
     }
     Ok(())
+}
+
+// The streams of the second plan beside those that they stand in, and then their order of priority. The columns are made and looked through in
+// one function, so that they are not copied.
+fn streams(old: &[Stream], new: &[Stream]) -> Result<(), Reason>
+    requires few_old { length old.now ≤ limit.streams }
+    requires few_new { length new.now ≤ limit.streams }
+    ensures { result ≡ streams_by old.now new.now }
+{
+    let labels = labels_of(old);
+    let labels = &labels[..old.len()];
+    let mut was = [0; STREAMS];
+    let mut is = [0; STREAMS];
+    for (k, s) in new.iter().enumerate() {
+        let held = namesake(old, labels, s.label).ok_or(Reason::NewLabel(s.label))?;
+        eased(held, *s)?;
+        was[k] = held.priority.0;
+        is[k] = s.priority.0;
+    }
+    order(new, &was[..new.len()], &is[..new.len()])
 }
 
 // How many of the gaps are at most x.
@@ -195,12 +204,21 @@ fn at_most(gaps: &[u32], x: u32) -> usize
     gaps.iter().filter(|gap| **gap <= x).count()
 }
 
+// Whether more gaps of the second plan than of the first are at most gap k of the second.
+fn outnumbered(old: &[u32], new: &[u32], k: usize) -> bool
+    requires { k < length new.now }
+    ensures { let x = slice_index new.now k in result ≡ ltb (rule.at_most x old.now) (rule.at_most x new.now) }
+{
+    let gap = new[k];
+    let wanted = at_most(new, gap);
+    at_most(old, gap) < wanted
+}
+
 fn noise(old: &[u32], new: &[u32]) -> Result<(), Reason>
     ensures { result ≡ noise_by old.now new.now }
 {
-    for gap in new {
-        let wanted = at_most(new, *gap);
-        if at_most(old, *gap) < wanted {
+    for (k, gap) in new.iter().enumerate() {
+        if outnumbered(old, new, k) {
             return Err(Reason::MoreNoise(*gap));
         }
     }
@@ -213,9 +231,7 @@ pub fn changes(old: Sheet, new: Sheet) -> Result<(), Reason>
 {
     kit(old.timing, new.timing)?;
     constants(old.timing, new.timing)?;
-    let streams = streams_of(&new);
-    let moves = moves(streams_of(&old), streams)?;
-    order(streams, &moves[..streams.len()])?;
+    streams(streams_of(&old), streams_of(&new))?;
     noise(gaps_of(&old), gaps_of(&new))
 }
 

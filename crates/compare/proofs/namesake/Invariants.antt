@@ -3,5 +3,5 @@ use Rattle.std.proofs.Common.{◌≡◌, ◌==◌, drop}
 use Rattle.std.specs.Prelude.{find}
 use Rattle.compare.proofs.namesake.Given as goal
 
-abbrev pub invariant-loop-s : goal.invariant-loop-s
-invariant-loop-s l = find (λ s. s.label.0 == l.label.0) (drop l.s-index l.streams) ≡ find (λ s. s.label.0 == l.label.0) l.streams
+abbrev pub invariant-loop-r : goal.invariant-loop-r
+invariant-loop-r l = find (λ s. s.label.0 == l.label.0) (drop l.r l.streams) ≡ find (λ s. s.label.0 == l.label.0) l.streams

@@ -4,5 +4,5 @@ use Rattle.compare.specs.Changes.{first_change}
 use Rattle.compare.specs.private.Moves.{gap_by}
 use Rattle.compare.proofs.noise.Given as goal
 
-abbrev pub invariant-loop-gap : goal.invariant-loop-gap
-invariant-loop-gap l = first_change (gap_by l.old l.new) l.gap-index ≡ Ok tt
+abbrev pub invariant-loop-k : goal.invariant-loop-k
+invariant-loop-k l = first_change (gap_by l.old l.new) l.k ≡ Ok tt

@@ -5,4 +5,4 @@ use Rattle.compare.specs.private.Moves.{urgency_by}
 use Rattle.compare.proofs.order.Given as goal
 
 abbrev pub invariant-loop-k : goal.invariant-loop-k
-invariant-loop-k l = first_change (urgency_by l.streams l.moves) l.k ≡ Ok tt
+invariant-loop-k l = first_change (urgency_by l.new l.was l.is) l.k ≡ Ok tt
