@@ -1,4 +1,5 @@
 pub mod First
+pub mod ConstantPlaces
 pub mod Gaps
 pub mod Exactly
 pub mod Says

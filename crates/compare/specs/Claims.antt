@@ -1,4 +1,4 @@
--- What is proved of the test; the proofs are in proofs/First.antt, Exactly.antt and Says.antt.
+-- What is proved of the test; the proofs are in proofs/First.antt, ConstantPlaces.antt, Exactly.antt and Says.antt.
 use Rattle.std.specs.Prelude.{◌≡◌, ◌↔◌, ℕ, ◌<◌, length}
 use Rattle.plan.specs.declared.Sheet.{Sheet}
 use Rattle.plan.specs.Plan.{Plan, plan_of}
@@ -7,7 +7,7 @@ use Rattle.checks.specs.Checks.{checked_of}
 use Rattle.promise.specs.Lighter.{Lighter, NotRefused, Kept}
 use Rattle.compare.specs.declared.Reason.{Reason}
 use Rattle.compare.specs.declared.Compared.{Compared, TheVariants.Lighter as Compared-as-Lighter}
-use Rattle.compare.specs.Changes.{first_change, changes, compared_of}
+use Rattle.compare.specs.Changes.{first_change, many_constants, constant, place_of, changes, compared_of}
 
 -- r is one of the changes, and there is none before it
 pub record FirstChange (f : ℕ → Result (Unit {0}) Reason) (n : ℕ) (r : Reason) : Type 0 where
@@ -23,6 +23,10 @@ ChangeIfFirst = (f : ℕ → Result (Unit {0}) Reason) (n : ℕ) (r : Reason) �
 -- .. and nothing exactly if there is no change
 abbrev pub NothingIfNone : Type 0
 NothingIfNone = (f : ℕ → Result (Unit {0}) Reason) (n : ℕ) → (first_change f n ≡ Ok tt) ↔ ((i : ℕ) → i < n → f i ≡ Ok tt)
+
+-- each constant has the place that it is counted by
+abbrev pub PlaceOfConstant : Type 0
+PlaceOfConstant = (k : ℕ) → k < many_constants → place_of (constant k) ≡ k
 
 -- of two plans that are not refused, no condition is broken exactly if the second is lighter
 abbrev pub LighterExactly : Type 0

@@ -9,7 +9,7 @@ use Rattle.plan.specs.declared.Stream.{Stream}
 use Rattle.carried.specs.declared.Edition.TheVariants.{Three}
 use Rattle.carried.specs.Layout as layout
 use Rattle.carried.specs.Carried.{plain_timing, entered_timing_in, entered_in, timing_words}
-use Rattle.compare.specs.Changes.{constants_of, many_constants, place_of}
+use Rattle.compare.specs.Changes.{constants_of, many_constants, constant, place_of}
 use Rattle.compare.specs.declared.Reason.{Reason}
 use Rattle.compare.specs.declared.Reason.TheVariants.{MasterNode, GreaterConstant, NewLabel, ShorterPeriod, LongerJitter}
 use Rattle.compare.specs.declared.Reason.TheVariants.{LongerPayload, ShorterDeadline, LongerAcknowledgement, LessUrgent, MoreNoise}
@@ -148,6 +148,12 @@ step_marks NB phase at ps bs = step_bytes (step_from NB phase at ps bs) bs
 abbrev pub ConstantInFile : Type 0
 ConstantInFile =
     (t : Timing) (k : ℕ) → k < many_constants → get_or (timing_words (plain_timing t)) (constant_at k) 0 ≡ get_or (constants_of t) k 0
+
+-- .. and one that is greater is reported by that number
+abbrev pub ReportedInFile : Type 0
+ReportedInFile =
+    (t : Timing) (k : ℕ) → k < many_constants → let told = again (GreaterConstant (constant k)) in
+    (told ≡ broken 1 (constant_at k)) × (get_or (timing_words (plain_timing t)) told.value 0 ≡ get_or (constants_of t) k 0)
 
 -- ---- What a caller that lends a tournament can count on, beside the definitions. Proved in proofs/Fewer.antt and proofs/Marks.antt.
 
