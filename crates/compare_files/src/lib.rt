@@ -14,5 +14,11 @@ pub fn lighter_files(old: &[u8], new: &[u8]) -> Compared
 {
     let first = read(old);
     let second = read(new);
-    outcome(first, second)
+    match first {
+        Err(r) => Compared::FirstRefused(r),
+        Ok(first_plan) => match second {
+            Err(r) => Compared::SecondRefused(r),
+            Ok(second_plan) => outcome(Ok(first_plan), Ok(second_plan)),
+        },
+    }
 }
