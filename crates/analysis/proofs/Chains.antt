@@ -1,6 +1,5 @@
 -- What a chain keeps from turn to turn: sums that, with the edges, give a right side from the present x on; and the chain for L. Assumes nothing.
-use mathlib.Core.Path.{◌≡◌, sym, ap, ◌∙◌, subst}
-use Rattle.std.specs.Prelude.{Option, Some, None, MatchOption}
+use mathlib.Core.Path.{◌≡◌, sym, ap, ◌∙◌}
 use mathlib.Core.List.{List}
 use Prim.Native.Nat.{ℕ, ◌+◌, ◌-◌, ◌*◌, ◌≤◌, ◌<◌}
 use native.Mathlib.Nat.{le_refl, sub-zero}
@@ -10,7 +9,7 @@ use Rattle.laws.specs.Lists.{ceil}
 use Rattle.std.specs.Prelude.{Some}
 use Rattle.bound.specs.Terms.{Terms}
 use Rattle.bound.specs.Bound.{side_L, busy}
-use Rattle.bound.specs.Evaluations.{chain, evaluations, searched}
+use Rattle.bound.specs.Evaluations.{chain, searched}
 use Rattle.bound.specs.Claims.{Sound}
 use Rattle.bound.proofs.Evaluations.{Counted, counted_start, counted_none, counted_fits, counted_found, counted_more, next_value, ends_at_l, ends_beyond}
 use Rattle.bound.proofs.Answers.{searched-none}
@@ -71,8 +70,8 @@ module _ {g : Gathered} {r : Terms} {own : Own} where
 
   module _ {k x : ℕ} (b : BusyChain g r own k x) where
     -- beyond the last tick there is none
-    pub busy_beyond : ticks < x → EndsAs r (record { busy = None; evaluations = k })
-    busy_beyond h = let e = counted_none b.counted h in record { count = e; busy = omega (arith, b.counted.value ∙ ap (chain r) e) }
+    pub busy_beyond : ticks < x → EndsAs r (record { last = x; evaluations = k })
+    busy_beyond h = let e = counted_none b.counted h in record { count = e; last = b.counted.value ∙ ap (chain r) e }
 
     -- a turn evaluates the right side at x: there L is found, or the chain goes on
     module _ {y : ℕ} (e : y ≡ side_L r x) where
@@ -82,21 +81,16 @@ module _ {g : Gathered} {r : Terms} {own : Own} where
       pub busy_fits : x ≤ ticks → k + 1 ≤ ticks
       busy_fits = counted_fits b.counted e
 
-      pub busy_found : x ≤ ticks → y ≡ x → EndsAs r (record { busy = Some y; evaluations = k + 1 })
-      busy_found h d =
-          let q = counted_found b.counted e h d in
-          record { count = q; busy = (next_value b.counted e h ∙ ap (chain r) q, omega arith) }
+      pub busy_found : x ≤ ticks → y ≡ x → EndsAs r (record { last = y; evaluations = k + 1 })
+      busy_found h d = let q = counted_found b.counted e h d in record { count = q; last = next_value b.counted e h ∙ ap (chain r) q }
 
       pub busy_more : {on : Own} → x ≤ ticks → (y ≡ x → ⊥) → OwnKept g on x → BusyChain g r on (k + 1) y
       busy_more {on} h d o = record { counted = counted_more b.counted e h d; mine = own_up g on x y busy_rises o }
 
 -- ---- what the chain's end says
 module _ {r : Terms} (s : Sound r) {e : Ended} (a : EndsAs r e) where
-  ends : {b : Option ℕ} → e.busy ≡ b → MatchOption b (ticks < chain r (evaluations r)) (λ L. (L ≡ chain r (evaluations r)) × (L ≤ ticks))
-  ends h = subst (λ b. MatchOption b (ticks < chain r (evaluations r)) (λ L. (L ≡ chain r (evaluations r)) × (L ≤ ticks))) h a.busy
+  pub ended_none : (D : ℕ) → ticks < e.last → no_bound e.evaluations ≡ searched r D
+  ended_none D h = searched-none r D e.evaluations ((ends_beyond r s).1 (omega (arith, a.last))) a.count
 
-  pub ended_none : (D : ℕ) → e.busy ≡ None → no_bound e.evaluations ≡ searched r D
-  ended_none D h = searched-none r D e.evaluations ((ends_beyond r s).1 (ends h)) a.count
-
-  pub ended_busy : (L : ℕ) → e.busy ≡ Some L → busy r ≡ Some L
-  ended_busy L h = let (is, small) = ends h in (ends_at_l r s L).1 (sym is, small)
+  pub ended_busy : (L : ℕ) → (L ≡ e.last) × (L ≤ ticks) → busy r ≡ Some L
+  ended_busy L (is, small) = (ends_at_l r s L).1 (sym (is ∙ a.last), small)

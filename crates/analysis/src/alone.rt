@@ -5,7 +5,7 @@ ghost use Rattle.bound.specs.Evaluations.{searched};
 ghost use Rattle.analysis.specs.private.Chains.{alone_terms, EndsAs};
 
 use crate::fitting::Fitting;
-use crate::searches::{Ended, FIRST, judged, no_bound, own_at, own_start};
+use crate::searches::{Ended, FIRST, judged, no_bound, own_at, own_start, term};
 use bound::Searched;
 use names::TICKS;
 
@@ -23,14 +23,14 @@ fn busy_alone(fitting: Fitting) -> Ended
         evaluations += 1;
         if y == x {
             return Ended {
-                busy: Some(y),
+                last: y,
                 evaluations,
             };
         }
         x = y;
     }
     Ended {
-        busy: None,
+        last: x,
         evaluations,
     }
 }
@@ -41,11 +41,11 @@ pub(crate) fn answer_alone(fitting: Fitting, deadline: u64) -> Searched
     ensures { result ≡ searched (alone_terms fitting.entry.terms.row) deadline }
 {
     let ended = busy_alone(fitting);
-    match ended.busy {
+    match ended.busy() {
         Some(l) => {
             let row = fitting.terms.row;
-            let first = row.jitter + row.blocking + row.last;
-            let answer = judged(first, 0, deadline);
+            let first = term(row.jitter + row.blocking + row.last, 0);
+            let answer = judged(first as u64, 0, deadline);
             Searched {
                 answer,
                 evaluations: ended.evaluations,

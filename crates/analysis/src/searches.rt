@@ -2,7 +2,7 @@
 //
 // The search for L is the plain chain from 1, one evaluation of the right side a turn, and the turns are counted; all searches of a row for
 // w climb once.
-ghost use Rattle.std.specs.Prelude.{◌≡◌, ◌+◌, ◌*◌, ◌^◌, ◌≤◌, ◌<◌, pos, ◌-ℤ◌};
+ghost use Rattle.std.specs.Prelude.{◌≡◌, ◌+◌, ◌*◌, ◌^◌, ◌≤◌, ◌<◌, pos, ◌-ℤ◌, MatchOption};
 ghost use Rattle.names.specs.Limits.{ticks};
 ghost use Rattle.laws.specs.Lists.{ceil};
 ghost use Rattle.bound.specs.Bound as rule;
@@ -58,11 +58,23 @@ pub(crate) fn own_at(fitting: Fitting, own: Own, x: u64) -> Own
     Own { edge, sum }
 }
 
-// Where the chain for L ended: at L, or with none if it passed the last tick; and how many evaluations there were.
+// Where the chain for L ended: its last value, which is L or beyond the last tick, and how many evaluations there were.
 #[derive(Clone, Copy)]
 pub(crate) struct Ended {
-    pub(crate) busy: Option<u64>,
+    pub(crate) last: u64,
     pub(crate) evaluations: u64,
+}
+
+impl Ended {
+    // L, or none if the chain passed the last tick.
+    pub(crate) fn busy(self) -> Option<u64>
+        ensures { MatchOption result (ticks < self.last) (λ L. (L ≡ self.last) × (L ≤ ticks)) }
+    {
+        if TICKS < self.last {
+            return None;
+        }
+        Some(self.last)
+    }
 }
 
 // a - b, which may be below zero.
@@ -148,14 +160,14 @@ impl<const ROOM: usize, const LOTS_ROOM: usize> Climber<ROOM, LOTS_ROOM> {
             evaluations += 1;
             if y == x {
                 return Ended {
-                    busy: Some(y),
+                    last: y,
                     evaluations,
                 };
             }
             x = y;
         }
         Ended {
-            busy: None,
+            last: x,
             evaluations,
         }
     }
@@ -222,7 +234,7 @@ impl<const ROOM: usize, const LOTS_ROOM: usize> Climber<ROOM, LOTS_ROOM> {
         ensures { result ≡ searched (terms_in fitting.entry) deadline }
     {
         let ended = self.busy_period(fitting);
-        match ended.busy {
+        match ended.busy() {
             Some(l) => {
                 let answer = self.worst(fitting, l, deadline);
                 Searched {

@@ -7,11 +7,10 @@ use native.Mathlib.Nat.{add-zero, le-div_iff_mul-le, mul_comm, mul-zero, mul-suc
 use native.Mathlib.Numerals.{add-one}
 use native.Mathlib.Omega.{arith}
 use borrow.Author.Tests.{lt-ltb, ltb-true}
-use lib.ListN.{length, take, drop, get_or, length-append, length-drop, length-map, get_or-append, get_or-map}
+use lib.ListN.{length, take, drop, get_or, set, length-append, length-drop, length-map, get_or-append, get_or-map}
 use Rattle.std.specs.Simd.{first_chunks}
 use Rattle.std.proofs.lemmas.List.{get_or-take}
-use borrow.Rule.Slice.PartMut.{put_mid}
-use lib.Seq.{get_or-drop, take_at, take_all, drop-append-add, drop-drop, length-take-le, get_or-append-add}
+use lib.Seq.{get_or-drop, paste, paste-suc, take_at, take_all, drop-append-add, drop-drop, length-take-le, get_or-append-add}
 use Rattle.laws.specs.Lists.{rows}
 use Rattle.laws.proofs.Lists.{rows_more, rows_same, rows_take, length_rows}
 use Rattle.laws.proofs.Pieces.{flat_append, length_flat, in_piece}
@@ -22,12 +21,14 @@ use Rattle.bound.specs.Bound.{verdict_number}
 use Rattle.row_words.specs.RowWords.{row_words, words_per_row, wait_words, words_per_wait, has_row, with_row, verdict_at, bound_at, instance_at, evaluations_at}
 use Rattle.row_words.specs.RowWords.{verdict_of_number, answer_at, wait_at, ReadBack, WaitReadBack, RowsReadBack, WaitsReadBack}
 
--- ---- what the store leaves
-pub put_is : (w k : ℕ) (ws own : List ℕ) {new : List ℕ} → k < length ws / w → new ≡ own → put_mid (w * k) (w * k + w - w * k) ws new ≡ with_row w ws k own
+-- ---- what the stores leave, after k words and after all
+pub put_more : (ws own : List ℕ) (at k i : ℕ) {now : List ℕ} → i ≡ at + k → at + length own ≤ length ws → k < length own
+    → now ≡ paste ws at own k → set now i (get_or own k 0) ≡ paste ws at own (k + 1)
+put_more ws own at k i e room h is = rw (is, e, add-one k) (paste-suc ws at own k 0 (omega arith) h)
+
+pub put_is : (w k : ℕ) (ws own : List ℕ) → k < length ws / w → length own ≡ w → paste ws (w * k) own w ≡ with_row w ws k own
 unfolding with_row
-put_is w k ws own h e =
-    let n : w * k + w - w * k ≡ w = omega arith in
-    rw (lt-ltb _ _ h, n, e, drop-drop w (w * k) ws) (sym (append_assoc (take (w * k) ws) own (drop (w * k + w) ws)))
+put_is w k ws own h e = rw (lt-ltb _ _ h, take_all w own (omega arith)) refl
 
 -- ---- what is found: rows are cut off from the front on
 length_chunks : (w n : ℕ) (ws : List ℕ) → length (first_chunks w n ws) ≡ n
@@ -56,7 +57,7 @@ module _ (w k : ℕ) (ws : List ℕ) {rows : List (List ℕ)} (cut : rows ≡ fi
 fits_row : (w : ℕ) → 1 ≤ w → (k : ℕ) (ws : List ℕ) → w * k + w ≤ length ws → k < length ws / w
 fits_row w some k ws h = (le-div_iff_mul-le some).1 (omega (arith, suc-mul k w, mul_comm w k))
 
-has_row_lem : (w : ℕ) → 1 ≤ w → (k : ℕ) (ws : List ℕ) → k < length ws / w → w * k + w ≤ length ws
+pub has_row_lem : (w : ℕ) → 1 ≤ w → (k : ℕ) (ws : List ℕ) → k < length ws / w → w * k + w ≤ length ws
 has_row_lem w some k ws h = omega (arith, (le-div_iff_mul-le some).0 h, suc-mul k w, mul_comm w k)
 
 module _ {A : Type 0} (w : ℕ) (row : A → List ℕ) (some : 1 ≤ w) (each : (a : A) → length (row a) ≡ w) where

@@ -1,5 +1,5 @@
 -- The chains for L and for w: what each keeps from turn to turn, and where it stands still.
-use Rattle.std.specs.Prelude.{◌≡◌, cond, MatchOption, List, [], ℕ, ◌+◌, ◌-◌, ◌*◌, ◌≤◌, ◌<◌}
+use Rattle.std.specs.Prelude.{◌≡◌, cond, List, [], ℕ, ◌+◌, ◌-◌, ◌*◌, ◌≤◌, ◌<◌}
 use Rattle.std.specs.Int.Signed.{lt_z}
 use Rattle.names.specs.Limits.{ticks}
 use Rattle.laws.specs.Lists.{ceil}
@@ -43,9 +43,9 @@ pub record OwnKept (g : Gathered) (own : Own) (x : ℕ) : Type 0 where
   pub below : own.edge < far
   pub later : (y : ℕ) → x ≤ y → own.sum + ceil (y + g.jitter - own.edge) g.period * g.cost ≡ own_l g y
 
--- where the chain for L ended: at L, or beyond the last tick; and how many evaluations it took
+-- where the chain for L ended, and how many evaluations it took
 pub record EndsAs (r : Terms) (e : Ended) : Type 0 where
-  pub busy : MatchOption e.busy (ticks < chain r (evaluations r)) (λ L. (L ≡ chain r (evaluations r)) × (L ≤ ticks))
+  pub last : e.last ≡ chain r (evaluations r)
   pub count : e.evaluations ≡ evaluations r
 
 -- what is said of a stream that is none

@@ -89,10 +89,6 @@ pub record Room (edges nearest n : ℕ) : Type 0 where
   pub each : n ≤ edges
   pub lots : n ≤ nearest * lot
 
--- the stairs of few streams
-abbrev pub few_stairs : ℕ
-few_stairs = 24
-
 -- stairs that may climb: their edges, and the nearest of each lot, are known
 pub record Stand {R L : ℕ} (costs periods : List ℕ) (c : Climber R L) (n : ℕ) : Type 0 where
   pub stairs : Stairs costs periods n

@@ -1,7 +1,6 @@
 use native.Mathlib.Omega.{arith}
 use native.Mathlib.Nat.{add-zero, add_assoc}
-use mathlib.Core.Path.{ap, ◌∙◌}
-use Prim.Native.Nat.{◌+◌, min, ◌≤◌}
+use Prim.Native.Nat.{◌+◌, ◌≤◌}
 use Rattle.answers.proofs.Cheapest.{far_none, far_more, far_all}
 use Rattle.answers.proofs.Gather.{part_long, part_at}
 use Rattle.answers.proofs.own.cheapest.Goals as goal
@@ -19,7 +18,7 @@ loop-cost-preserved c =
     let long = part_long a.from a.to a.costs.now (omega (arith, c.requires.to_in_bounds)) in
     let h : a.from + i + 1 ≤ a.to = omega (arith, long, c.loop-cost-test.true) in
     let here = part_at a.from a.to a.costs.now i (omega (arith, h)) in
-    rw (← (add_assoc a.from i 1)) (far_more (omega (arith, h)) (c.min-least.ensures ∙ ap (min l.least) here) l.invariant)
+    rw (← (add_assoc a.from i 1)) (far_more (omega (arith, h)) (omega (arith, here)) l.invariant)
 
 pub returns : goal.returns
 returns c =
