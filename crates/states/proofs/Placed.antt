@@ -6,44 +6,26 @@ use mathlib.Core.List.{List, [], ◌++◌, map, append-nil}
 use Prim.Native.Nat.{ℕ, zero, suc, ◌+◌, ◌-◌, min, ◌≤◌, ◌<◌}
 use borrow.Author.Tests.{lt-ltb, le-ltb, ltb-true, eqb-true}
 use lib.Dec.{eqb, ltb}
-use native.Mathlib.Nat.{lt_of_not-le, eq-or-lt_of_le}
+use native.Mathlib.Nat.{lt_of_not-le}
 use native.Mathlib.Decide.{dec_le}
 use native.Mathlib.Omega.{arith, min_cases}
-use lib.ListN.{length, take, drop, get_or, set, replicate, length-append, length-replicate, length-map, length-take, drop_of_length-le, get_or-map, get_or-append, get_or-eq_default}
+use lib.ListN.{length, take, drop, get_or, set, length-map, length-take, drop_of_length-le, get_or-map, get_or-append, get_or-eq_default}
 use lib.Seq.{take-length, drop-cons, drop-length, get_or_at, get_or-take}
 use Rattle.names.specs.Limits.{contenders}
 use Rattle.laws.specs.Lists.{rows, placed}
-use Rattle.laws.proofs.Lists.{take_min, rows_same, rows_take, rows_front, length_rows}
-use Rattle.tournament_state.proofs.Places.{lay_over, lay_kept, map_take}
-use Rattle.laws.proofs.Placed.{placed_reads}
-use Rattle.std.proofs.lemmas.List.FromFn.{fill_by_all}
-use Rattle.std.specs.Array.{IsFromFnResultFrom, IsFromFnResult}
-use denote.Param.Members.{Mut, Called}
-use mathlib.Core.Logic.{⊎_elim}
+use Rattle.laws.proofs.Lists.{take_min, rows_same, rows_map, rows_take, rows_front, length_rows}
+use Rattle.tournament_state.proofs.Places.{lay_over, lay_kept}
+use Rattle.laws.proofs.Placed.{placed_to, placed_more, placed_all}
 use Rattle.states.specs.States.{byte, marks_into, mark, marks_from, goes_out, marked_out}
 
--- ---- places that are filled each by a call that leaves what is called as it was
-module _ {F A : Type 0} (g : Mut F (ℕ × Unit {0}) A) (f : F) (v : ℕ → A) (same : (i : ℕ) (y : A) (q : F) → Called g f (i, tt) y q → (q ≡ f) × (y ≡ v i)) where
-  called_from : (ys : List A) (d : A) (n i : ℕ) → IsFromFnResultFrom g f ys i n → (k : ℕ) → i ≤ k → k < i + n → get_or ys k d ≡ v k
-  called_from ys d zero i r k a b = absurd (omega arith)
-  called_from ys d (suc n) i (q, y, at, called, rest) k a b =
-      let (stays, is) = same i y q called in
-      ⊎_elim
-      (λ (e : i ≡ k). rw (← e) (at.1 d ∙ is))
-      (λ l. called_from ys d n (i + 1) (rw stays at rest) k (omega arith) (omega arith))
-      (eq-or-lt_of_le a)
+-- places filled with f of what is lent, one more, and at the end
+module _ {A : Type 0} (f : ℕ → A) (xs : List ℕ) where
+  pub filled_more : (k : ℕ) (ys : List A) → k < contenders → k < length xs → ys ≡ placed_to contenders (f 0) (map f xs) k
+      → set ys k (f (get_or xs k 0)) ≡ placed_to contenders (f 0) (map f xs) (k + 1)
+  filled_more k ys h l e = ap (set ys k) (sym (get_or-map f xs k 0)) ∙ placed_more contenders (f 0) (map f xs) k ys h (omega (arith, length-map xs f)) e
 
--- with f of what is lent
-pub filled : {F A : Type 0} (g : Mut F (ℕ × Unit {0}) A) (c : F) (f : ℕ → A) (xs : List ℕ) (ys : List A) → IsFromFnResult g c ys contenders
-    → ((i : ℕ) (y : A) (q : F) → Called g c (i, tt) y q → (q ≡ c) × (y ≡ f (get_or xs i 0))) → ys ≡ placed contenders (f 0) (map f xs)
-unfolding placed
-filled g c f xs ys r same =
-    let all = placed contenders (f 0) (map f xs) in
-    let v = λ (i : ℕ). f (get_or xs i 0) in
-    let whole : length all ≡ contenders = omega (arith, length-append (take contenders (map f xs)) (replicate (contenders - length (map f xs)) (f 0)), length-take contenders (map f xs), length-replicate (contenders - length (map f xs)) (f 0)) in
-    fill_by_all v ys contenders (f 0) r.long
-    (λ i h. called_from g c v same ys (f 0) contenders 0 r.each i (omega arith) (omega arith))
-    ∙ sym (fill_by_all v all contenders (f 0) whole (λ i h. placed_reads contenders (f 0) (map f xs) i h ∙ get_or-map f xs i 0))
+  pub filled_all : (k : ℕ) → k ≡ min (length xs) contenders → placed_to contenders (f 0) (map f xs) k ≡ placed contenders (f 0) (map f xs)
+  filled_all k e = ap (placed_to contenders (f 0) (map f xs)) (e ∙ ap (λ n. min n contenders) (sym (length-map xs f))) ∙ placed_all contenders (f 0) (map f xs)
 
 rows_at : (f : ℕ → ℕ) (n i : ℕ) → i < n → get_or (rows n f) i 0 ≡ f i
 rows_at f n i h = ap (λ l. get_or l i 0) (sym (append-nil (rows n f))) ∙ rows_front f [] 0 n i h
@@ -71,13 +53,13 @@ module _ (f : ℕ → ℕ) (l : List ℕ) where
       let n : k < length l = omega arith in
       lay_kept f l 0 k n (h k (omega arith) n) ∙ laid_all d (k + 1) (omega arith) (λ i g j. h i (omega arith) j)
 
--- the marks as bytes, over as many of the lent ones
-pub written : (marks : List Bool) (found front : List ℕ) (n : ℕ) → length marks ≡ contenders → n ≡ min (length found) contenders → front ≡ take n (map byte marks)
-    → front ++ drop n found ≡ marks_into marks found
+-- the marks as bytes, all laid
+pub written_all : (marks : List Bool) (found : List ℕ) (k : ℕ) → length marks ≡ contenders → k ≡ min (length found) contenders
+    → laid_to (λ i. byte (get_or marks i false)) found k ≡ marks_into marks found
 unfolding marks_into
-written marks found front n h e q =
+written_all marks found k h e =
     ap₂ ◌++◌
-    (q ∙ sym (map_take byte n marks) ∙ ap (map byte) (ap (λ n. take n marks) e ∙ take_min (length found) contenders marks (omega arith)))
+    (sym (rows_map byte k (λ i. get_or marks i false)) ∙ ap (map byte) (rows_take marks false k (omega arith) ∙ ap (λ n. take n marks) e ∙ take_min (length found) contenders marks (omega arith)))
     (ap (λ n. drop n found) e ∙ rest)
   where
     rest : drop (min (length found) contenders) found ≡ drop contenders found
@@ -87,15 +69,16 @@ written marks found front n h e q =
         (λ h e. rw e refl)
 
 -- a byte that stays, and one that does not
-stays : (b : ℕ) → b ≡ cond (mark b && not true) 0 b
-stays b = go (mark b)
+abbrev kept : Bool → ℕ → ℕ
+kept m b = cond m b 0
+
+kept_is : (m : Bool) (b : ℕ) → kept m b ≡ cond (mark b && not m) 0 b
+kept_is true b = go (mark b)
   where
     go : (t : Bool) → b ≡ cond (t && false) 0 b
     go true = refl
     go false = refl
-
-goes : (b : ℕ) → 0 ≡ cond (mark b && not false) 0 b
-goes b = go (eqb b 0) refl
+kept_is false b = go (eqb b 0) refl
   where
     go : (t : Bool) → eqb b 0 ≡ t → 0 ≡ cond (not t && true) 0 b
     go true e = sym (eqb-true b 0 e)
@@ -106,17 +89,12 @@ module _ (n : ℕ) (marks : List Bool) (found : List ℕ) where
   abbrev pub after : ℕ → ℕ
   after i = cond (ltb i (min n contenders) && goes_out marks found i) 0 (get_or found i 0)
 
-  -- what a contender's byte is after it, by its mark
-  after_is : (k : ℕ) (m : Bool) → k < min n contenders → get_or marks k false ≡ m → after k ≡ cond (mark (get_or found k 0) && not m) 0 (get_or found k 0)
-  after_is k m h e = rw (lt-ltb k (min n contenders) h, e) refl
-
-  pub kept_more : (k : ℕ) (out : List ℕ) → k < min n contenders → k < length found → get_or marks k false ≡ true → out ≡ laid_to after found k
-      → out ≡ laid_to after found (k + 1)
-  kept_more k out h l m e = e ∙ lay_kept after found 0 k l (after_is k true h m ∙ sym (stays (get_or found k 0)))
-
-  pub gone_more : (k : ℕ) (out : List ℕ) → k < min n contenders → k < length found → get_or marks k false ≡ false → out ≡ laid_to after found k
-      → set out k 0 ≡ laid_to after found (k + 1)
-  gone_more k out h l m e = laid_more after found k 0 out l e (goes (get_or found k 0) ∙ sym (after_is k false h m))
+  pub out_more : (k b : ℕ) (out : List ℕ) → k < min n contenders → k < length found → out ≡ laid_to after found k → b ≡ kept (get_or marks k false) (get_or out k 0)
+      → set out k b ≡ laid_to after found (k + 1)
+  out_more k b out h l e v =
+      laid_more after found k b out l e
+      (v ∙ ap (kept (get_or marks k false)) (laid_at after found k out l e) ∙ kept_is (get_or marks k false) (get_or found k 0)
+      ∙ ap (λ t. cond (t && goes_out marks found k) 0 (get_or found k 0)) (sym (lt-ltb k (min n contenders) h)))
 
   pub out_all : (k : ℕ) → k ≡ min (min n contenders) (length found) → laid_to after found k ≡ marked_out n marks found
   unfolding marked_out

@@ -1,10 +1,23 @@
--- Each place is read by itself. Assumes nothing.
+use mathlib.Core.Path.{ap, ◌∙◌}
+use Prim.Native.Nat.{ℕ, ◌<◌}
+use native.Mathlib.Omega.{arith}
+use lib.ListN.{set, length-take}
+use lib.Seq.{get_or-take}
 use Rattle.states.specs.States.{mark}
-use Rattle.states.proofs.Placed.{filled}
-use borrow.Author.Rules.{rules}
-use borrow.Author.Tests.{tests}
+use Rattle.states.proofs.Placed.{filled_more, filled_all}
 use Rattle.states.proofs.marks_from.Goals as goal
+
+pub loop-i-preserved : goal.loop-i-preserved
+loop-i-preserved c =
+    let l = c.loop-i in
+    let lent = c.args.marks.now in
+    let n = c.min-n.result in
+    let inside : l.i < n = omega (arith, length-take n lent) in
+    ap (λ (x : ℕ). set l.places l.i (mark x)) (get_or-take n lent l.i 0 inside)
+    ∙ filled_more mark lent l.i l.places (omega (arith, c.min-n.ensures)) (omega (arith, c.min-n.ensures)) l.invariant
 
 pub returns : goal.returns
 returns c =
-    filled _ _ mark c.args.marks.now c.from_fn.result c.from_fn.ensures.items (λ i y q k. search (rules, tests))
+    let l = c.loop-i in
+    let lent = c.args.marks.now in
+    l.invariant ∙ filled_all mark lent l.i (omega (arith, c.min-n.ensures, length-take c.min-n.result lent))
