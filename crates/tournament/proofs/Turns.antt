@@ -1,5 +1,5 @@
 -- What a turn of a loop does to the definitions, and what a chain over the contenders says of their rows. Assumes nothing.
-use mathlib.Core.Path.{◌≡◌, refl, sym, ap, ap₂, ◌∙◌}
+use mathlib.Core.Path.{◌≡◌, refl, sym, ap, ◌∙◌}
 use mathlib.Core.Bool.{Bool, false, ◌&&◌, cond, and-true, and-false}
 use mathlib.Core.List.{List}
 use Prim.Native.Nat.{ℕ, ◌+◌, ◌%◌, ◌≤◌, ◌<◌}
@@ -9,16 +9,11 @@ use lib.Bits.{bit_and, and_mask}
 use lib.Dec.{eqb}
 use Rattle.tournament_state.specs.declared.Phase.{Phase, TheVariants.AtBit}
 use Rattle.tournament_state.specs.declared.Tournament.{Tournament}
-use Rattle.std.specs.List.{zip, list_any}
-use Rattle.std.proofs.lemmas.Slice.Zip.{get_or-zip, length-zip}
-use Rattle.names.specs.declared.Priority.{Priority}
-use Rattle.laws.specs.Rows.{some}
 use Rattle.laws.specs.Search.{first}
-use Rattle.tournament_state.specs.Refusals.{none}
-use Rattle.tournament_state.proofs.Places.{first_row, some_row}
+use Rattle.tournament_state.proofs.Places.{first_row}
 use lib.ListN.{length, get_or, take, length-take}
 use lib.Seq.{get_or-take}
-use Rattle.tournament.specs.Rule.{bit_at, in_with_zero, heard_at, lowest_marked, finished_by, marks_after, winner_of, next_at, next}
+use Rattle.tournament.specs.Rule.{lowest_marked, finished_by, marks_after, winner_of, next_at, next}
 
 -- the last bit, by a mask
 pub one_bit : (x : ℕ) → bit_and x 1 ≡ x % 2
@@ -49,21 +44,3 @@ winner_front n marks h =
     (sym (first_row (λ b. b) front false (λ i. get_or front i false) (λ i l. refl))
     ∙ first_row (λ b. b) front false (λ i. get_or marks i false) here
     ∙ ap (first (λ i. get_or marks i false) 0) long)
-
--- the marks and the priorities of the contenders, side by side: whether one of them is in with a 0
-abbrev pub zero_in : ℕ → ℕ → Bool × Priority → Bool
-zero_in NB k x = x.0 && eqb (bit_at NB k x.1) 0
-
-pub heard_side_by_side : (t : Tournament) (k : ℕ) → t.count ≤ length t.marks → t.count ≤ length t.priorities
-    → list_any (zero_in t.bits k) (zip (take t.count t.marks) (take t.count t.priorities)) ≡ heard_at t k
-unfolding heard_at
-heard_side_by_side t k a b =
-    let ms = take t.count t.marks in
-    let ps = take t.count t.priorities in
-    let m : length ms ≡ t.count = omega (arith, length-take t.count t.marks) in
-    let p : length ps ≡ t.count = omega (arith, length-take t.count t.priorities) in
-    let long : length (zip ms ps) ≡ t.count = omega (arith, length-zip ms ps) in
-    let row : (i : ℕ) → i < length (zip ms ps) → zero_in t.bits k (get_or (zip ms ps) i (false, none)) ≡ in_with_zero t k i =
-    λ i h. ap (zero_in t.bits k) (get_or-zip ms ps i (false, none) (omega arith) (omega arith))
-    ∙ ap₂ (λ m p. zero_in t.bits k (m, p)) (get_or-take t.count t.marks i false (omega arith)) (get_or-take t.count t.priorities i none (omega arith)) in
-    some_row (zero_in t.bits k) (zip ms ps) (false, none) (in_with_zero t k) row ∙ ap (some (in_with_zero t k)) long

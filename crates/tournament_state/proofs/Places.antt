@@ -1,6 +1,6 @@
 -- An array that a loop lays down from the front, the first places of an array as rows, and the first that passes a test.
 -- Assumes nothing.
-use mathlib.Core.Path.{◌≡◌, refl, sym, ap, ap₂, ◌∙◌}
+use mathlib.Core.Path.{◌≡◌, refl, sym, ap, ◌∙◌}
 use mathlib.Core.List.{List, [], ◌∷◌, ◌++◌, append-nil, append_assoc, map}
 use Prim.Native.Nat.{ℕ, zero, suc, ◌+◌, ◌-◌, ◌≤◌, ◌<◌}
 use native.Mathlib.Numerals.{add-one}
@@ -9,16 +9,14 @@ use lib.ListN.{length, get_or, set, take, drop, replicate}
 use lib.Seq.{set_at, take-length, drop-cons}
 use Rattle.laws.specs.Lists.{rows}
 use Rattle.laws.specs.Search.{first}
-use Rattle.laws.proofs.Lists.{rows_more, length_rows, rows_map, rows_same, rows_take}
+use Rattle.laws.proofs.Lists.{rows_more, length_rows, rows_map, rows_take}
 use Rattle.laws.proofs.Rows.{found_at, found_none}
 use Rattle.std.specs.Prelude.{Some, None, position}
-use Rattle.std.specs.List.{list_any, position_or_len}
-use Rattle.laws.specs.Rows.{some}
+use Rattle.std.specs.List.{position_or_len}
 use Rattle.std.proofs.lemmas.List.Sums.{fails_before_first, passes_at_first}
 use borrow.Author.Tests.{ltb-true, ltb-false}
 use lib.Dec.{ltb}
-use mathlib.Core.Bool.{Bool, true, false, ◌||◌, cond, or-false}
-use Rattle.std.proofs.Math.Bool.{or_assoc}
+use mathlib.Core.Bool.{Bool, true, false, cond}
 
 module _ {A : Type 0} (f : ℕ → A) where
   -- one row more over places that hold anything
@@ -40,13 +38,6 @@ rows_all f xs d n e =
     let whole : take n xs ≡ xs = rw (← e) (take-length xs) in
     sym (rows_map f n (λ k. get_or xs k d)) ∙ ap (map f) (rows_take xs d n (omega arith) ∙ whole)
 
--- .. and a list that has them in its places
-pub is_map : {A B : Type 0} (f : A → B) (xs : List A) (ys : List B) (d : A) (e : B) (n : ℕ) → length xs ≡ n → length ys ≡ n
-    → ((i : ℕ) → i < n → get_or ys i e ≡ f (get_or xs i d)) → ys ≡ map f xs
-is_map f xs ys d e n long same each =
-    let whole : take n ys ≡ ys = rw (← same) (take-length ys) in
-    sym (rows_take ys e n (omega arith) ∙ whole) ∙ rows_same n (λ i. get_or ys i e) (λ i. f (get_or xs i d)) each ∙ rows_all f xs d n long
-
 -- ---- a test of a list's elements, in std's words, is a test of rows
 module _ {A : Type 0} (t : A → Bool) (xs : List A) (d : A) (u : ℕ → Bool) (same : (i : ℕ) → i < length xs → t (get_or xs i d) ≡ u i) where
   -- the first that passes
@@ -62,18 +53,6 @@ module _ {A : Type 0} (t : A → Bool) (xs : List A) (d : A) (u : ℕ → Bool) 
           sym (found_at u (length xs) (position_or_len t xs) (λ k l. fails k l (omega arith)) h (sym (same _ h) ∙ passes_at_first t xs d h))
       go false e =
           sym (found_none u (length xs) (length xs) (λ k l. fails k (omega (arith, ltb-false _ _ e)) l) (omega arith))
-
--- .. and whether one does
-some_front : (u : ℕ → Bool) (n : ℕ) → some u (suc n) ≡ u 0 || some (λ k. u (suc k)) n
-unfolding some
-some_front u zero = sym (or-false (u 0))
-some_front u (suc n) = ap (λ b. b || u (suc n)) (some_front u n) ∙ or_assoc (u 0) (some (λ k. u (suc k)) n) (u (suc n))
-
-pub some_row : {A : Type 0} (t : A → Bool) (xs : List A) (d : A) (u : ℕ → Bool) → ((i : ℕ) → i < length xs → t (get_or xs i d) ≡ u i) → list_any t xs ≡ some u (length xs)
-unfolding some
-some_row t [] d u same = refl
-some_row t (x ∷ xs) d u same =
-    ap₂ ◌||◌ (same 0 (omega arith)) (some_row t xs d (λ k. u (suc k)) (λ i h. same (suc i) (omega arith))) ∙ sym (some_front u (length xs))
 
 pub map_take : {A B : Type 0} (f : A → B) (n : ℕ) (xs : List A) → map f (take n xs) ≡ take n (map f xs)
 map_take f zero xs = refl

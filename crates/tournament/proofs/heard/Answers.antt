@@ -1,22 +1,32 @@
--- The marks and the priorities are looked through side by side. Assumes nothing.
-use mathlib.Core.Path.{◌≡◌, ◌∙◌}
-use Prim.Native.Nat.{◌≤◌}
+use mathlib.Core.Path.{◌≡◌, refl, sym, ap, ◌∙◌}
+use mathlib.Core.Bool.{true}
+use Prim.Native.Nat.{◌<◌}
+use native.Mathlib.Omega.{arith}
 use borrow.Author.Rules.{rules}
-use borrow.Author.Tests.{tests}
-use lib.ListN.{length, take}
-use Rattle.std.specs.List.{zip, list_any}
-use Rattle.std.proofs.lemmas.Iterator.{YieldsList-from_slice, YieldsList-from_zip}
-use Rattle.std.proofs.lemmas.Iterator.Search.{any_from_yields_List}
-use Rattle.tournament.proofs.Turns.{zero_in, heard_side_by_side}
+use borrow.Author.Tests.{eq-eqb}
+use lib.ListN.{length, length-take}
+use lib.Seq.{get_or-take}
+use Rattle.laws.proofs.Rows.{some_at, some_none}
+use Rattle.tournament_state.specs.Refusals.{none}
+use Rattle.tournament.specs.Rule.{bit_at, has_zero, in_with_zero, heard_at}
 use Rattle.tournament.proofs.heard.Goals as goal
 
+pub returns-then-bit-eq0 : goal.returns-then-bit-eq0
+unfolding heard_at
+returns-then-bit-eq0 c =
+    let i = c.loop-i.i in
+    let k = c.args.k in
+    let t = c.args.t.now in
+    let few = c.requires.few in
+    let inside : i < t.count = omega (arith, length-take t.count t.priorities) in
+    let b = c.bit.ensures ∙ ap (bit_at t.bits k) (get_or-take t.count t.priorities i none inside) in
+    let zero : has_zero t k i ≡ true = eq-eqb _ _ (sym b ∙ c.if-bit-eq0.true) in
+    sym (some_at (in_with_zero t k) t.count i inside (rw (c.if-t-i.true, zero) refl))
+
 pub returns : goal.returns
+unfolding heard_at
 returns c =
-    let t = c.args.t in
-    let test = zero_in t.bits c.args.k in
-    let ms = take t.count t.marks in
-    let ps = take t.count t.priorities in
-    let m : t.count ≤ length t.marks = search rules in
-    let p : t.count ≤ length t.priorities = search rules in
-    let any : c.any.result ≡ list_any test (zip ms ps) = any_from_yields_List test c.any.new.self _ c.any.result c.any.ensures.ran (YieldsList-from_zip (YieldsList-from_slice ms cc) (YieldsList-from_slice ps cc)) (λ x b q k. search (rules, tests)) in
-    any ∙ heard_side_by_side t c.args.k m p
+    let t = c.args.t.now in
+    let few = c.requires.few in
+    let long : length t.priorities ≡ 128 = search rules in
+    sym (some_none (in_with_zero t c.args.k) t.count c.loop-i.i c.loop-i.invariant (omega (arith, length-take t.count t.priorities)))

@@ -14,7 +14,7 @@ use Rattle.tournament.proofs.next.Goals as goal
 use Rattle.tournament.proofs.next.Goals.{Joined-heard, then-heard, else-heard, then-k-t, else-k-t}
 
 -- the marks after it
-marks : (c : Joined-heard) → c.if-heard.marks ≡ marks_after c.args.t c.in-AtBit.k
+marks : (c : Joined-heard) → c.if-heard.marks ≡ marks_after c.args.t.now c.in-AtBit.k
 unfolding marks_after
 marks c =
     elim c.if-heard.branch [
@@ -25,7 +25,7 @@ marks c =
 pub returns-after-k-t : goal.returns-after-k-t
 returns-after-k-t c =
     let j = (goal.at.returns-after-k-t c).Joined-heard in
-    let m : c.args.t.count ≤ length c.if-heard.marks = elim c.if-heard.branch [
+    let m : c.args.t.now.count ≤ length c.if-heard.marks = elim c.if-heard.branch [
       | then-heard w ↦ search rules
       | else-heard w ↦ search rules
     ] in

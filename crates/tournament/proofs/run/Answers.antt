@@ -21,15 +21,15 @@ pub loop-init : goal.loop-init
 unfolding steps
 loop-init c = search rules
 
-pub next-now-requires : goal.next-now-requires
-next-now-requires c =
+pub next-requires : goal.next-requires
+next-requires c =
     let l = c.loop in
-    rw l.invariant.1 (ready_steps _ (ready_fine _ (judged_fine (goal.at.next-now-requires c).In_ok-judged)) l.counter)
+    rw l.invariant.1 (ready_steps _ (ready_fine _ (judged_fine (goal.at.next-requires c).In_ok-judged)) l.counter)
 
 pub loop-preserved : goal.loop-preserved
 loop-preserved c =
     let l = c.loop in
-    (omega arith, c.next-now.ensures ∙ ap next l.invariant.1 ∙ sym (steps_more l.counter _))
+    (omega arith, c.next.ensures ∙ ap next l.invariant.1 ∙ sym (steps_more l.counter _))
 
 pub returns : goal.returns
 unfolding run_of

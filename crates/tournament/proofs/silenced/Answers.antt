@@ -20,7 +20,7 @@ loop-i-init c = search rules
 pub loop-i-preserved : goal.loop-i-preserved
 loop-i-preserved c =
     let l = c.loop-i in
-    let t = c.args.t in
+    let t = c.args.t.now in
     let f = in_with_zero t c.args.k in
     let m : length t.marks ≡ 128 = search rules in
     let p : length t.priorities ≡ 128 = search rules in
@@ -38,7 +38,7 @@ pub returns : goal.returns
 unfolding silenced_at
 returns c =
     let l = c.loop-i in
-    let t = c.args.t in
+    let t = c.args.t.now in
     let p : length t.priorities ≡ 128 = search rules in
     let few = c.requires.few in
     let e : l.i ≡ t.count = omega (arith, length-take t.count t.priorities) in

@@ -17,7 +17,7 @@ returns-in_err-judged c =
     e ∙ outcome_refused _ (sym c.judged.ensures ∙ c.in_err-judged.was)
 
 pub next-requires : goal.next-requires
-next-requires c = ready_fine _ (judged_fine c)
+next-requires c = ready_fine _ (judged_fine (goal.at.next-requires c).In_ok-judged)
 
 pub returns : goal.returns
 unfolding step_of
