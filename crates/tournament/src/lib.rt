@@ -35,7 +35,8 @@ fn heard(t: &Tournament, k: u32) -> bool
 {
     let bits = t.bits;
     for (i, p) in t.priorities[..t.count].iter().enumerate() {
-        if t.marks[i] && bit(*p, bits, k) == 0 {
+        let low = bit(*p, bits, k) == 0;
+        if t.marks[i] && low {
             return true;
         }
     }

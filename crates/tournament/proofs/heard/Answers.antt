@@ -11,16 +11,16 @@ use Rattle.tournament_state.specs.Refusals.{none}
 use Rattle.tournament.specs.Rule.{bit_at, has_zero, in_with_zero, heard_at}
 use Rattle.tournament.proofs.heard.Goals as goal
 
-pub returns-then-bit-eq0 : goal.returns-then-bit-eq0
+pub returns-then-low : goal.returns-then-low
 unfolding heard_at
-returns-then-bit-eq0 c =
+returns-then-low c =
     let i = c.loop-i.i in
     let k = c.args.k in
     let t = c.args.t.now in
     let few = c.requires.few in
     let inside : i < t.count = omega (arith, length-take t.count t.priorities) in
-    let b = c.bit.ensures ∙ ap (bit_at t.bits k) (get_or-take t.count t.priorities i none inside) in
-    let zero : has_zero t k i ≡ true = eq-eqb _ _ (sym b ∙ c.if-bit-eq0.true) in
+    let b = c.bit-low.ensures ∙ ap (bit_at t.bits k) (get_or-take t.count t.priorities i none inside) in
+    let zero : has_zero t k i ≡ true = eq-eqb _ _ (sym b ∙ c.if-low.true) in
     sym (some_at (in_with_zero t k) t.count i inside (rw (c.if-t-i.true, zero) refl))
 
 pub returns : goal.returns
