@@ -35,9 +35,11 @@ fn heard(t: &Tournament, k: u32) -> bool
 {
     let bits = t.bits;
     for (i, p) in t.priorities[..t.count].iter().enumerate() {
-        let low = bit(*p, bits, k) == 0;
-        if t.marks[i] && low {
-            return true;
+        if t.marks[i] {
+            let low = bit(*p, bits, k) == 0;
+            if low {
+                return true;
+            }
         }
     }
     false
